@@ -1,0 +1,9 @@
+pub mod Split
+pub mod Signed
+pub mod Order
+pub mod Rfc
+pub mod Saturate
+pub mod Table
+pub mod Masked
+pub mod Whole
+pub mod Nearer

@@ -1,0 +1,4 @@
+pub mod Rfc1982
+pub mod Timestamps
+pub mod Whole
+pub mod FloatTimestamps
