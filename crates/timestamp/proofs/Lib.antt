@@ -1,4 +1,4 @@
-pub mod Split
+pub mod Basics
 pub mod Signed
 pub mod Order
 pub mod Rfc

@@ -22,11 +22,10 @@ use lib.Dec.{eqb→eq, T-not}
 use Rattle.timestamp.proofs.Table.{at}
 use borrow.Author.Tests.{lt-ltb, le-ltb, le-leb, lt-leb, ne-eqb, eq-eqb}
 use Rattle.timestamp.specs.Whole.{truncOf}
-use Rattle.timestamp.proofs.Split.{split}
+use Rattle.timestamp.proofs.Basics.{split}
 
--- ---- values
-
-pub rescale : (x : Float) (s : Bool) (w l num den : ℕ) → 0 < l → num * l ≡ w * den → HasValue x s w l → HasValue x s num den
+-- a value given by one fraction is given by any other that is equal to it
+rescale : (x : Float) (s : Bool) (w l num den : ℕ) → 0 < l → num * l ≡ w * den → HasValue x s w l → HasValue x s num den
 rescale nan s w l num den p h v = v
 rescale (inf t) s w l num den p h v = v
 rescale (fin t m e) s w l num den p h v = (
@@ -40,17 +39,17 @@ rescale (fin t m e) s w l num den p h v = (
 )
 
 -- the whole part goes by the value alone
-pub trunc-at : (x : Float) (s : Bool) (a c : ℕ) → 0 < c → HasValue x s a c → truncOf x ≡ round binary64 s (a / c) 1
+trunc-at : (x : Float) (s : Bool) (a c : ℕ) → 0 < c → HasValue x s a c → truncOf x ≡ round binary64 s (a / c) 1
 unfolding truncOf
 trunc-at nan s a c C v = absurd v
 trunc-at (inf t) s a c C v = absurd v
 trunc-at (fin t m e) s a c C v = λ i. round binary64 (v .0 i) (div-same (m * up e) (down e) a c (down-pos e) C (v .1) i) 1
 
--- ---- fields
-
+-- the sign's bit of a pattern
 abbrev pub sign : ℕ → Bool
 sign b = leb (2 ^ 63) b
 
+-- the exponent's field of a pattern
 abbrev pub expo : ℕ → ℕ
 expo b = b / 2 ^ 52 % 2 ^ 11
 
@@ -70,13 +69,14 @@ at-none : (s : Bool) (t : ℕ) → ofFields binary64 s 0 t ≡ odd 53 s t 0 1074
 unfolding ofFields
 at-none s t = refl
 
--- a normal value
-pub normal-value : (b x : ℕ) → expo b ≡ suc x → suc x < 2047 → HasValue (ofBits binary64 b) (sign b) ((2 ^ 52 + b % 2 ^ 52) * 2 ^ x) (2 ^ 1074)
+-- the value of a pattern whose exponent's field is neither 0 nor all ones
+normal-value : (b x : ℕ) → expo b ≡ suc x → suc x < 2047 → HasValue (ofBits binary64 b) (sign b) ((2 ^ 52 + b % 2 ^ 52) * 2 ^ x) (2 ^ 1074)
 normal-value b x e h =
     subst (λ (v : Float). HasValue v (sign b) ((2 ^ 52 + b % 2 ^ 52) * 2 ^ x) (2 ^ 1074))
     (sym (ofBits-is b ∙ ap (λ (n : ℕ). ofFields binary64 (sign b) n (b % 2 ^ 52)) e ∙ under-ones (sign b) (b % 2 ^ 52) x h))
     (odd-sign 53 (sign b) (2 ^ 52 + b % 2 ^ 52) x 1074)
 
+-- and of one whose field is 0
 low-value : (b : ℕ) → expo b ≡ 0 → HasValue (ofBits binary64 b) (sign b) (b % 2 ^ 52 * 2 ^ 0) (2 ^ 1074)
 low-value b e =
     subst (λ (v : Float). HasValue v (sign b) (b % 2 ^ 52 * 2 ^ 0) (2 ^ 1074))
@@ -98,10 +98,12 @@ module _ (b g h : ℕ) (G : 0 < g) (hg : h * g ≡ 2 ^ 52) where
       ∙ add-comm (b % 2 ^ 52 / g * g) (b / 2 ^ 52 * h * g)
       ∙ ap (λ (z : ℕ). z + b % 2 ^ 52 / g * g) (mul-assoc (b / 2 ^ 52) h g ∙ ap (λ (z : ℕ). b / 2 ^ 52 * z) hg)
 
-  pub cleared-high : b / g * g / 2 ^ 52 ≡ b / 2 ^ 52
+  -- clearing low bits leaves those from bit 52 up
+  cleared-high : b / g * g / 2 ^ 52 ≡ b / 2 ^ 52
   cleared-high = ap (λ (z : ℕ). z / 2 ^ 52) cleared ∙ digits-div (b / 2 ^ 52) low-lt
 
-  pub cleared-low : b / g * g % 2 ^ 52 ≡ b % 2 ^ 52 / g * g
+  -- and clears them in the digits
+  cleared-low : b / g * g % 2 ^ 52 ≡ b % 2 ^ 52 / g * g
   cleared-low = ap (λ (z : ℕ). z % 2 ^ 52) cleared ∙ digits-mod (b / 2 ^ 52) low-lt
 
 by-high : (b c : ℕ) → b / 2 ^ 52 ≡ c / 2 ^ 52 → sign b ≡ sign c
@@ -158,6 +160,7 @@ module _ (b x k : ℕ) (e : expo b ≡ suc x) (xk : k + x ≡ 1074) (K : k ≤ 5
       let r : b % 2 ^ 52 < 2 ^ 52 = mod-lt b (lit< tt) in
       omega arith
 
+  -- the bits below the point cleared: the whole part
   pub masked : ofBits binary64 (b / 2 ^ k * 2 ^ k) ≡ truncOf (ofBits binary64 b)
   masked =
       whole-unique binary64 (ofBits binary64 (b / 2 ^ k * 2 ^ k)) (round binary64 (sign b) N 1) (sign b) N
@@ -174,10 +177,9 @@ has-no-nan (fin t m e) s a c v = tt
 no-nan-bits : (n : ℕ) → T (not (isNan (ofBits binary64 n))) → T (not (nanBits binary64 n))
 no-nan-bits n h = subst (λ (t : Bool). T (not t)) (sym (nanBits-is binary64 n)) h
 
+-- which is no NaN's pattern
 pub masked-no-nan : (b x k : ℕ) → expo b ≡ suc x → k + x ≡ 1074 → k ≤ 52 → T (not (nanBits binary64 (b / 2 ^ k * 2 ^ k)))
 masked-no-nan b x k e xk K = no-nan-bits (b / 2 ^ k * 2 ^ k) (has-no-nan (ofBits binary64 (b / 2 ^ k * 2 ^ k)) (sign b) (N b x k e xk K) 1 (masked-value b x k e xk K))
-
--- ---- below 1
 
 zero-of : (s : Bool) → round binary64 s 0 1 ≡ fin s 0 (pos 0)
 unfolding round
@@ -212,9 +214,11 @@ sign-bit b h = elim (split b (2 ^ 63)) [
       ap (ofBits binary64) (and-high b 1 63 ∙ z) ∙ ap (λ (s : Bool). fin s 0 (pos 0)) (sym (le-leb (2 ^ 63) b l))
 ]
 
+-- below 1 in size the whole part is a zero of the value's sign
 pub small : (b : ℕ) → b < 2 ^ 64 → expo b < 1023 → ofBits binary64 (bitAnd b 0x8000_0000_0000_0000) ≡ truncOf (ofBits binary64 b)
 small b h k = sign-bit b h ∙ sym (below-one b k)
 
+-- which is no NaN's pattern
 pub small-no-nan : (b : ℕ) → b < 2 ^ 64 → T (not (nanBits binary64 (bitAnd b 0x8000_0000_0000_0000)))
 unfolding isNan
 small-no-nan b h = no-nan-bits (bitAnd b 0x8000_0000_0000_0000) (subst (λ (v : Float). T (not (isNan v))) (sym (sign-bit b h)) tt)
@@ -224,7 +228,7 @@ unfolding truncOf
 ends true s = refl
 ends false s = refl
 
--- ---- from 2 ^ 53 up: nothing is below the point
+-- from 2 ^ 53 up nothing is below the point
 pub large : (b : ℕ) → 1075 < expo b → ofBits binary64 b ≡ truncOf (ofBits binary64 b)
 large b h = go (expo b) refl
   where
@@ -252,7 +256,7 @@ large b h = go (expo b) refl
           i ∙ ends (eqb (b % 2 ^ 52) 0) (sign b) ∙ ap truncOf (sym i)
     ]
 
--- ---- the table: entry i is 64 ones with the lowest 52 - i cleared
+-- the table's entries
 unfoldable pub masks : List ℕ
 masks =
     18442240474082181120 ∷ 18444492273895866368 ∷ 18445618173802708992 ∷ 18446181123756130304 ∷ 18446462598732840960 ∷ 18446603336221196288 ∷
@@ -265,9 +269,11 @@ masks =
     18446744073709550592 ∷ 18446744073709551104 ∷ 18446744073709551360 ∷ 18446744073709551488 ∷ 18446744073709551552 ∷ 18446744073709551584 ∷
     18446744073709551600 ∷ 18446744073709551608 ∷ 18446744073709551612 ∷ 18446744073709551614 ∷ 18446744073709551615 ∷ []
 
+-- the table's rule: entry i is 64 ones with the lowest 52 - i cleared
 right : ℕ → ℕ → Bool
 right i m = eqb m (2 ^ 64 - 2 ^ (52 - i))
 
+-- the rule holds at every entry: one test over the whole table
 entry : (i : ℕ) → i < 53 → getD masks i 0 ≡ 2 ^ 64 - 2 ^ (52 - i)
 unfolding masks right
 entry i h = eqb→eq (getD masks i 0) (2 ^ 64 - 2 ^ (52 - i)) (at right masks tt i h)

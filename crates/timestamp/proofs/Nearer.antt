@@ -14,21 +14,16 @@ use lib.Ieee.Exact.{HasValue, round-exact}
 use lib.Ieee.Scale.{round-same}
 use borrow.Author.Tests.{lt-ltb, le-ltb, ltb-true, ltb-false, eqb-true, eqb-false, ne-eqb}
 use Rattle.timestamp.specs.Whole.{truncOf, roundOf}
-use Rattle.timestamp.proofs.Split.{split}
-use Rattle.timestamp.proofs.Saturate.{or-le, or-gt, or-none}
+use Rattle.timestamp.proofs.Basics.{split, not-true, le-true, le-false, signs-apart}
 use Rattle.timestamp.proofs.Whole.{one64, holds, whole-val, cancel, times, further}
 
+-- 0.5
 abbrev pub half : Float
 half = fin false 1 (negsuc 0)
 
+-- -0.5
 abbrev pub minus-half : Float
 minus-half = fin true 1 (negsuc 0)
-
-never : {X : Type 0} → false ≡ true → X
-never p = absurd (subst T (sym p) tt)
-
-never' : {X : Type 0} → true ≡ false → X
-never' p = absurd (subst T p tt)
 
 -- ---- what is left, (a - q c) / c, of the sign s or 0
 left-same : (a Q D c : ℕ) → (a * D - Q * D) * c ≡ (a - Q) * (c * D)
@@ -81,30 +76,6 @@ rest-val z s m (negsuc k) f =
     small a b h = elim (split b a) [ inl l ↦ absurd (not-le-of-lt (pow-lt {i = b} {j = a} l) h) | inr l ↦ l ]
 
 -- ---- against a half
-or-le' : (a b : ℕ) (t : Bool) → ltb a b || (eqb b a && t) ≡ true → a ≤ b
-or-le' a b t h = go (ltb a b) (eqb b a) (ltb-true a b) (eqb-true b a) h
-  where
-    go : (x y : Bool) → (x ≡ true → a < b) → (y ≡ true → b ≡ a) → x || (y && t) ≡ true → a ≤ b
-    go true y f g p = omega (arith, f refl)
-    go false true f g p = omega (arith, g refl)
-    go false false f g p = never p
-
-or-gt' : (a b : ℕ) → ltb a b || (eqb b a && true) ≡ false → b < a
-or-gt' a b h = go (ltb a b) (eqb b a) (ltb-false a b) (eqb-false b a) h
-  where
-    go : (x y : Bool) → (x ≡ false → b ≤ a) → (y ≡ false → b ≡ a → ⊥) → x || (y && true) ≡ false → b < a
-    go true y f g p = never' p
-    go false true f g p = never' p
-    go false false f g p = omega (arith, f refl, g refl)
-
-no-zero : (a b : ℕ) → 0 < b → eqb a b && (false || eqb a 0) ≡ true → ⊥
-no-zero a b h p = go (eqb a b) (eqb a 0) (eqb-true a b) (eqb-true a 0) p
-  where
-    go : (x y : Bool) → (x ≡ true → a ≡ b) → (y ≡ true → a ≡ 0) → x && (false || y) ≡ true → ⊥
-    go true true f g p = omega (arith, f refl, g refl)
-    go true false f g p = never p
-    go false y f g p = never p
-
 -- n / 1 over d is r / c, so d ≤ 2 n where c ≤ 2 r, and the other way round
 cross-le : (n d r c : ℕ) → 0 < d → n * c ≡ r * d → d ≤ n * 2 → 0 < c → c ≤ r * 2
 cross-le n d r c D e h C =
@@ -119,47 +90,47 @@ cross-lt n d r c C e h =
     lt-of-mul-lt-mul-right d q
 
 module _ (r c : ℕ) (C : 0 < c) where
-  pub at-least : (y : Float) → HasValue y false r c → le half y ≡ true → c ≤ r * 2
+  at-least : (y : Float) → HasValue y false r c → le half y ≡ true → c ≤ r * 2
   unfolding le lt eq
   at-least nan v h = absurd v
   at-least (inf t) v h = absurd v
   at-least (fin true n d) v h = absurd (true≢false (v .0))
-  at-least (fin false n d) v h = cross-le (n * up d) (down d) r c (down-pos d) (v .1) (omega (arith, or-le (1 * down d) (n * up d * 2) true h)) C
+  at-least (fin false n d) v h = cross-le (n * up d) (down d) r c (down-pos d) (v .1) (omega (arith, le-true (eqb (1 * down d) (n * up d * 2)) true (eqb-true (1 * down d) (n * up d * 2)) h)) C
 
-  pub under : (y : Float) → HasValue y false r c → le half y ≡ false → r * 2 < c
+  under : (y : Float) → HasValue y false r c → le half y ≡ false → r * 2 < c
   unfolding le lt eq
   under nan v h = absurd v
   under (inf t) v h = absurd v
   under (fin true n d) v h = absurd (true≢false (v .0))
-  under (fin false n d) v h = cross-lt (n * up d) (down d) r c C (v .1) (omega (arith, or-gt (1 * down d) (n * up d * 2) h))
+  under (fin false n d) v h = cross-lt (n * up d) (down d) r c C (v .1) (omega (arith, le-false (eqb (1 * down d) (n * up d * 2)) (eqb-false (1 * down d) (n * up d * 2)) h))
 
-  pub at-least⁻ : (y : Float) → HasValue y true r c → le y minus-half ≡ true → c ≤ r * 2
+  at-least⁻ : (y : Float) → HasValue y true r c → le y minus-half ≡ true → c ≤ r * 2
   unfolding le lt eq
   at-least⁻ nan v h = absurd v
   at-least⁻ (inf t) v h = absurd v
   at-least⁻ (fin false n d) v h = absurd (false≢true (v .0))
-  at-least⁻ (fin true n d) v h = cross-le (n * up d) (down d) r c (down-pos d) (v .1) (omega (arith, or-le' (1 * down d) (n * up d * 2) true h)) C
+  at-least⁻ (fin true n d) v h = cross-le (n * up d) (down d) r c (down-pos d) (v .1) (omega (arith, le-true (eqb (n * up d * 2) (1 * down d)) true (λ p. sym (eqb-true (n * up d * 2) (1 * down d) p)) h)) C
 
-  pub under⁻ : (y : Float) → HasValue y true r c → le y minus-half ≡ false → r * 2 < c
+  under⁻ : (y : Float) → HasValue y true r c → le y minus-half ≡ false → r * 2 < c
   unfolding le lt eq
   under⁻ nan v h = absurd v
   under⁻ (inf t) v h = absurd v
   under⁻ (fin false n d) v h = absurd (false≢true (v .0))
-  under⁻ (fin true n d) v h = cross-lt (n * up d) (down d) r c C (v .1) (omega (arith, or-gt' (1 * down d) (n * up d * 2) h))
+  under⁻ (fin true n d) v h = cross-lt (n * up d) (down d) r c C (v .1) (omega (arith, le-false (eqb (n * up d * 2) (1 * down d)) (λ p q. eqb-false (n * up d * 2) (1 * down d) p (sym q)) h))
 
-  pub no-half : (y : Float) → HasValue y true r c → le half y ≡ true → ⊥
+  no-half : (y : Float) → HasValue y true r c → le half y ≡ true → ⊥
   unfolding le lt eq
   no-half nan v h = v
   no-half (inf t) v h = v
   no-half (fin false n d) v h = false≢true (v .0)
-  no-half (fin true n d) v h = or-none (1 * down d) (n * up d * 2) 0 (omega (arith, down-pos d)) h
+  no-half (fin true n d) v h = signs-apart (1 * down d) (n * up d * 2) (omega (arith, down-pos d)) h
 
-  pub no-half⁻ : (y : Float) → HasValue y false r c → le y minus-half ≡ true → ⊥
+  no-half⁻ : (y : Float) → HasValue y false r c → le y minus-half ≡ true → ⊥
   unfolding le lt eq
   no-half⁻ nan v h = v
   no-half⁻ (inf t) v h = v
   no-half⁻ (fin true n d) v h = true≢false (v .0)
-  no-half⁻ (fin false n d) v h = no-zero (n * up d * 2) (1 * down d) (omega (arith, down-pos d)) h
+  no-half⁻ (fin false n d) v h = signs-apart (n * up d * 2) (1 * down d) (omega (arith, down-pos d)) h
 
 -- ---- the nearest
 near-up : (a c : ℕ) → 0 < c → c ≤ (a - a / c * c) * 2 → (a * 2 + c) / (c * 2) ≡ a / c + 1
@@ -206,12 +177,12 @@ too-small a b c C l h = omega arith
 nothing : (a b c : ℕ) → 0 < c → a ≤ b → (a - b) * 2 < c
 nothing a b c C l = omega arith
 
--- c ≤ 2 r where d ≥ 0.5 at a value that is not negative, and at a negative one never
+-- a rest of 0.5 or more: the next whole number up is the nearest
 pub up-half : (x : Float) → T (fits binary64 x) → le half (sub binary64 x (truncOf x)) ≡ true → add binary64 (truncOf x) one64 ≡ roundOf x
 unfolding truncOf roundOf le lt eq sub add neg
-up-half nan f h = never h
-up-half (inf true) f h = never h
-up-half (inf false) f h = never h
+up-half nan f h = not-true h
+up-half (inf true) f h = not-true h
+up-half (inf false) f h = not-true h
 up-half (fin true m e) f h = elim (split (m * up e / down e * down e) (m * up e)) [
   | inl l ↦ absurd (no-half (left m e) (down e) (down-pos e) (sub binary64 (fin true m e) (part true m e)) (some true m e f l) h)
   | inr l ↦ absurd (too-small (m * up e) (m * up e / down e * down e) (down e) (down-pos e) l (at-least (left m e) (down e) (down-pos e) (sub binary64 (fin true m e) (part true m e)) (none true m e f l) h))
@@ -222,11 +193,12 @@ up-half (fin false m e) f h = elim (split (m * up e / down e * down e) (m * up e
   | inr l ↦ absurd (too-small (m * up e) (m * up e / down e * down e) (down e) (down-pos e) l (at-least (left m e) (down e) (down-pos e) (sub binary64 (fin false m e) (part false m e)) (none false m e f l) h))
 ]
 
+-- a rest of -0.5 or less: the next one down is
 pub down-half : (x : Float) → T (fits binary64 x) → le (sub binary64 x (truncOf x)) minus-half ≡ true → sub binary64 (truncOf x) one64 ≡ roundOf x
 unfolding truncOf roundOf le lt eq sub add neg
-down-half nan f h = never h
-down-half (inf true) f h = never h
-down-half (inf false) f h = never h
+down-half nan f h = not-true h
+down-half (inf true) f h = not-true h
+down-half (inf false) f h = not-true h
 down-half (fin false m e) f h = elim (split (m * up e / down e * down e) (m * up e)) [
   | inl l ↦ absurd (no-half⁻ (left m e) (down e) (down-pos e) (sub binary64 (fin false m e) (part false m e)) (some false m e f l) h)
   | inr l ↦ absurd (no-half⁻ (left m e) (down e) (down-pos e) (sub binary64 (fin false m e) (part false m e)) (none false m e f l) h)
@@ -237,6 +209,7 @@ down-half (fin true m e) f h = elim (split (m * up e / down e * down e) (m * up 
   | inr l ↦ absurd (no-half⁻ (left m e) (down e) (down-pos e) (sub binary64 (fin true m e) (part true m e)) (none true m e f l) h)
 ]
 
+-- any other rest: the whole part is
 pub no-way : (x : Float) → T (fits binary64 x) → le half (sub binary64 x (truncOf x)) ≡ false → le (sub binary64 x (truncOf x)) minus-half ≡ false → truncOf x ≡ roundOf x
 unfolding truncOf roundOf
 no-way nan f h k = refl

@@ -11,7 +11,7 @@ use borrow.Author.Tests.{le-leb, lt-leb}
 use Rattle.timestamp.specs.declared.Ordering.{Ordering}
 use Rattle.timestamp.specs.declared.Ordering.the-variants.{Less, Equal, Greater}
 use Rattle.timestamp.specs.Timestamps.{differenceOf, signedOf, signOf, orderOf, inRange}
-use Rattle.timestamp.proofs.Split.{split}
+use Rattle.timestamp.proofs.Basics.{split}
 use Rattle.timestamp.proofs.Signed.{signed-low, signed-high}
 
 -- a number above 0 has the sign Greater

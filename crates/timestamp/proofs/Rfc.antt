@@ -11,7 +11,7 @@ use Rattle.timestamp.specs.declared.Ordering.{Ordering}
 use Rattle.timestamp.specs.declared.Ordering.the-variants.{Less, Equal, Greater}
 use Rattle.timestamp.specs.Rfc1982.{Sum, defined, undefinedSum, pickSum, sum, Comparison, equal, less, greater, undefinedOrder, isLess, isGreater, compared}
 use Rattle.timestamp.specs.Timestamps.{sumOf, differenceOf, signedOf, orderOf}
-use Rattle.timestamp.proofs.Split.{split}
+use Rattle.timestamp.proofs.Basics.{split}
 use Rattle.timestamp.proofs.Order.{order-equal, order-greater, order-less}
 
 -- where section 3.1 defines a sum, ours is that sum

@@ -15,16 +15,16 @@ use lib.Ieee.Back.{round-whole}
 use lib.Ieee.Scale.{round-same}
 use borrow.Author.Tests.{lt-ltb, le-ltb, ltb-true, ltb-false}
 use Rattle.timestamp.specs.Whole.{truncOf, ceilOf, floorOf}
-use Rattle.timestamp.proofs.Split.{split}
+use Rattle.timestamp.proofs.Basics.{split, not-true}
 
 -- 1.0
 abbrev pub one64 : Float
 one64 = fin false 1 (pos 0)
 
--- ---- what a value that binary64 holds is like
 unit-le : (u d : ℕ) → 0 < u → u * d ≡ 1 → d ≤ 1
 unit-le u d h e = le-trans (le-trans (le-of-eq (sym (one-mul d))) (mul-le-mul-right d h)) (le-of-eq e)
 
+-- a value that binary64 holds has a significand below 2 ^ 53, no digit below 2 ^ -1074, and a magnitude below 2 ^ 1024
 pub holds : (s : Bool) (m : ℕ) (e : ℤ) → T (fits binary64 (fin s m e)) → (m < 2 ^ 53) × (down e ≤ 2 ^ 1074) × (m * up e < 2 ^ 1024 * down e)
 unfolding fits
 holds s zero e h = (
@@ -42,7 +42,7 @@ holds s (suc m) e h =
       ltb→lt (suc m * up e) (2 ^ 1024 * down e) (and-r (A && B && C) D h),
     )
 
--- the whole part has its value
+-- the whole part of a value is rounded to itself
 pub whole-val : (s : Bool) (m : ℕ) (e : ℤ) → T (fits binary64 (fin s m e)) → HasValue (round binary64 s (m * up e / down e) 1) s (m * up e / down e) 1
 whole-val s m (negsuc k) h =
     let l : m * 1 / 2 ^ suc k ≤ 2 ^ 53 = le-trans (div-le-self (m * 1) (2 ^ suc k)) (le-trans (le-of-eq (mul-one m)) (le-of-lt (holds s m (negsuc k) h .0))) in
@@ -57,17 +57,19 @@ whole-val s m (pos k) h =
     subst (λ (z : ℕ). HasValue (round binary64 s z 1) s z 1) (sym w)
     (round-exact binary64 s (m * 2 ^ k) 1 m (k + 1074) (lit< tt) (g .0) r (sym p ∙ sym (mul-one (m * 2 ^ (k + 1074)))))
 
--- ---- comparisons of a value with a whole number of the same sign
+-- a common factor of two numbers does not change their order
 pub cancel : (x y d : ℕ) → 0 < d → ltb (x * d) (y * d) ≡ ltb x y
 cancel x y d D = elim (split x y) [
   | inl l ↦ lt-ltb (x * d) (y * d) (mul-lt-mul-of-pos-right l D) ∙ sym (lt-ltb x y l)
   | inr l ↦ le-ltb (x * d) (y * d) (mul-le-mul-right d l) ∙ sym (le-ltb x y l)
 ]
 
+-- n / d is the whole number q, so n c is q c d
 pub times : (n q d c : ℕ) → n * 1 ≡ q * d → n * c ≡ q * c * d
 times n q d c h = ap (λ (z : ℕ). z * c) (sym (mul-one n) ∙ h) ∙ mul-right-comm q d c
 
-pub lt-left : (t : Float) (s : Bool) (q m : ℕ) (e : ℤ) → HasValue t s q 1 → lt t (fin s m e) ≡ below s (q * down e) s (m * up e)
+-- a whole number q compared with a value of its sign
+lt-left : (t : Float) (s : Bool) (q m : ℕ) (e : ℤ) → HasValue t s q 1 → lt t (fin s m e) ≡ below s (q * down e) s (m * up e)
 unfolding lt
 lt-left nan s q m e v = absurd v
 lt-left (inf t) s q m e v = absurd v
@@ -76,7 +78,8 @@ lt-left (fin false n d) false q m e v = ap (λ (z : ℕ). ltb z (m * up e * down
 lt-left (fin true n d) false q m e v = absurd (true≢false (v .0))
 lt-left (fin false n d) true q m e v = absurd (false≢true (v .0))
 
-pub lt-right : (t : Float) (s : Bool) (q m : ℕ) (e : ℤ) → HasValue t s q 1 → lt (fin s m e) t ≡ below s (m * up e) s (q * down e)
+-- and a value with a whole number
+lt-right : (t : Float) (s : Bool) (q m : ℕ) (e : ℤ) → HasValue t s q 1 → lt (fin s m e) t ≡ below s (m * up e) s (q * down e)
 unfolding lt
 lt-right nan s q m e v = absurd v
 lt-right (inf t) s q m e v = absurd v
@@ -85,10 +88,10 @@ lt-right (fin false n d) false q m e v = ap (λ (z : ℕ). ltb (m * up e * down 
 lt-right (fin true n d) false q m e v = absurd (true≢false (v .0))
 lt-right (fin false n d) true q m e v = absurd (false≢true (v .0))
 
--- ---- one more in size
 more : (n d q : ℕ) → n * 1 ≡ q * d → (n * 1 + 1 * d) * 1 ≡ (q + 1) * (d * 1)
 more n d q h = omega arith
 
+-- 1 more in size than the whole number q is q + 1, rounded
 pub further : (t : Float) (s : Bool) (q : ℕ) → HasValue t s q 1 → add binary64 t (fin s 1 (pos 0)) ≡ round binary64 s (q + 1) 1
 unfolding add sum
 further nan s q v = absurd v
@@ -105,17 +108,14 @@ up-none a c C h = div-eq-of-lt-le c (omega (arith, div-mul-le-self a c)) (omega 
 up-some : (a c : ℕ) → 0 < c → a / c * c < a → (a + (c - 1)) / c ≡ a / c + 1
 up-some a c C h = div-eq-of-lt-le c (omega (arith, lt-div-mul-add {a = a} {b = c} C)) (omega (arith, lt-div-mul-add {a = a} {b = c} C))
 
-never : {X : Type 0} → false ≡ true → X
-never p = absurd (subst T (sym p) tt)
-
--- ---- ceil
+-- a value above its whole part: its ceiling is one more
 pub ceil-more : (x : Float) → T (fits binary64 x) → lt (truncOf x) x ≡ true → add binary64 (truncOf x) one64 ≡ ceilOf x
 unfolding truncOf ceilOf lt
-ceil-more nan f h = never h
-ceil-more (inf true) f h = never h
-ceil-more (inf false) f h = never h
+ceil-more nan f h = not-true h
+ceil-more (inf true) f h = not-true h
+ceil-more (inf false) f h = not-true h
 ceil-more (fin true m e) f h =
-    never (sym (le-ltb (m * up e) (m * up e / down e * down e) (div-mul-le-self (m * up e) (down e)))
+    not-true (sym (le-ltb (m * up e) (m * up e / down e * down e) (div-mul-le-self (m * up e) (down e)))
     ∙ sym (lt-left (round binary64 true (m * up e / down e) 1) true (m * up e / down e) m e (whole-val true m e f)) ∙ h)
 ceil-more (fin false m e) f h =
     let v = whole-val false m e f in
@@ -123,6 +123,7 @@ ceil-more (fin false m e) f h =
     further (round binary64 false (m * up e / down e) 1) false (m * up e / down e) v
     ∙ ap (λ (z : ℕ). round binary64 false z 1) (sym (up-some (m * up e) (down e) (down-pos e) l))
 
+-- else its ceiling is the whole part
 pub ceil-same : (x : Float) → T (fits binary64 x) → lt (truncOf x) x ≡ false → truncOf x ≡ ceilOf x
 unfolding truncOf ceilOf lt
 ceil-same nan f h = refl
@@ -132,14 +133,14 @@ ceil-same (fin false m e) f h =
     let l = ltb-false (m * up e / down e * down e) (m * up e) (sym (lt-left (round binary64 false (m * up e / down e) 1) false (m * up e / down e) m e (whole-val false m e f)) ∙ h) in
     ap (λ (z : ℕ). round binary64 false z 1) (sym (up-none (m * up e) (down e) (down-pos e) l))
 
--- ---- floor
+-- a value below its whole part: its floor is one less
 pub floor-more : (x : Float) → T (fits binary64 x) → lt x (truncOf x) ≡ true → sub binary64 (truncOf x) one64 ≡ floorOf x
 unfolding truncOf floorOf lt sub neg
-floor-more nan f h = never h
-floor-more (inf true) f h = never h
-floor-more (inf false) f h = never h
+floor-more nan f h = not-true h
+floor-more (inf true) f h = not-true h
+floor-more (inf false) f h = not-true h
 floor-more (fin false m e) f h =
-    never (sym (le-ltb (m * up e) (m * up e / down e * down e) (div-mul-le-self (m * up e) (down e)))
+    not-true (sym (le-ltb (m * up e) (m * up e / down e * down e) (div-mul-le-self (m * up e) (down e)))
     ∙ sym (lt-right (round binary64 false (m * up e / down e) 1) false (m * up e / down e) m e (whole-val false m e f)) ∙ h)
 floor-more (fin true m e) f h =
     let v = whole-val true m e f in
@@ -147,6 +148,7 @@ floor-more (fin true m e) f h =
     further (round binary64 true (m * up e / down e) 1) true (m * up e / down e) v
     ∙ ap (λ (z : ℕ). round binary64 true z 1) (sym (up-some (m * up e) (down e) (down-pos e) l))
 
+-- else its floor is the whole part
 pub floor-same : (x : Float) → T (fits binary64 x) → lt x (truncOf x) ≡ false → truncOf x ≡ floorOf x
 unfolding truncOf floorOf lt
 floor-same nan f h = refl
@@ -165,6 +167,7 @@ signed-at h (fin t n d) s q v =
     let e : n * up d / down d ≡ q = ap (λ (z : ℕ). z / down d) (sym (mul-one (n * up d)) ∙ v .1) ∙ mul-div-cancel q (down-pos d) in
     λ i. cond (v .0 i) (negℤ (pos (min (e i) (2 ^ h)))) (pos (min (e i) (2 ^ h - 1)))
 
+-- cutting the whole part to an integer gives what cutting the value gives
 pub cut-again : (h : ℕ) (x : Float) → T (fits binary64 x) → toSigned h (truncOf x) ≡ toSigned h x
 unfolding truncOf toSigned
 cut-again h nan f = refl

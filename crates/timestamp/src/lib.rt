@@ -35,7 +35,9 @@ impl Timestamp {
     pub fn cmp(self, other: Timestamp) -> Ordering
         ensures { λ r. ⌜ r ≡ orderOf (self .0) (other .0) ⌝ }
     {
-        let d = std::num::wrapping_sub_u16(self.0, other.0);
+        let a = self.0;
+        let b = other.0;
+        let d = std::num::wrapping_sub_u16(a, b);
         if d == 0 {
             Ordering::Equal
         } else if d < 32768 {

@@ -1,0 +1,13 @@
+pub mod Value
+pub mod Order
+pub mod Round
+pub mod Operations
+pub mod Bounds
+pub mod Within
+pub mod Timestep
+pub mod Clock
+pub mod Overshoot
+pub mod Remainder
+pub mod Wrap
+pub mod Frames
+pub mod Skip

@@ -1,0 +1,94 @@
+-- The overshoot, 0 to a timestep; the tween weight and the blend weight, 0 to 1.
+use mathlib.Core.Path.{_≡_, subst}
+use Prim.Native.Nat.{ℕ, _+_, _-_, _*_, _≤_}
+use native.Mathlib.Nat.{mul-le-mul-right}
+use native.Mathlib.Omega.{arith}
+use mathlib.Core.Bool.{Bool, true, false, not, cond}
+use lib.Dec.{T}
+use lib.Ieee.{Float, lt, le, binary64, fits, add, sub, mul, div}
+use lib.Ieee.Positive.{den, positive, positive-finite}
+use lib.Ieee.Scale.{finite}
+use Rattle.float_laws.proofs.Value.{pnum, nnum, val, zeroF, oneF, q-nonneg, q-nonpos, le-to-val}
+use Rattle.float_laws.proofs.Order.{float-le-of-not-lt}
+use Rattle.float_laws.proofs.Bounds.{held-val, held-zero, held-one, Between, in-order, add-between, sub-between, mul-between, div-between}
+use Rattle.float_laws.proofs.Within.{InUnit}
+
+-- x is at most x + t where t is not negative.
+add-above : (a n d b m e : ℕ) → m ≤ b → a * (d * e) + (n * e + m * d) * d ≤ (a * e + b * d) * d + n * (d * e)
+add-above a n d b m e h = let k = mul-le-mul-right (d * d) h in omega arith
+
+-- x + t is at most t where x is not positive.
+add-below : (a n d b m e : ℕ) → a ≤ n → (a * e + b * d) * e + m * (d * e) ≤ b * (d * e) + (n * e + m * d) * e
+add-below a n d b m e h = let k = mul-le-mul-right (e * e) h in omega arith
+
+-- Where x ≤ 0 ≤ t, the sum x + t is from x to t, rounding included.
+pub step-between : (x t : Float) → T (fits binary64 x) → T (fits binary64 t) → T (finite x) → T (finite t) → T (le x zeroF) → T (le zeroF t) → Between (val x) (add binary64 x t) (val t)
+step-between x t fx ft px pt h k =
+    let a = q-nonpos (val x) (le-to-val x zeroF px tt h) in
+    let b = q-nonneg (val t) (le-to-val zeroF t tt pt k) in
+    add-between binary64 (val x) (val t) x t (held-val binary64 x fx px) (held-val binary64 t ft pt) px pt
+    (add-above (pnum x) (nnum x) (den x) (pnum t) (nnum t) (den t) b)
+    (add-below (pnum x) (nnum x) (den x) (pnum t) (nnum t) (den t) a)
+
+-- Where 0 ≤ o ≤ t and t is positive, o / t is from 0 to 1.
+quotient-unit : (o t : Float) → T (finite o) → T (positive t) → T (le zeroF o) → T (le o t) → InUnit (div binary64 o t)
+quotient-unit o t p q h k =
+    div-between binary64 (val zeroF) (val oneF) o t held-zero held-one p q
+    (low-side (pnum o) (nnum o) (den o) (pnum t) (den t) (q-nonneg (val o) (le-to-val zeroF o tt p h)))
+    (omega (arith, le-to-val o t p (positive-finite t q) k))
+  where
+    low-side : (a n d b e : ℕ) → n ≤ a → 0 * 1 * (b * d) + n * e * 1 ≤ a * e * 1 + 0 * (b * d)
+    low-side a n d b e h = let k = mul-le-mul-right e h in omega arith
+
+-- Where w is from 0 to 1, so is 1 - w.
+one-less-unit : (w : Float) → InUnit w → InUnit (sub binary64 oneF w)
+one-less-unit w b =
+    sub-between binary64 (val zeroF) (val oneF) oneF w held-zero held-one tt (b .0)
+    (omega (arith, b .2)) (omega (arith, b .1))
+
+-- The tween weight of an overshoot o and a timestep t, before it is shaped: 1 - o / t.
+abbrev pub tweenWeight : Float → Float → Float
+tweenWeight o t = sub binary64 oneF (div binary64 o t)
+
+-- Where 0 ≤ o ≤ t and t is positive, the tween weight is finite and from 0 to 1.
+pub tween-unit : (o t : Float) → T (finite o) → T (positive t) → T (le zeroF o) → T (le o t) → T (finite (tweenWeight o t)) × T (le zeroF (tweenWeight o t)) × T (le (tweenWeight o t) oneF)
+tween-unit o t p q h k = in-order zeroF (tweenWeight o t) oneF tt tt (one-less-unit (div binary64 o t) (quotient-unit o t p q h k))
+
+-- Where y is from 0 to 1 and t is at least 0, y t is from 0 to t.
+pub mul-unit : (y t : Float) → T (fits binary64 t) → T (finite t) → T (le zeroF t) → InUnit y → Between (val zeroF) (mul binary64 y t) (val t)
+mul-unit y t ft pt h b =
+    let k = q-nonneg (val t) (le-to-val zeroF t tt pt h) in
+    mul-between binary64 (val zeroF) (val t) y t held-zero (held-val binary64 t ft pt) (b .0) pt
+    (low-side (pnum y) (nnum y) (den y) (pnum t) (nnum t) (den t) k (b .1))
+    (high-side (pnum y) (nnum y) (den y) (pnum t) (nnum t) (den t) k (b .2))
+  where
+    low-at : (a n d m e w : ℕ) → n ≤ a → 0 * 1 * (d * e) + (a * m + n * (m + w)) * 1 ≤ (a * (m + w) + n * m) * 1 + 0 * (d * e)
+    low-at a n d m e w h = let k = mul-le-mul-right w h in omega arith
+
+    low-side : (a n d b m e : ℕ) → m ≤ b → 0 * 1 * d + n * 1 ≤ a * 1 + 0 * d → 0 * 1 * (d * e) + (a * m + n * b) * 1 ≤ (a * b + n * m) * 1 + 0 * (d * e)
+    low-side a n d b m e h k =
+        let i : m + (b - m) ≡ b = omega arith in
+        subst (λ (z : ℕ). 0 * 1 * (d * e) + (a * m + n * z) * 1 ≤ (a * z + n * m) * 1 + 0 * (d * e)) i (low-at a n d m e (b - m) (omega arith))
+
+    high-at : (a n d m e w : ℕ) → a ≤ d + n → (a * (m + w) + n * m) * e + m * (d * e) ≤ (m + w) * (d * e) + (a * m + n * (m + w)) * e
+    high-at a n d m e w h = let k = mul-le-mul-right (w * e) h in omega arith
+
+    high-side : (a n d b m e : ℕ) → m ≤ b → a * 1 + 0 * d ≤ 1 * 1 * d + n * 1 → (a * b + n * m) * e + m * (d * e) ≤ b * (d * e) + (a * m + n * b) * e
+    high-side a n d b m e h k =
+        let i : m + (b - m) ≡ b = omega arith in
+        let j : a ≤ d + n = omega arith in
+        subst (λ (z : ℕ). (a * z + n * m) * e + m * (d * e) ≤ z * (d * e) + (a * m + n * z) * e) i (high-at a n d m e (b - m) j)
+
+-- x cut to 0 to 1: 0 below 0, 1 above 1, else x.
+abbrev pub clamp : Float → Float
+clamp x = cond (lt x zeroF) zeroF (cond (lt oneF x) oneF x)
+
+-- A finite float clamped is from 0 to 1.
+pub clamp-unit : (x : Float) → T (finite x) → T (le zeroF (clamp x)) × T (le (clamp x) oneF)
+unfolding le
+clamp-unit x p = go (lt x zeroF) (lt oneF x) (λ (h : T (not (lt x zeroF))). float-le-of-not-lt x zeroF p tt h) (λ (h : T (not (lt oneF x))). float-le-of-not-lt oneF x tt p h)
+  where
+    go : (a b : Bool) → (T (not a) → T (le zeroF x)) → (T (not b) → T (le x oneF)) → T (le zeroF (cond a zeroF (cond b oneF x))) × T (le (cond a zeroF (cond b oneF x)) oneF)
+    go true b h k = (tt, tt)
+    go false true h k = (tt, tt)
+    go false false h k = (h tt, k tt)
