@@ -14,6 +14,12 @@ impl Random {
     }
 }
 
+/// A float and the floats next to it, by their bits.
+pub fn with_neighbours(x: f64) -> [f64; 3] {
+    let bits = x.to_bits();
+    [x, f64::from_bits(bits.wrapping_add(1)), f64::from_bits(bits.wrapping_sub(1))]
+}
+
 /// Comparisons of one kind: how many were made and how many differed.
 pub struct Group {
     name: &'static str,

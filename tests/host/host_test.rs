@@ -2,7 +2,7 @@
 
 mod compare;
 
-use compare::{Group, Random};
+use compare::{with_neighbours, Group, Random};
 use std::num::Wrapping;
 
 mod ours {
@@ -88,7 +88,7 @@ fn limits() -> Vec<f64> {
         1.0 / 60.0,
         3600.0,
     ];
-    let mut values: Vec<f64> = base.iter().flat_map(|&x: &f64| [x, x.next_up(), x.next_down()]).collect();
+    let mut values: Vec<f64> = base.iter().flat_map(|&x| with_neighbours(x)).collect();
     values.extend(values.clone().iter().map(|x| -x));
     values.extend([0x7ff8_0000_0000_0000, 0xfff8_0000_0000_0001, 0x7ff0_0000_0000_0001, u64::MAX].map(f64::from_bits));
     values

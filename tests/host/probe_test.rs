@@ -3,7 +3,7 @@
 
 mod compare;
 
-use compare::{Group, Random};
+use compare::{with_neighbours, Group, Random};
 
 mod ours {
     extern "C" {
@@ -87,12 +87,8 @@ fn floats() -> Vec<f64> {
         }
     }
     for whole in 0..70_000u32 {
-        values.extend([
-            f64::from(whole),
-            f64::from(whole) + 0.5,
-            f64::from(whole).next_up(),
-            (f64::from(whole) + 0.5).next_down(),
-        ]);
+        values.extend(with_neighbours(f64::from(whole)));
+        values.extend(with_neighbours(f64::from(whole) + 0.5));
     }
     let mut r = Random(0x9e37_79b9_7f4a_7c15);
     for _ in 0..700_000 {

@@ -2,7 +2,7 @@
 -- A stamp is given by its signed number; `pos n` is n, and `negsuc n` is -(n + 1). A float `fin s m e` is m * 2 ^ e, negative where s is true.
 use mathlib.Core.Path.{_≡_}
 use mathlib.Core.Bool.{true, false}
-use lib.IntN.{ℤ, pos, negsuc}
+use lib.IntN.{pos, negsuc}
 use lib.Ieee.{Float, fin}
 use Rattle.timestamp.specs.declared.Ordering.the-variants.{Less}
 use Rattle.timestamp.specs.Timestamps.{bitsOf, orderOf, inRange}

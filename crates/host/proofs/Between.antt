@@ -1,6 +1,6 @@
 -- A range tested from its lower end. Assumes nothing.
 use mathlib.Core.Path.{_≡_, sym}
-use mathlib.Core.Bool.{Bool, true, false, _&&_}
+use mathlib.Core.Bool.{true, false, _&&_}
 use lib.Ieee.{Float, le}
 use Rattle.host.specs.Host.{between}
 

@@ -1,26 +1,26 @@
 -- The bits of a binary64 value with those below the point cleared are the bits of its whole part. Assumes nothing.
 use mathlib.Core.Path.{_≡_, refl, sym, ap, _∙_, subst}
-use mathlib.Core.Logic.{_⊎_, inl, inr}
+use mathlib.Core.Logic.{inl, inr}
 use mathlib.Core.Bool.{Bool, true, false, cond, not}
 use Prim.Native.Nat.{ℕ, zero, suc, _+_, _-_, _*_, _/_, _%_, _^_, _<_, _≤_}
-use native.Mathlib.Nat.{mul-one, one-mul, mul-assoc, mul-comm, mul-right-comm, mul-left-comm, add-mul, mul-div-cancel, add-mul-div-right, div-add-mod', div-eq-of-lt, mod-lt, mod-eq-of-lt, div-mul-le-self, div-le-self, lt-of-le-of-lt, lt-of-lt-of-le, le-of-eq, mul-le-mul, mul-le-mul-left, mul-lt-mul-of-pos-right, eq-of-mul-eq-mul-right, le-trans, add-comm}
+use native.Mathlib.Nat.{mul-one, mul-assoc, mul-comm, mul-right-comm, add-mul, mul-div-cancel, add-mul-div-right, div-add-mod', div-eq-of-lt, mod-lt, div-mul-le-self, div-le-self, lt-of-le-of-lt, lt-of-lt-of-le, eq-of-mul-eq-mul-right, add-comm}
 use native.Mathlib.Omega.{arith}
-use lib.Dec.{T, ltb, leb, eqb, lit<, lit≤}
+use lib.Dec.{T, leb, eqb, lit<, lit≤}
 use lib.Pow.{pow-add, pow-pos, pow-mono, shr-mod, field, shl-lt}
 use lib.Arith.{digits-div, digits-mod}
 use lib.Bits.{bitAnd, and-high}
-use lib.IntN.{ℤ, pos}
-use lib.Ieee.{Float, nan, inf, fin, binary64, up, down, round, odd, ofFields, ofBits, nanBits, isNan, fits, units, size}
+use lib.IntN.{pos}
+use lib.Ieee.{Float, nan, inf, fin, binary64, up, down, round, odd, ofFields, ofBits, nanBits, isNan}
 use lib.Ieee.Fits.{round-fits, down-pos}
 use lib.Ieee.Bits.{ofBits-fits, nanBits-is}
 use lib.Ieee.Exact.{HasValue, odd-sign, round-exact}
 use lib.Ieee.Back.{round-whole, whole-unique}
 use lib.Ieee.Nearest.{div-same}
-use lib.ListN.{getD, length}
+use lib.ListN.{getD}
 use mathlib.Core.List.{List, [], _∷_}
-use lib.Dec.{eqb→eq, T-not}
+use lib.Dec.{eqb→eq}
 use Rattle.timestamp.proofs.Table.{at}
-use borrow.Author.Tests.{lt-ltb, le-ltb, le-leb, lt-leb, ne-eqb, eq-eqb}
+use borrow.Author.Tests.{le-leb, lt-leb, ne-eqb}
 use Rattle.timestamp.specs.Whole.{truncOf}
 use Rattle.timestamp.proofs.Basics.{split}
 

@@ -1,18 +1,18 @@
 -- The nearest whole number, a half away from zero: what is left of a value is exact, and the code compares it with a half. Assumes nothing.
 use mathlib.Core.Path.{_≡_, refl, sym, ap, _∙_, subst}
-use mathlib.Core.Logic.{_⊎_, inl, inr}
-use mathlib.Core.Bool.{Bool, true, false, cond, not, _&&_, _||_, true≢false, false≢true}
-use Prim.Native.Nat.{ℕ, zero, suc, _+_, _-_, _*_, _/_, _%_, _^_, _<_, _≤_}
-use native.Mathlib.Nat.{mul-one, one-mul, zero-mul, mul-assoc, mul-comm, mul-right-comm, mul-left-comm, mul-sub, mul-pos, mul-le-mul-right, mul-lt-mul-of-pos-right, le-of-mul-le-mul-right, lt-of-mul-lt-mul-right, div-mul-le-self, lt-div-mul-add, div-eq-of-lt-le, lt-of-le-of-lt, lt-of-lt-of-le, le-of-lt, le-trans, le-of-eq, sub-le, lt-of-not-le, not-le-of-lt}
+use mathlib.Core.Logic.{inl, inr}
+use mathlib.Core.Bool.{Bool, true, false, cond, not, _&&_, true≢false, false≢true}
+use Prim.Native.Nat.{ℕ, suc, _+_, _-_, _*_, _/_, _^_, _<_, _≤_}
+use native.Mathlib.Nat.{mul-one, mul-assoc, mul-comm, mul-sub, mul-pos, mul-le-mul-right, mul-lt-mul-of-pos-right, le-of-mul-le-mul-right, lt-of-mul-lt-mul-right, div-mul-le-self, lt-div-mul-add, div-eq-of-lt-le, lt-of-le-of-lt, lt-of-lt-of-le, le-of-eq, sub-le, not-le-of-lt}
 use native.Mathlib.Omega.{arith}
-use lib.Dec.{T, ltb, leb, eqb, lit<, lit≤}
+use lib.Dec.{T, ltb, eqb, lit<}
 use lib.Pow.{pow-add, pow-pos, pow-mono, pow-lt, shl-lt}
 use lib.IntN.{ℤ, pos, negsuc}
 use lib.Ieee.{Float, nan, inf, fin, binary64, up, down, round, sum, add, sub, neg, lt, le, eq, fits}
 use lib.Ieee.Fits.{down-pos}
 use lib.Ieee.Exact.{HasValue, round-exact}
 use lib.Ieee.Scale.{round-same}
-use borrow.Author.Tests.{lt-ltb, le-ltb, ltb-true, ltb-false, eqb-true, eqb-false, ne-eqb}
+use borrow.Author.Tests.{lt-ltb, le-ltb, eqb-true, eqb-false}
 use Rattle.timestamp.specs.Whole.{truncOf, roundOf}
 use Rattle.timestamp.proofs.Basics.{split, not-true, le-true, le-false, signs-apart}
 use Rattle.timestamp.proofs.Whole.{one64, holds, whole-val, cancel, times, further}

@@ -1,14 +1,13 @@
 -- What the difference that `wrapping_sub_u16` gives says of the order of two stamps and of the range around a midpoint. Assumes nothing.
-use mathlib.Core.Path.{_≡_, refl, sym, ap, _∙_}
-use mathlib.Core.Logic.{_⊎_, inl, inr}
-use mathlib.Core.Bool.{Bool, true, false, _&&_}
+use mathlib.Core.Path.{_≡_, refl, ap, _∙_}
+use mathlib.Core.Logic.{inl, inr}
+use mathlib.Core.Bool.{true, _&&_}
 use Prim.Native.Nat.{ℕ, zero, suc, _+_, _-_, _%_, _<_, _≤_}
 use native.Mathlib.Omega.{arith}
 use lib.Dec.{leb}
-use lib.IntN.{ℤ, pos, negsuc}
+use lib.IntN.{pos, negsuc}
 use lib.Signed.{leZ}
 use borrow.Author.Tests.{le-leb, lt-leb}
-use Rattle.timestamp.specs.declared.Ordering.{Ordering}
 use Rattle.timestamp.specs.declared.Ordering.the-variants.{Less, Equal, Greater}
 use Rattle.timestamp.specs.Timestamps.{differenceOf, signedOf, signOf, orderOf, inRange}
 use Rattle.timestamp.proofs.Basics.{split}

@@ -1,16 +1,15 @@
 -- RFC 1982 and the stamps of document 01: where the RFC defines a sum or a comparison, ours is the same, and ours goes further exactly on the pairs 2 ^ 15 apart. Assumes nothing.
 use mathlib.Core.Path.{_≡_, refl, sym, ap, _∙_}
-use mathlib.Core.Logic.{_⊎_, inl, inr}
-use mathlib.Core.Bool.{Bool, true, false}
-use Prim.Native.Nat.{ℕ, _+_, _-_, _%_, _<_, _≤_}
+use mathlib.Core.Logic.{inl, inr}
+use mathlib.Core.Bool.{Bool, true, false, cond}
+use Prim.Native.Nat.{ℕ, _+_, _-_, _%_, _<_}
 use native.Mathlib.Omega.{arith}
-use lib.IntN.{ℤ, pos, negsuc}
 use lib.Dec.{leb}
 use borrow.Author.Tests.{eq-eqb, ne-eqb, lt-ltb, le-ltb, le-leb}
 use Rattle.timestamp.specs.declared.Ordering.{Ordering}
 use Rattle.timestamp.specs.declared.Ordering.the-variants.{Less, Equal, Greater}
-use Rattle.timestamp.specs.Rfc1982.{Sum, defined, undefinedSum, pickSum, sum, Comparison, equal, less, greater, undefinedOrder, isLess, isGreater, compared}
-use Rattle.timestamp.specs.Timestamps.{sumOf, differenceOf, signedOf, orderOf}
+use Rattle.timestamp.specs.Rfc1982.{defined, undefinedSum, sum, Comparison, equal, less, greater, undefinedOrder, isLess, isGreater, compared}
+use Rattle.timestamp.specs.Timestamps.{sumOf, differenceOf, orderOf}
 use Rattle.timestamp.proofs.Basics.{split}
 use Rattle.timestamp.proofs.Order.{order-equal, order-greater, order-less}
 
@@ -19,7 +18,7 @@ pub sum-agrees : (s n r : ℕ) → sum s n ≡ defined r → sumOf s n ≡ r
 unfolding sum
 sum-agrees s n r = go (leb n 32767)
   where
-    go : (t : Bool) → pickSum t (defined ((s + n) % 65536)) undefinedSum ≡ defined r → (s + n) % 65536 ≡ r
+    go : (t : Bool) → cond t (defined ((s + n) % 65536)) undefinedSum ≡ defined r → (s + n) % 65536 ≡ r
     go true h = cc
     go false h = let z : _≡_ {A = ℕ} 0 1 = cc in absurd (omega arith)
 

@@ -1,14 +1,14 @@
 -- From the whole part of a value to the whole number above, below or nearest: what the code's comparisons and additions of 1 give. Assumes nothing.
 use mathlib.Core.Path.{_≡_, refl, sym, ap, _∙_, subst}
-use mathlib.Core.Logic.{_⊎_, inl, inr}
-use mathlib.Core.Bool.{Bool, true, false, cond, not, _&&_, _||_, true≢false, false≢true}
+use mathlib.Core.Logic.{inl, inr}
+use mathlib.Core.Bool.{Bool, true, false, cond, _&&_, true≢false, false≢true}
 use Prim.Native.Nat.{ℕ, zero, suc, _+_, _-_, _*_, _/_, _%_, _^_, _<_, _≤_, min}
-use native.Mathlib.Nat.{mul-one, one-mul, zero-mul, mul-assoc, mul-comm, mul-right-comm, mul-pos, mul-le-mul-right, mul-lt-mul-of-pos-right, div-mul-le-self, div-le-self, lt-div-mul-add, div-eq-of-lt-le, mul-div-cancel, lt-of-le-of-lt, lt-of-lt-of-le, le-of-lt, le-trans, le-of-eq, zero-lt-suc, div-add-mod', add-comm}
+use native.Mathlib.Nat.{mul-one, one-mul, zero-mul, mul-assoc, mul-comm, mul-right-comm, mul-pos, mul-le-mul-right, mul-lt-mul-of-pos-right, div-mul-le-self, div-le-self, lt-div-mul-add, div-eq-of-lt-le, mul-div-cancel, lt-of-lt-of-le, le-of-lt, le-trans, le-of-eq}
 use native.Mathlib.Omega.{arith}
-use lib.Dec.{T, ltb, leb, eqb, lit<, lit≤, ltb→lt, leb→le, eqb→eq}
-use lib.Pow.{pow-add, pow-pos, pow-mono, shl-lt}
+use lib.Dec.{T, ltb, leb, eqb, lit<, ltb→lt, leb→le, eqb→eq}
+use lib.Pow.{pow-add, pow-pos}
 use lib.IntN.{ℤ, pos, negsuc, negℤ}
-use lib.Ieee.{Float, nan, inf, fin, binary64, up, down, round, sum, add, sub, neg, lt, le, eq, below, fits, toSigned}
+use lib.Ieee.{Float, nan, inf, fin, binary64, up, down, round, sum, add, sub, neg, lt, below, fits, toSigned}
 use lib.Ieee.Fits.{down-pos, up-pos, and-l, and-r}
 use lib.Ieee.Exact.{HasValue, round-exact}
 use lib.Ieee.Back.{round-whole}

@@ -1,7 +1,7 @@
 -- RFC 1982, "Serial Number Arithmetic", sections 3.1 and 3.2, at SERIAL_BITS = 16. A serial number is a natural number below 2 ^ SERIAL_BITS.
 -- Definitions only. Assumes nothing.
 use Prim.Native.Nat.{ℕ, _+_, _-_, _%_, _^_}
-use mathlib.Core.Bool.{Bool, true, false, _&&_, _||_}
+use mathlib.Core.Bool.{Bool, cond, _&&_, _||_}
 use lib.Dec.{ltb, leb, eqb}
 
 -- SERIAL_BITS, the number of bits of a serial number
@@ -13,13 +13,9 @@ pub data Sum : Type 0 where
   defined : ℕ → Sum
   undefinedSum : Sum
 
-abbrev pub pickSum : Bool → Sum → Sum → Sum
-pickSum true a b = a
-pickSum false a b = b
-
 -- Section 3.1: n of 0 to 2 ^ (SERIAL_BITS - 1) - 1 is added to s, and the sum is (s + n) modulo 2 ^ SERIAL_BITS; the addition of any other n is undefined
 unfoldable pub sum : ℕ → ℕ → Sum
-sum s n = pickSum (leb n (2 ^ (serialBits - 1) - 1)) (defined ((s + n) % 2 ^ serialBits)) undefinedSum
+sum s n = cond (leb n (2 ^ (serialBits - 1) - 1)) (defined ((s + n) % 2 ^ serialBits)) undefinedSum
 
 -- Section 3.2: i1 is less than i2 where
 --   i1 < i2 and i2 - i1 < 2 ^ (SERIAL_BITS - 1), or i1 > i2 and i1 - i2 > 2 ^ (SERIAL_BITS - 1)
@@ -35,10 +31,6 @@ isGreater i1 i2 = (ltb i1 i2 && ltb (2 ^ (serialBits - 1)) (i2 - i1)) || (ltb i2
 pub data Comparison : Type 0 where
   equal less greater undefinedOrder : Comparison
 
-abbrev pub pickComparison : Bool → Comparison → Comparison → Comparison
-pickComparison true a b = a
-pickComparison false a b = b
-
 -- Section 3.2: the comparison of i1 with i2
 unfoldable pub compared : ℕ → ℕ → Comparison
-compared i1 i2 = pickComparison (eqb i1 i2) equal (pickComparison (isLess i1 i2) less (pickComparison (isGreater i1 i2) greater undefinedOrder))
+compared i1 i2 = cond (eqb i1 i2) equal (cond (isLess i1 i2) less (cond (isGreater i1 i2) greater undefinedOrder))

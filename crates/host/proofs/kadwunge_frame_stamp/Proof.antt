@@ -1,7 +1,7 @@
 -- `kadwunge_frame_stamp` meets its contract: the two tests in their order, and then the stamp's value. Assumes nothing.
 use borrow.Author.Needs.{needs}
 use mathlib.Core.Path.{_≡_, sym, ap, _∙_, subst}
-use mathlib.Core.Bool.{Bool, true, false, cond}
+use mathlib.Core.Bool.{true, false, cond}
 use lib.IntN.{ℤ, pos}
 use lib.Ieee.{Float}
 use lib.Ieee.Casts.{toSigned-in}

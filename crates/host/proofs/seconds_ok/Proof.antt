@@ -1,6 +1,6 @@
 -- `seconds_ok` meets its contract: the tests are those of the definition. Assumes nothing.
 use mathlib.Core.Bool.{true, false}
-use lib.IntN.{pos, negsuc}
+use lib.IntN.{pos}
 use lib.Ieee.{fin, ofBits, neg}
 use Rattle.host.proofs.Between.{not-below, is-below}
 use Rattle.host.proofs.seconds_ok.Statement.{statement}

@@ -1,5 +1,5 @@
 -- `timestep_ok` meets its contract: the tests are those of the definition. Assumes nothing.
-use mathlib.Core.Bool.{true, false}
+use mathlib.Core.Bool.{false}
 use lib.IntN.{pos, negsuc}
 use lib.Ieee.{fin, ofBits, neg}
 use Rattle.host.proofs.Between.{not-below, is-below}

@@ -4,7 +4,6 @@ use mathlib.Core.Path.{_≡_, sym, ap, _∙_, subst}
 use mathlib.Core.Bool.{true, false}
 use lib.Dec.{T}
 use lib.Ieee.{Float, binary64, fits, lt, add, ofBits}
-use Rattle.timestamp.specs.Whole.{truncOf}
 use Rattle.timestamp.proofs.Whole.{one64, ceil-more, ceil-same}
 use Rattle.timestamp.proofs.ceil.Statement.{statement}
 use Rattle.timestamp.proofs.ceil.Tie as tie

@@ -4,7 +4,6 @@ use mathlib.Core.Path.{_≡_, sym, ap, _∙_, subst}
 use mathlib.Core.Bool.{true, false}
 use lib.Dec.{T}
 use lib.Ieee.{Float, binary64, fits, lt, sub, ofBits}
-use Rattle.timestamp.specs.Whole.{truncOf}
 use Rattle.timestamp.proofs.Whole.{one64, floor-more, floor-same}
 use Rattle.timestamp.proofs.floor.Statement.{statement}
 use Rattle.timestamp.proofs.floor.Tie as tie

@@ -4,7 +4,6 @@ use mathlib.Core.Path.{_≡_, sym, ap, _∙_, subst}
 use mathlib.Core.Bool.{true, false}
 use lib.Dec.{T}
 use lib.Ieee.{Float, binary64, fits, le, add, sub, neg, ofBits}
-use Rattle.timestamp.specs.Whole.{truncOf}
 use Rattle.timestamp.proofs.Whole.{one64}
 use Rattle.timestamp.proofs.Nearer.{half, minus-half, up-half, down-half, no-way}
 use Rattle.timestamp.proofs.round.Statement.{statement}

@@ -1,15 +1,15 @@
 -- `trunc` meets its contract: the bits below the point are cleared by the table's mask (proofs/Masked.antt). Assumes nothing.
 use borrow.Author.Needs.{needs}
-use mathlib.Core.Path.{_≡_, refl, sym, ap, _∙_, subst}
+use mathlib.Core.Path.{_≡_, sym, ap, _∙_, subst}
 use mathlib.Core.Bool.{Bool, not, false}
-use Prim.Native.Nat.{ℕ, suc, _+_, _-_, _*_, _/_, _%_, _^_, _<_, _≤_}
+use Prim.Native.Nat.{ℕ, suc, _+_, _-_, _*_, _/_, _^_, _<_, _≤_}
 use native.Mathlib.Omega.{arith}
 use lib.Dec.{T}
 use lib.Bits.{and-mask, bitAnd}
 use lib.ListN.{getD}
-use lib.Ieee.{Float, nan, inf, fin, binary64, ne, eq, isNan, fits, toBits, ofBits, nanBits}
+use lib.Ieee.{Float, nan, inf, fin, binary64, ne, isNan, fits, toBits, ofBits, nanBits}
 use lib.Ieee.Bits.{ofBits-toBits, toBits-lt}
-use lib.Ieee.Compare.{differs-from-itself, nan-differs}
+use lib.Ieee.Compare.{differs-from-itself}
 use Rattle.timestamp.specs.Whole.{truncOf}
 use Rattle.timestamp.proofs.Masked.{expo, masks, masked, masked-no-nan, small, small-no-nan, large, under}
 use Rattle.timestamp.proofs.trunc.Statement.{statement}
