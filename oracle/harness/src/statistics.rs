@@ -1,0 +1,153 @@
+//! How often each refusal, status and transition was met, for the lines on standard error.
+
+use crate::{panics::Stop26, session::Updated};
+use crystalorb::client::probe::StageName;
+use observe::{Record, Skip, Status};
+use std::{collections::BTreeMap, fmt::Write};
+
+#[derive(Default)]
+pub struct Statistics {
+    calls: BTreeMap<&'static str, u64>,
+    refusals: BTreeMap<u32, u64>,
+    stops: BTreeMap<&'static str, u64>,
+    statuses: BTreeMap<&'static str, u64>,
+    transitions: [[u64; 5]; 5],
+    stages: BTreeMap<&'static str, u64>,
+    events: BTreeMap<&'static str, u64>,
+    frames_most: u64,
+    words_most: usize,
+    deviations: BTreeMap<&'static str, u64>,
+}
+
+fn stage_change(before: StageName, after: StageName) -> Option<&'static str> {
+    match (before, after) {
+        (StageName::SyncingClock, StageName::SyncingInitialState) => {
+            Some("SyncingClock->SyncingInitialState")
+        }
+        (StageName::SyncingInitialState, StageName::Ready) => Some("SyncingInitialState->Ready"),
+        _ => None,
+    }
+}
+
+fn skip_name(skip: Skip) -> &'static str {
+    match skip.to.wrapping_sub(skip.from) {
+        i16::MIN => "skip-half-lap",
+        0 => "skip-0",
+        distance if distance > 0 => "skip-forward",
+        _ => "skip-back",
+    }
+}
+
+fn listed<K: std::fmt::Display>(counts: &BTreeMap<K, u64>) -> String {
+    let mut text = String::new();
+    for (name, count) in counts {
+        write!(text, " {name}={count}").expect("writing to a string");
+    }
+    text
+}
+
+impl Statistics {
+    pub fn call(&mut self, name: &'static str) {
+        *self.calls.entry(name).or_default() += 1;
+    }
+
+    pub fn refused(&mut self, number: u32, kind: Option<Stop26>) {
+        *self.refusals.entry(number).or_default() += 1;
+        let kind = kind.map(|kind| match kind {
+            Stop26::HealthyToOvershot => "26-Healthy-half-lap-behind",
+            Stop26::ObsoleteToOvershot => "26-Obsolete-loads-ahead",
+            Stop26::HealthyToObsolete => "26-Healthy-ends-Obsolete",
+        });
+        if let Some(kind) = kind {
+            *self.stops.entry(kind).or_default() += 1;
+        }
+    }
+
+    /// The mean call's 1 is counted apart from the refusal 1 of `open`.
+    pub fn mean(&mut self, number: u32) {
+        if number == 1 {
+            self.event("mean-returns-1", 1);
+        } else {
+            self.refused(number, None);
+        }
+    }
+
+    pub fn status(&mut self, status: Status) {
+        *self.statuses.entry(status.name()).or_default() += 1;
+    }
+
+    fn event(&mut self, name: &'static str, count: u64) {
+        *self.events.entry(name).or_default() += count;
+    }
+
+    pub fn deviations(&mut self, record: &Record) {
+        for deviation in &record.deviations {
+            *self.deviations.entry(deviation.operation).or_default() += 1;
+        }
+        if !record.deviations.is_empty() {
+            *self.deviations.entry("calls-with-a-deviation").or_default() += 1;
+        }
+    }
+
+    pub fn updated(&mut self, updated: &Updated, words: usize) {
+        let record = &updated.record;
+        self.event("frames", record.frames);
+        self.event("catch-up-steps", record.catch_up_steps);
+        self.event("loads", record.loads);
+        self.event("clock-requests", u64::from(updated.clock_request));
+        if record.frames == 65 {
+            self.event("updates-of-65-frames", 1);
+        }
+        if let Some(skip) = record.skip {
+            self.event(skip_name(skip), 1);
+        }
+        for (total, row) in self.transitions.iter_mut().zip(&record.transitions) {
+            for (total, count) in total.iter_mut().zip(row) {
+                *total += count;
+            }
+        }
+        if let Some(change) = stage_change(updated.stage_before, updated.stage_after) {
+            *self.stages.entry(change).or_default() += 1;
+        }
+        self.frames_most = self.frames_most.max(record.frames);
+        self.words_most = self.words_most.max(words);
+    }
+
+    pub fn print(&self) {
+        let mut transitions = BTreeMap::new();
+        for before in Status::ALL {
+            for after in Status::ALL {
+                let count = self.transitions[before as usize][after as usize];
+                if count > 0 {
+                    transitions.insert(format!("{}->{}", before.name(), after.name()), count);
+                }
+            }
+        }
+        eprintln!("statistics calls:{}", listed(&self.calls));
+        eprintln!(
+            "statistics refusals:{}{}",
+            listed(&self.refusals),
+            listed(&self.stops)
+        );
+        eprintln!("statistics statuses reported:{}", listed(&self.statuses));
+        eprintln!(
+            "statistics frames, status before->after:{}",
+            listed(&transitions)
+        );
+        eprintln!("statistics stages:{}", listed(&self.stages));
+        eprintln!(
+            "statistics events:{} most-frames={} most-words={}",
+            listed(&self.events),
+            self.frames_most,
+            self.words_most
+        );
+        eprintln!(
+            "statistics buffer operations that deviate from the rule:{}",
+            if self.deviations.is_empty() {
+                " none".to_owned()
+            } else {
+                listed(&self.deviations)
+            }
+        );
+    }
+}
