@@ -1,0 +1,240 @@
+-- A sound buffer stays sound under every operation; and what the loop that tests it keeps. Assumes nothing.
+use mathlib.Core.Path.{_≡_, refl, sym, ap, _∙_}
+use mathlib.Core.List.{List, [], _∷_, _++_}
+use mathlib.Core.Bool.{Bool, true, false, not, cond, _&&_, and-false}
+use Prim.Native.Nat.{ℕ, _+_, _-_, _^_, _≤_, _<_}
+use native.Mathlib.Omega.{arith}
+use native.Mathlib.Numerals.{add-one}
+use lib.Dec.{leb, ltb}
+use lib.ListN.{length, take, drop, getD, length-take, drop-of-length-le}
+use lib.Seq.{slice-cons}
+use borrow.Author.Tests.{le-leb, lt-leb, leb-true, lt-ltb, le-ltb}
+use Rattle.timestamp.specs.declared.Timestamp.{Timestamp}
+use Rattle.timestamp.proofs.Basics.{split}
+use mathlib.Core.Logic.{inl, inr}
+use Rattle.command.specs.declared.Entry.{Entry}
+use Rattle.command.specs.declared.CommandBuffer.{CommandBuffer}
+use Rattle.command.specs.Lists.{filterB, allB}
+use Rattle.command.specs.Buffer.{held, blank, laid, inRangeOf, dueOf, laterThan, placedOf, insertedOf, movedOf, takenOf, restOf, emptiedOf}
+use Rattle.command.specs.Ranks.{soundRank}
+use Rattle.command.specs.Soundness.{inOrderAfter, inOrder, orderedIn, smallHandle, soundBuffer}
+use Rattle.command.proofs.Holding.{held-laid, stamp-laid, len-laid, held-len}
+use Rattle.command.proofs.Ranks.{rankIn, in-range-rank, later-rank}
+use Rattle.command.proofs.Ordered.{and-both, both-and, Ordered, ordered-tells, ordered-holds, ordered-filter, ordered-moved, ordered-placed}
+use Rattle.command.proofs.Ledger.{Ways, is-out, is-full, is-taken, insertion-ways, placed-length, moved-held, moved-stamp, moved-len, rest-held, rest-stamp, rest-len, emptied-held, emptied-len}
+
+-- ---- the parts of soundness
+
+pub record IsSound (b : CommandBuffer) : Type 0 where
+  pub few : b .len ≤ 64
+  pub order : Ordered (b .timestamp) 0 (held b)
+  pub small : allB smallHandle (held b) ≡ true
+
+pub sound-tells : (b : CommandBuffer) → soundBuffer b ≡ true → IsSound b
+unfolding soundBuffer
+sound-tells b h =
+    let a = and-both (leb (b .len) 64 && orderedIn (b .timestamp) (held b)) (allB smallHandle (held b)) h in
+    let c = and-both (leb (b .len) 64) (orderedIn (b .timestamp) (held b)) (a .0) in
+    record { few = leb-true (b .len) 64 (c .0); order = ordered-tells (b .timestamp) (held b) (c .1); small = a .1 }
+
+pub sound-holds : (b : CommandBuffer) → IsSound b → soundBuffer b ≡ true
+unfolding soundBuffer
+sound-holds b s = both-and (both-and (le-leb (b .len) 64 (s .few)) (ordered-holds (b .timestamp) (held b) (s .order))) (s .small)
+
+-- no more than 64 are held
+pub sound-few : (b : CommandBuffer) → soundBuffer b ≡ true → length (held b) ≤ 64
+sound-few b h = omega (arith, sound-tells b h .few, held-len b)
+
+-- ---- handles
+
+small-filter : (p : Entry → Bool) (xs : List Entry) → allB smallHandle xs ≡ true → allB smallHandle (filterB p xs) ≡ true
+small-filter p [] h = refl
+small-filter p (x ∷ xs) h =
+    let a = and-both (smallHandle x) (allB smallHandle xs) h in
+    step (p x) (a .0) (small-filter p xs (a .1))
+  where
+    step : (v : Bool) → smallHandle x ≡ true → allB smallHandle (filterB p xs) ≡ true → allB smallHandle (cond v (x ∷ filterB p xs) (filterB p xs)) ≡ true
+    step true e r = both-and e r
+    step false e r = r
+
+small-append : (xs ys : List Entry) → allB smallHandle xs ≡ true → allB smallHandle ys ≡ true → allB smallHandle (xs ++ ys) ≡ true
+small-append [] ys h g = g
+small-append (x ∷ xs) ys h g =
+    let a = and-both (smallHandle x) (allB smallHandle xs) h in
+    both-and (a .0) (small-append xs ys (a .1) g)
+
+small-placed : (m : Timestamp) (e : Entry) (xs : List Entry) → smallHandle e ≡ true → allB smallHandle xs ≡ true → allB smallHandle (placedOf m e xs) ≡ true
+unfolding placedOf
+small-placed m e xs h g = small-append (filterB (λ x. not (laterThan m e x)) xs) (e ∷ filterB (laterThan m e) xs) (small-filter (λ x. not (laterThan m e x)) xs g) (both-and h (small-filter (laterThan m e) xs g))
+
+-- ---- every operation
+
+-- a buffer that is laid out
+laid-sound : (xs : List Entry) (t : Timestamp) → length xs ≤ 64 → Ordered t 0 xs → allB smallHandle xs ≡ true → soundBuffer (laid xs t) ≡ true
+laid-sound xs t n o s =
+    sound-holds (laid xs t)
+    (record {
+      few = rw (len-laid xs t) n;
+      order = rw (held-laid xs t, stamp-laid xs t) o;
+      small = rw (held-laid xs t) s;
+    })
+
+pub new-sound : (t : Timestamp) → soundBuffer (laid [] t) ≡ true
+new-sound t = laid-sound [] t (omega arith) tt refl
+
+pub inserted-sound : (b : CommandBuffer) (e : Entry) → e .handle < 2 ^ 24 → soundBuffer b ≡ true → soundBuffer (insertedOf b e .buffer) ≡ true
+inserted-sound b e h s = go (insertion-ways b e)
+  where
+    go : Ways b e → soundBuffer (insertedOf b e .buffer) ≡ true
+    go (is-out i q) = rw q s
+    go (is-full i f q) = rw q s
+    go (is-taken i f q) =
+        let t = sound-tells b s in
+        rw q (laid-sound (placedOf (b .timestamp) e (held b)) (b .timestamp) (omega (arith, placed-length (b .timestamp) e (held b))) (ordered-placed (b .timestamp) e (held b) i (t .order)) (small-placed (b .timestamp) e (held b) (lt-ltb (e .handle) (2 ^ 24) h) (t .small)))
+
+pub moved-sound : (b : CommandBuffer) (t : Timestamp) → soundBuffer b ≡ true → soundBuffer (movedOf b t .buffer) ≡ true
+moved-sound b t s =
+    let u = sound-tells b s in
+    sound-holds (movedOf b t .buffer)
+    (record {
+      few = moved-len b t (u .few);
+      order = rw (moved-held b t, moved-stamp b t) (ordered-moved (b .timestamp) t 0 0 (held b) (λ y a c d e f. omega arith) (u .order));
+      small = rw (moved-held b t) (small-filter (inRangeOf t) (held b) (u .small));
+    })
+
+pub rest-sound : (b : CommandBuffer) (s : Timestamp) → soundBuffer b ≡ true → soundBuffer (restOf b s) ≡ true
+rest-sound b s h =
+    let u = sound-tells b h in
+    sound-holds (restOf b s)
+    (record {
+      few = rest-len b s (u .few);
+      order = rw (rest-held b s, rest-stamp b s) (ordered-filter (λ e. not (dueOf s e)) (b .timestamp) 0 (held b) (u .order));
+      small = rw (rest-held b s) (small-filter (λ e. not (dueOf s e)) (held b) (u .small));
+    })
+
+pub emptied-sound : (b : CommandBuffer) → soundBuffer b ≡ true → soundBuffer (emptiedOf b) ≡ true
+emptied-sound b h =
+    let u = sound-tells b h in
+    sound-holds (emptiedOf b)
+    (record {
+      few = emptied-len b (u .few);
+      order = rw (emptied-held b) tt;
+      small = rw (emptied-held b) refl;
+    })
+
+-- ---- order and range by themselves
+
+pub new-ordered : (t : Timestamp) → orderedIn t (held (laid [] t)) ≡ true
+new-ordered t = rw (held-laid [] t) (ordered-holds t [] tt)
+
+pub inserted-ordered : (b : CommandBuffer) (e : Entry) → orderedIn (b .timestamp) (held b) ≡ true → orderedIn (b .timestamp) (held (insertedOf b e .buffer)) ≡ true
+inserted-ordered b e s = go (insertion-ways b e)
+  where
+    go : Ways b e → orderedIn (b .timestamp) (held (insertedOf b e .buffer)) ≡ true
+    go (is-out i q) = rw q s
+    go (is-full i f q) = rw q s
+    go (is-taken i f q) = rw (q, held-laid) (ordered-holds (b .timestamp) (placedOf (b .timestamp) e (held b)) (ordered-placed (b .timestamp) e (held b) i (ordered-tells (b .timestamp) (held b) s)))
+
+pub moved-ordered : (b : CommandBuffer) (t : Timestamp) → orderedIn (b .timestamp) (held b) ≡ true → orderedIn t (held (movedOf b t .buffer)) ≡ true
+moved-ordered b t s = rw (moved-held b t) (ordered-holds t (filterB (inRangeOf t) (held b)) (ordered-moved (b .timestamp) t 0 0 (held b) (λ y a c d e f. omega arith) (ordered-tells (b .timestamp) (held b) s)))
+
+pub rest-ordered : (b : CommandBuffer) (s : Timestamp) → orderedIn (b .timestamp) (held b) ≡ true → orderedIn (b .timestamp) (held (restOf b s)) ≡ true
+rest-ordered b s h = rw (rest-held b s) (ordered-holds (b .timestamp) (filterB (λ e. not (dueOf s e)) (held b)) (ordered-filter (λ e. not (dueOf s e)) (b .timestamp) 0 (held b) (ordered-tells (b .timestamp) (held b) h)))
+
+-- what a drain takes is in order too: oldest first
+pub taken-ordered : (b : CommandBuffer) (s : Timestamp) → orderedIn (b .timestamp) (held b) ≡ true → orderedIn (b .timestamp) (takenOf b s) ≡ true
+unfolding takenOf
+taken-ordered b s h = ordered-holds (b .timestamp) (filterB (dueOf s) (held b)) (ordered-filter (dueOf s) (b .timestamp) 0 (held b) (ordered-tells (b .timestamp) (held b) h))
+
+pub emptied-ordered : (b : CommandBuffer) → orderedIn (b .timestamp) (held (emptiedOf b)) ≡ true
+emptied-ordered b = rw (emptied-held b) (ordered-holds (b .timestamp) [] tt)
+
+-- ---- the loop
+
+-- the answer for the entries xs where the last one ranked lo
+pub soundFrom : Timestamp → ℕ → List Entry → Bool
+soundFrom m lo [] = true
+soundFrom m lo (x ∷ xs) = soundRank (rankIn m x) lo (x .handle) && soundFrom m (rankIn m x) xs
+
+-- the four tests of an entry, and the three answers for the rest, in either order
+shuffle : (a b c d o r s : Bool) → ((a && o) && ((b && c) && r)) && (d && s) ≡ (a && b && c && d) && (o && r && s)
+shuffle false b c d o r s = refl
+shuffle true false c d o r s = rw (and-false o)
+shuffle true true false d o r s = rw (and-false o)
+shuffle true true true false o r s = and-false (o && r)
+shuffle true true true true o r s = refl
+
+below-small : (h : ℕ) → ltb h (2 ^ 24) ≡ leb h 16777215
+below-small h = elim (split h (2 ^ 24)) [
+  | inl l ↦ lt-ltb h (2 ^ 24) l ∙ sym (le-leb h 16777215 (omega arith))
+  | inr l ↦ le-ltb h (2 ^ 24) l ∙ sym (lt-leb h 16777215 (omega arith))
+]
+
+double : (t : Bool) → not (not t) ≡ t
+double true = refl
+double false = refl
+
+after-is : (m : Timestamp) (x : Entry) (ys : List Entry) → (inOrderAfter m x ys && allB (inRangeOf m) ys) && allB smallHandle ys ≡ soundFrom m (rankIn m x) ys
+unfolding soundFrom inOrderAfter soundRank inRangeOf
+after-is m x [] = refl
+after-is m x (y ∷ ys) =
+    let k = rankIn m y in
+    rw (later-rank m y x, double (leb (rankIn m x) k), in-range-rank (m .0) (y .stamp .0), below-small (y .handle), ← after-is m y ys)
+    (shuffle (leb (rankIn m x) k) (leb 16385 k) (leb k 49150) (leb (y .handle) 16777215) (inOrderAfter m y ys) (allB (inRangeOf m) ys) (allB smallHandle ys))
+
+entries-are : (m : Timestamp) (xs : List Entry) → orderedIn m xs && allB smallHandle xs ≡ soundFrom m 0 xs
+unfolding soundFrom inOrder soundRank inRangeOf
+entries-are m [] = refl
+entries-are m (x ∷ xs) =
+    let k = rankIn m x in
+    rw (in-range-rank (m .0) (x .stamp .0), below-small (x .handle), ← after-is m x xs, le-leb 0 k (omega arith))
+    (shuffle true (leb 16385 k) (leb k 49150) (leb (x .handle) 16777215) (inOrderAfter m x xs) (allB (inRangeOf m) xs) (allB smallHandle xs))
+
+lead : (t o s : Bool) → t && o && s ≡ t && (o && s)
+lead true o s = refl
+lead false o s = refl
+
+buffer-is : (b : CommandBuffer) → soundBuffer b ≡ leb (b .len) 64 && soundFrom (b .timestamp) 0 (held b)
+unfolding soundBuffer
+buffer-is b = lead (leb (b .len) 64) (orderedIn (b .timestamp) (held b)) (allB smallHandle (held b)) ∙ ap (λ (t : Bool). leb (b .len) 64 && t) (entries-are (b .timestamp) (held b))
+
+-- too many
+pub sound-long : (b : CommandBuffer) → 64 < b .len → false ≡ soundBuffer b
+sound-long b h = sym (buffer-is b ∙ ap (λ (t : Bool). t && soundFrom (b .timestamp) 0 (held b)) (lt-leb (b .len) 64 h))
+
+-- what the loop keeps: the answer for all is the answer for what is left after i of n, the last one of rank lo
+pub record Testing (b : CommandBuffer) (n i lo : ℕ) : Type 0 where
+  pub slots : length (b .entries) ≡ 64
+  pub count : n ≡ b .len
+  pub few : n ≤ 64
+  pub most : i ≤ n
+  pub same : soundBuffer b ≡ soundFrom (b .timestamp) lo (drop i (take n (b .entries)))
+
+pub test-none : (b : CommandBuffer) {n : ℕ} → length (b .entries) ≡ 64 → n ≡ b .len → n ≤ 64 → Testing b n 0 0
+test-none b {n} slots e few =
+    record {
+      slots = slots;
+      count = e;
+      few = few;
+      most = omega arith;
+      same = buffer-is b ∙ ap (λ (t : Bool). t && soundFrom (b .timestamp) 0 (held b)) (le-leb (b .len) 64 (omega arith)) ∙ ap (λ (k : ℕ). soundFrom (b .timestamp) 0 (take k (b .entries))) (sym e);
+    }
+
+module _ {b : CommandBuffer} {n i lo : ℕ} (s : Testing b n i lo) where
+  -- all are passed
+  pub test-end : n ≤ i → true ≡ soundBuffer b
+  unfolding soundFrom
+  test-end h = sym (s .same ∙ ap (soundFrom (b .timestamp) lo) (drop-of-length-le (take n (b .entries)) {i = i} (simp length-take (omega arith))))
+
+  module _ (h : i < n) {k : ℕ} (rank : k ≡ rankIn (b .timestamp) (getD (b .entries) i blank)) where
+    next : soundBuffer b ≡ soundRank k lo (getD (b .entries) i blank .handle) && soundFrom (b .timestamp) k (drop (i + 1) (take n (b .entries)))
+    unfolding soundFrom
+    next = s .same ∙ rw (slice-cons i n (b .entries) blank h (omega (arith, s .slots, s .few)), add-one i, rank)
+
+    -- an entry that fails
+    pub test-no : soundRank k lo (getD (b .entries) i blank .handle) ≡ false → false ≡ soundBuffer b
+    test-no e = sym (next ∙ ap (λ (t : Bool). t && soundFrom (b .timestamp) k (drop (i + 1) (take n (b .entries)))) e)
+
+    -- one that passes
+    pub test-next : soundRank k lo (getD (b .entries) i blank .handle) ≡ true → Testing b n (i + 1) k
+    test-next e = record { slots = s .slots; count = s .count; few = s .few; most = omega arith; same = next ∙ ap (λ (t : Bool). t && soundFrom (b .timestamp) k (drop (i + 1) (take n (b .entries)))) e }

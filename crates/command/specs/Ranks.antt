@@ -1,0 +1,41 @@
+-- Signed differences counted from 0, as the code compares them: document 01's signed difference under "src/timestamp.rs", plus 32,768.
+-- Definitions only. Assumes nothing.
+use Prim.Native.Nat.{ℕ, _+_, _≤_}
+use mathlib.Core.Path.{_≡_}
+use mathlib.Core.Bool.{Bool, not, _&&_}
+use lib.Dec.{leb, ltb}
+use lib.ListN.{length}
+use Rattle.timestamp.specs.declared.Timestamp.{Timestamp}
+use Rattle.timestamp.specs.Timestamps.{differenceOf, sumOf}
+use Rattle.command.specs.declared.Entry.{Entry}
+use Rattle.command.specs.declared.CommandBuffer.{CommandBuffer}
+use Rattle.command.specs.declared.Drained.{Drained}
+use Rattle.command.specs.Lists.{filterB}
+use Rattle.command.specs.Buffer.{held, laid, leaving}
+
+-- the rank of a stamp around m: their signed difference, plus 32,768
+unfoldable pub rankOf : ℕ → ℕ → ℕ
+rankOf m s = sumOf (differenceOf s m) 32768
+
+-- the rank of a stamp around m is lo or more, and below hi
+unfoldable pub spanned : ℕ → ℕ → ℕ → ℕ → Bool
+spanned m lo hi s = leb lo (rankOf m s) && ltb (rankOf m s) hi
+
+-- the same of an entry's stamp
+abbrev pub between : Timestamp → ℕ → ℕ → Entry → Bool
+between m lo hi e = spanned (m .0) lo hi (e .stamp .0)
+
+-- a buffer that is laid out has room for the entries of another that are of such a rank
+pub record HasRoom (a b : CommandBuffer) (m : Timestamp) (lo hi : ℕ) : Type 0 where
+  pub whole : a ≡ laid (held a) (a .timestamp)
+  pub room : length (held a) + length (filterB (between m lo hi) (held b)) ≤ 64
+
+-- the buffer of which exactly the entries of such a rank stay, and how many go
+unfoldable pub siftedOf : CommandBuffer → Timestamp → ℕ → ℕ → Drained
+siftedOf b m lo hi =
+    let gone = filterB (λ e. not (between m lo hi e)) (held b) in
+    record { buffer = leaving gone (filterB (between m lo hi) (held b)) b; count = length gone }
+
+-- an entry of rank k is in range and not before rank lo, and its handle is within 24 bits
+unfoldable pub soundRank : ℕ → ℕ → ℕ → Bool
+soundRank k lo handle = leb lo k && leb 16385 k && leb k 49150 && leb handle 16777215

@@ -1,0 +1,11 @@
+pub mod Words
+pub mod Times
+pub mod Messages
+pub mod Refusals
+pub mod Passes
+pub mod Bounds
+pub mod Counting
+pub mod Others
+pub mod Written
+pub mod Accepted
+pub mod Cases

@@ -1,0 +1,62 @@
+-- A loop that goes from message to message, from the first place to the end, folds over the list of messages: its invariant at the start, over a step and at the end; a pass over one kind; a test by a pass; what a pass keeps. Assumes nothing.
+use mathlib.Core.Path.{_≡_, refl, sym, ap, _∙_}
+use mathlib.Core.Bool.{Bool, true, false, cond, _||_}
+use mathlib.Core.List.{List, [], _∷_}
+use Prim.Native.Nat.{ℕ, _-_, _<_, _≤_}
+use lib.ListN.{length, drop}
+use Rattle.inbox.specs.declared.Message.{Message}
+use Rattle.inbox.specs.declared.Step.{Step}
+use Rattle.inbox.specs.Inbox.{messagesOf, stepOf, some}
+use Rattle.inbox.specs.Passes.{over, only}
+use Rattle.inbox.proofs.Messages.{messages-next, messages-end}
+
+-- the invariant: what is left to take from the place at on, with the state a so far, gives what the whole gives
+pub record Passes {A : Type 0} (g : A → Message → A) (start : A) (words : List ℕ) (at : ℕ) (a : A) : Type 0 where
+  pub whole : over g a (messagesOf (drop at words)) ≡ over g start (messagesOf words)
+
+-- at the first place
+pub pass-start : {A : Type 0} (g : A → Message → A) (a : A) (words : List ℕ) → Passes g a words 0 a
+pass-start g a words = record { whole = refl }
+
+-- from a place to the next: the state takes the message that stands there
+pub pass-step : {A : Type 0} {g : A → Message → A} {start : A} {words : List ℕ} {at : ℕ} {a : A} (s : Step) (b : A)
+    → at < length words → s ≡ stepOf words at → b ≡ g a (s .message) → Passes g start words at a → Passes g start words (s .next) b
+pass-step {A} {g} {start} {words} {at} {a} s b h e p q =
+    record {
+      whole =
+          ap (λ (x : A). over g x (messagesOf (drop (s .next) words))) p
+          ∙ (λ i. over g (g a (e i .message)) (messagesOf (drop (e i .next) words)))
+          ∙ sym (ap (over g a) (messages-next words at h))
+          ∙ q .whole;
+    }
+
+-- at the end the state has taken all
+pub pass-end : {A : Type 0} {g : A → Message → A} {start : A} {words : List ℕ} {at : ℕ} {a : A}
+    → length words ≤ at → Passes g start words at a → a ≡ over g start (messagesOf words)
+pass-end {A} {g} {start} {words} {at} {a} h q = ap (over g a) (sym (messages-end words at h)) ∙ q .whole
+
+-- a pass that leaves the state alone at messages of other kinds is a pass over those of its kind, in their order
+pub over-only : {A : Type 0} (g : A → Message → A) (p : Message → Bool) → ((a : A) (m : Message) → p m ≡ false → g a m ≡ a) → (a : A) (ms : List Message) → over g a ms ≡ over g a (only p ms)
+over-only g p h a [] = refl
+over-only {A} g p h a (m ∷ ms) = step (p m) refl (λ b. over-only g p h b ms)
+  where
+    step : (t : Bool) → p m ≡ t → ((b : A) → over g b ms ≡ over g b (only p ms)) → over g (g a m) ms ≡ over g a (cond t (m ∷ only p ms) (only p ms))
+    step true e rest = rest (g a m)
+    step false e rest = ap (λ (b : A). over g b ms) (h a m e) ∙ rest a
+
+-- whether some message passes a test is found by a pass too
+pub over-some : (p : Message → Bool) (b : Bool) (ms : List Message) → over (λ (a : Bool) (m : Message). a || p m) b ms ≡ b || some p ms
+over-some p true [] = refl
+over-some p false [] = refl
+over-some p true (m ∷ ms) = over-some p true ms
+over-some p false (m ∷ ms) = over-some p (p m) ms
+
+-- P holds of each message of a list
+abbrev pub Each : (Message → Type 0) → List Message → Type 0
+Each P [] = Unit {0}
+Each P (m ∷ ms) = P m × Each P ms
+
+-- what each message keeps a pass keeps
+pub over-keeps : {A : Type 0} {P : Message → Type 0} (K : A → Type 0) (g : A → Message → A) → ((a : A) (m : Message) → P m → K a → K (g a m)) → (a : A) (ms : List Message) → Each P ms → K a → K (over g a ms)
+over-keeps K g h a [] ps k = k
+over-keeps K g h a (m ∷ ms) ps k = over-keeps K g h (g a m) ms (ps .1) (h a m (ps .0) k)

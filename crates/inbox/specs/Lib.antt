@@ -1,0 +1,2 @@
+pub mod Inbox
+pub mod Passes

@@ -1,0 +1,19 @@
+-- `publish_word` meets its contract: the kind and the bit of the side, as numbers. Assumes nothing.
+use borrow.Author.Needs.{needs}
+use native.Mathlib.Omega.{arith}
+use Rattle.tape.specs.Words.{publishWord}
+use Rattle.tape.proofs.publish_word.Statement.{statement}
+use Rattle.tape.proofs.publish_word.Tie as tie
+
+mul-result : tie.Need-mul-result
+mul-result c = search needs
+
+add-result : tie.Need-add-result
+add-result c = search needs
+
+returns : tie.Need-returns
+unfolding publishWord
+returns c = omega arith
+
+pub publish-word-spec : {M : Type 1} → statement M
+publish-word-spec = tie.close (tie.spec mul-result add-result returns)
