@@ -1,11 +1,13 @@
 /* kadwunge.h: what a host in C or C++ calls of the static library libhost.a.
  *
- * Every function takes every value of its arguments: there is nothing that a caller must check first.
+ * Every function takes every value of its arguments: there is nothing that a caller must check first. Of a pointer with a length it
+ * takes that many bytes, which must be there; where a call has two of them, they must not overlap.
  * Link with libhost.a and the C mathematics library (-lm), whose fmod it uses.
  */
 #ifndef KADWUNGE_H
 #define KADWUNGE_H
 
+#include <stddef.h>
 #include <stdint.h>
 
 #ifdef __cplusplus
@@ -30,6 +32,22 @@ int32_t kadwunge_stamp_order(int16_t first, int16_t second);
  *           65538 where the seconds are not finite or lie beyond 2^32 in size.
  */
 int32_t kadwunge_frame_stamp(double seconds, double timestep);
+
+/* The mean of clock samples, its extremes dropped.
+ *
+ * Takes     the samples needed, 1 to 32, and the rate of outliers to be expected, 0 to 1. From these follow the samples to discard at
+ *           each extreme, d = needed * rate / 2, at least 1, rounded up, and the samples to store, needed + 2 * d.
+ *           The samples to store, as bytes: 8 for each, an IEEE 754 binary64 with its low byte first, in the order in which they came.
+ *           A buffer of 8 bytes for the answer.
+ * Returns   0, and the mean in the answer buffer as 8 bytes, low byte first. The samples are sorted, equal ones staying in the order in
+ *           which they came, d of them are dropped at each end, and the others are summed from +0.0 upward and divided by their number.
+ * Refuses   1 where needed or rate is out of range (a NaN is); else
+ *           8 where the sample bytes are not 8 times the samples to store, a sample is not finite or lies beyond 2^33 in size, or the
+ *           answer buffer is not of 8 bytes.
+ *           Then every byte of the answer buffer, of whatever length, is set to 0.
+ */
+uint32_t kadwunge_mean_of_samples(uint32_t needed, double rate, const uint8_t *samples, size_t samples_length, uint8_t *answer,
+                                  size_t answer_length);
 
 #ifdef __cplusplus
 }

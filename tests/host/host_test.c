@@ -51,6 +51,62 @@ static int expected_stamp(double seconds, double timestep)
     return (int)r;
 }
 
+static void to_bytes(uint8_t *at, double x)
+{
+    uint64_t bits;
+    memcpy(&bits, &x, sizeof bits);
+    for (int i = 0; i < 8; i++)
+        at[i] = (uint8_t)(bits >> (8 * i));
+}
+
+static double from_bytes(const uint8_t *at)
+{
+    uint64_t bits = 0;
+    for (int i = 7; i >= 0; i--)
+        bits = bits << 8 | at[i];
+    return of_bits(bits);
+}
+
+/* The samples that a mean discards at each extreme. */
+static size_t to_discard(uint32_t needed, double rate)
+{
+    double half = needed * rate / 2.0;
+    return half > 1.0 ? (size_t)ceil(half) : 1;
+}
+
+static size_t to_store(uint32_t needed, double rate)
+{
+    return needed + 2 * to_discard(needed, rate);
+}
+
+/* The mean: again and again the first of the smallest samples is taken out; those between the extremes are summed. */
+static uint32_t expected_mean(uint32_t needed, double rate, const uint8_t *samples, size_t length, uint8_t *answer, size_t room)
+{
+    double values[64], sum = 0.0;
+    memset(answer, 0, room);
+    if (needed < 1 || needed > 32 || !(rate >= 0.0 && rate <= 1.0))
+        return 1;
+    size_t discard = to_discard(needed, rate), store = to_store(needed, rate);
+    if (length != 8 * store || room != 8)
+        return 8;
+    for (size_t i = 0; i < store; i++) {
+        values[i] = from_bytes(samples + 8 * i);
+        if (!(fabs(values[i]) <= 8589934592.0))
+            return 8;
+    }
+    for (size_t taken = 0; taken < store; taken++) {
+        size_t least = 0;
+        for (size_t i = 1; i < store - taken; i++)
+            if (values[i] < values[least])
+                least = i;
+        if (taken >= discard && taken < store - discard)
+            sum += values[least];
+        memmove(values + least, values + least + 1, (store - taken - least - 1) * sizeof *values);
+    }
+    to_bytes(answer, sum / (double)(store - 2 * discard));
+    return 0;
+}
+
 static uint64_t compared, differences;
 static int failed;
 
@@ -77,6 +133,20 @@ static void check_stamp(double seconds, double timestep)
     compared++;
     if (got != want && differences++ < 5)
         printf("  stamp %a %a: %d, expected %d\n", seconds, timestep, got, want);
+}
+
+/* The answer buffer and 16 bytes on either side of it are filled before the call, and all of them are compared after it. */
+static void check_mean(uint32_t needed, double rate, const uint8_t *samples, size_t length, size_t room)
+{
+    uint8_t got[64], want[64];
+    memset(got, 0xa5, sizeof got);
+    memset(want, 0xa5, sizeof want);
+    uint32_t code = kadwunge_mean_of_samples(needed, rate, samples, length, got + 16, room);
+    uint32_t right = expected_mean(needed, rate, samples, length, want + 16, room);
+    compared++;
+    if ((code != right || memcmp(got, want, sizeof got) != 0) && differences++ < 5)
+        printf("  mean %u %a of %zu bytes, answer of %zu: %u, expected %u\n", (unsigned)needed, rate, length, room, (unsigned)code,
+               (unsigned)right);
 }
 
 /* Every stamp against those that differ from it by 0, a quarter or half of the space, or nearly so; and a grid of all stamps. */
@@ -129,10 +199,96 @@ static void stamp_random(void)
     finish("C frame stamp, random");
 }
 
+/* A sample: of any size within the limit, small whole, of a zero's sign, or tiny. */
+static double some_sample(void)
+{
+    uint64_t r = next_random();
+    switch (r >> 61) {
+    case 0:
+        return (double)(int64_t)(r << 3) / 0x1p30;
+    case 1:
+    case 2:
+        return (double)(r % 9) - 4.0;
+    case 3:
+        return r % 2 ? 0.0 : -0.0;
+    case 4:
+        return of_bits(r % 8 | (r & 0x100) << 55);
+    case 5:
+        return r % 2 ? 0x1p33 : -0x1p33;
+    default:
+        return (double)(int64_t)(r << 3) / 0x1p60;
+    }
+}
+
+static void fill(uint8_t *bytes, size_t count)
+{
+    for (size_t i = 0; i < count; i++)
+        to_bytes(bytes + 8 * i, some_sample());
+}
+
+/* Values that are no samples, and those next to them that are. */
+static const uint64_t edges[] = {
+    0x7ff8000000000000u, 0x7ff8000000000001u, 0x7ff0000000000001u, 0xfff0000000000001u, 0xffffffffffffffffu, 0x7fffffffffffffffu,
+    0x7ff0000000000000u, 0xfff0000000000000u, 0x7fefffffffffffffu, 0xffefffffffffffffu, 0x4200000000000001u, 0xc200000000000001u,
+    0x4200000000000000u, 0xc200000000000000u, 0x41ffffffffffffffu, 0xc1ffffffffffffffu, 0x0000000000000000u, 0x8000000000000000u,
+    0x0000000000000001u, 0x8000000000000001u};
+#define EDGES (sizeof edges / sizeof *edges)
+
+/* Needed and rate at and next to their limits, with as many bytes as are to be stored and up to 9 fewer or more. */
+static void mean_limits(void)
+{
+    static const uint32_t needs[] = {0, 1, 2, 3, 16, 31, 32, 33, 64, 65535, 0x20000001, 0x7fffffff, 0xffffffff};
+    double rates[] = {0.0, -0.0, 1.0, 0.5, 0.0625, 0x1p-1074, nextafter(0.0, -1.0), nextafter(1.0, 2.0), nextafter(1.0, 0.0),
+                      nextafter(0.0625, 1.0), nextafter(0.0625, 0.0), 2.0, -1.0, INFINITY, -INFINITY, of_bits(0x7ff8000000000000u),
+                      of_bits(0xfff8000000000001u), of_bits(0x7ff0000000000001u)};
+    static const size_t rooms[] = {0, 1, 7, 8, 9, 16, 32};
+    uint8_t bytes[8 * 64 + 16];
+    for (size_t i = 0; i < sizeof needs / sizeof *needs; i++)
+        for (size_t j = 0; j < sizeof rates / sizeof *rates; j++) {
+            int passes = needs[i] >= 1 && needs[i] <= 32 && rates[j] >= 0.0 && rates[j] <= 1.0;
+            int whole = passes ? (int)(8 * to_store(needs[i], rates[j])) : 24;
+            for (int length = 0; length <= whole + 9; length += length < whole - 9 ? 1 + whole / 8 : 1)
+                for (size_t k = 0; k < sizeof rooms / sizeof *rooms; k++) {
+                    fill(bytes, sizeof bytes / 8);
+                    check_mean(needs[i], rates[j], bytes, (size_t)length, rooms[k]);
+                }
+        }
+    finish("C mean of samples, limits of needed, rate and lengths");
+    for (uint32_t needed = 1; needed <= 32; needed++)
+        for (int rate = 0; rate <= 4; rate++) {
+            size_t count = to_store(needed, rate / 4.0);
+            for (size_t at = 0; at < count; at++)
+                for (size_t e = 0; e < EDGES; e++) {
+                    fill(bytes, count);
+                    for (int b = 0; b < 8; b++)
+                        bytes[8 * at + b] = (uint8_t)(edges[e] >> (8 * b));
+                    check_mean(needed, rate / 4.0, bytes, 8 * count, 8);
+                }
+        }
+    finish("C mean of samples, a sample at the limits in every place");
+}
+
+static void mean_random(void)
+{
+    uint8_t bytes[8 * 64];
+    for (int i = 0; i < 400000; i++) {
+        uint32_t needed = (uint32_t)(next_random() % 32 + 1);
+        double rate = (double)(next_random() >> 11) / 0x1p53;
+        if (next_random() % 4 == 0)
+            rate = (double)(next_random() % 33) / 32.0;
+        size_t count = to_store(needed, rate);
+        fill(bytes, count);
+        check_mean(needed, rate, bytes, 8 * count, 8);
+    }
+    finish("C mean of samples, random");
+}
+
 int main(void)
 {
     orders();
     stamp_limits();
     stamp_random();
+    mean_limits();
+    mean_random();
     return failed;
 }

@@ -9,6 +9,14 @@ mod ours {
     extern "C" {
         pub fn kadwunge_stamp_order(first: i16, second: i16) -> i32;
         pub fn kadwunge_frame_stamp(seconds: f64, timestep: f64) -> i32;
+        pub fn kadwunge_mean_of_samples(
+            needed: u32,
+            rate: f64,
+            samples: *const u8,
+            samples_length: usize,
+            answer: *mut u8,
+            answer_length: usize,
+        ) -> u32;
     }
 }
 
@@ -20,6 +28,11 @@ fn stamp_order(first: i16, second: i16) -> i32 {
 fn frame_stamp(seconds: f64, timestep: f64) -> i32 {
     // SAFETY: the function takes two numbers and answers every pair of them.
     unsafe { ours::kadwunge_frame_stamp(seconds, timestep) }
+}
+
+fn mean_of_samples(needed: u32, rate: f64, samples: &[u8], answer: &mut [u8]) -> u32 {
+    // SAFETY: each pointer comes with the length of its slice, and the slices do not overlap; the function answers every content.
+    unsafe { ours::kadwunge_mean_of_samples(needed, rate, samples.as_ptr(), samples.len(), answer.as_mut_ptr(), answer.len()) }
 }
 
 fn expected_order(first: i16, second: i16) -> i32 {
@@ -37,12 +50,53 @@ fn expected_stamp(seconds: f64, timestep: f64) -> i32 {
     i32::from(wrapped as i16)
 }
 
+/// The samples that a mean discards at each extreme, and those that it stores.
+fn counts(needed: u32, rate: f64) -> (usize, usize) {
+    let discard = (f64::from(needed) * rate / 2.0).max(1.0).ceil() as usize;
+    (discard, needed as usize + 2 * discard)
+}
+
+/// The mean, or the number of the refusal: sorted ascending, equal samples in the order in which they came.
+fn expected_mean(needed: u32, rate: f64, samples: &[u8], room: usize) -> Result<f64, u32> {
+    if !(1..=32).contains(&needed) || !(0.0..=1.0).contains(&rate) {
+        return Err(1);
+    }
+    let (discard, store) = counts(needed, rate);
+    if samples.len() != 8 * store || room != 8 {
+        return Err(8);
+    }
+    let mut values: Vec<f64> = samples
+        .chunks_exact(8)
+        .map(|chunk| f64::from_le_bytes(chunk.try_into().expect("a chunk has 8 bytes")))
+        .collect();
+    if !values.iter().all(|x| x.abs() <= 8_589_934_592.0) {
+        return Err(8);
+    }
+    values.sort_by(|x, y| x.partial_cmp(y).expect("a sample is finite"));
+    let kept = &values[discard..store - discard];
+    Ok(kept.iter().fold(0.0, |sum, x| sum + x) / kept.len() as f64)
+}
+
 fn check_order(group: &mut Group, a: i16, b: i16) {
     group.check(stamp_order(a, b) == expected_order(a, b), || format!("{a}, {b}"));
 }
 
 fn check_stamp(group: &mut Group, s: f64, t: f64) {
     group.check(frame_stamp(s, t) == expected_stamp(s, t), || format!("{s:e}, {t:e}"));
+}
+
+/// Every byte of the answer buffer is compared, and one past each end of it.
+fn check_mean(group: &mut Group, needed: u32, rate: f64, samples: &[u8], room: usize) {
+    let mut buffer = vec![0xa5; room + 2];
+    let number = mean_of_samples(needed, rate, samples, &mut buffer[1..=room]);
+    let (expected, bytes) = match expected_mean(needed, rate, samples, room) {
+        Ok(mean) => (0, mean.to_le_bytes().to_vec()),
+        Err(refusal) => (refusal, vec![0; room]),
+    };
+    let untouched = buffer[0] == 0xa5 && buffer[room + 1] == 0xa5;
+    group.check(number == expected && buffer[1..=room] == bytes && untouched, || {
+        format!("{needed}, {rate:e}, {samples:x?}, answer of {room}: {number} {buffer:x?}")
+    });
 }
 
 fn orders() -> bool {
@@ -114,8 +168,74 @@ fn stamps() -> bool {
     at_limits.finish() & random.finish()
 }
 
+/// Samples of many sizes, with many equal ones, and zeros of both signs.
+fn some_samples(r: &mut Random, count: usize) -> Vec<u8> {
+    let kind = r.next() % 6;
+    let one = |r: &mut Random| {
+        let n = r.next();
+        match if kind == 5 { n >> 61 } else { kind } {
+            0 => n as i64 as f64 / 2f64.powi(30),
+            1 => n as i64 as f64 / 2f64.powi(60),
+            2 => (n % 7) as f64 - 3.0,
+            3 => [0.0, -0.0][(n % 2) as usize],
+            4 => f64::from_bits(n & 0x8000_0000_0000_0007),
+            _ => [8_589_934_592.0, -8_589_934_592.0, 1e-300, 0.1][(n % 4) as usize],
+        }
+    };
+    (0..count).flat_map(|_| one(r).to_le_bytes()).collect()
+}
+
+fn means() -> bool {
+    let mut r = Random(0xd1b5_4a32_d192_ed03);
+    let mut at_limits = Group::new("Rust mean of samples, limits of needed, rate and lengths");
+    let rates = [0.0, -0.0, 1.0, 0.5, 0.2, 2.0, f64::INFINITY, f64::NAN, -f64::NAN]
+        .map(with_neighbours)
+        .concat();
+    for needed in (0..=34).chain([65_536, 0x2000_0001, i32::MAX as u32, u32::MAX]) {
+        for &rate in &rates {
+            let passes = (1..=32).contains(&needed) && (0.0..=1.0).contains(&rate);
+            let whole = if passes { 8 * counts(needed, rate).1 } else { 24 };
+            for length in [0, 1, 7, 8].into_iter().chain(whole - 9..=whole + 9) {
+                for room in [0, 7, 8, 9, 64] {
+                    let mut samples = some_samples(&mut r, length.div_ceil(8));
+                    samples.truncate(length);
+                    check_mean(&mut at_limits, needed, rate, &samples, room);
+                }
+            }
+        }
+    }
+    let mut edges = Group::new("Rust mean of samples, a sample at the limits in every place");
+    let values = limits();
+    for (needed, rate) in [(1, 0.0), (1, 1.0), (3, 1.0), (8, 0.2), (32, 0.0), (32, 1.0)] {
+        let count = counts(needed, rate).1;
+        for at in 0..count {
+            for &x in &values {
+                let mut samples = some_samples(&mut r, count);
+                samples[8 * at..8 * at + 8].copy_from_slice(&x.to_le_bytes());
+                check_mean(&mut edges, needed, rate, &samples, 8);
+            }
+        }
+    }
+    let mut random = Group::new("Rust mean of samples, random");
+    for _ in 0..400_000 {
+        let needed = (r.next() % 32) as u32 + 1;
+        let rate = if r.next() % 4 == 0 {
+            (r.next() % 33) as f64 / 32.0
+        } else {
+            (r.next() >> 11) as f64 / 2f64.powi(53)
+        };
+        let samples = some_samples(&mut r, counts(needed, rate).1);
+        check_mean(&mut random, needed, rate, &samples, 8);
+        let mut damaged = samples;
+        let byte = (r.next() % damaged.len() as u64) as usize;
+        damaged[byte] = r.next() as u8;
+        check_mean(&mut random, needed, rate, &damaged, 8);
+    }
+    at_limits.finish() & edges.finish() & random.finish()
+}
+
 fn main() {
-    if !(orders() & stamps()) {
+    if !(orders() & stamps() & means()) {
         std::process::exit(1);
     }
 }

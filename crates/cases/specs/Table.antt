@@ -2,12 +2,16 @@
 -- A stamp is given by its signed number; `pos n` is n, and `negsuc n` is -(n + 1). A float `fin s m e` is m * 2 ^ e, negative where s is true.
 use mathlib.Core.Path.{_≡_}
 use mathlib.Core.Bool.{true, false}
+use mathlib.Core.List.{[], _∷_}
 use lib.IntN.{pos, negsuc}
 use lib.Ieee.{Float, fin}
 use Rattle.timestamp.specs.declared.Ordering.the-variants.{Less}
 use Rattle.timestamp.specs.Timestamps.{bitsOf, orderOf, inRange}
-use Rattle.timestamp.specs.Whole.{roundOf}
 use Rattle.timestamp.specs.FloatTimestamps.{fromUnwrapped, stampOf, ceilStampOf}
+use Rattle.settings.specs.declared.TweeningMethod.the-variants.{Nearest}
+use Rattle.settings.specs.Settings.{discardOf, storeOf}
+use Rattle.settings.specs.Tweening.{shapedOf}
+use Rattle.clocksync.specs.Mean.{meanOf}
 
 -- the float 32,768.0
 abbrev pub at-half : Float
@@ -21,7 +25,23 @@ before-half = fin false 65535 (negsuc 0)
 abbrev pub minus-one-and-half : Float
 minus-one-and-half = fin true 3 (negsuc 0)
 
--- the table: the nine facts on stamps and frame counts, and the 0.5 tween
+-- the float 0
+abbrev pub nought : Float
+nought = fin false 0 (pos 0)
+
+-- the float 1
+abbrev pub one : Float
+one = fin false 1 (pos 0)
+
+-- the float 4
+abbrev pub four : Float
+four = fin false 1 (pos 2)
+
+-- the float 9
+abbrev pub nine : Float
+nine = fin false 9 (pos 0)
+
+-- the table: the nine facts on stamps and frame counts, the mean, and the 0.5 tween
 pub record Marked : Type 0 where
   -- 32,767 is less than -32,768
   pub wrap-less : orderOf (bitsOf (pos 32767)) (bitsOf (negsuc 32767)) ≡ Less
@@ -41,5 +61,7 @@ pub record Marked : Type 0 where
   pub saturates : (stampOf (fromUnwrapped before-half) ≡ pos 32767) × (ceilStampOf (fromUnwrapped before-half) ≡ pos 32767)
   -- -1.5 gives -1 both ways
   pub toward-zero : (stampOf (fromUnwrapped minus-one-and-half) ≡ negsuc 0) × (ceilStampOf (fromUnwrapped minus-one-and-half) ≡ negsuc 0)
-  -- a tween weight of 0.5, rounded half away from zero, is 1
-  pub tween : roundOf (fin false 1 (negsuc 0)) ≡ fin false 1 (pos 0)
+  -- needed 1, rate 0: three samples are stored, and the mean of 9, 1, 4 is 4
+  pub mean : (storeOf 1 nought ≡ 3) × (meanOf (discardOf 1 nought) (nine ∷ one ∷ four ∷ []) ≡ four)
+  -- a tween weight of 0.5, shaped by rounding half away from zero, is 1
+  pub tween : shapedOf Nearest (fin false 1 (negsuc 0)) ≡ one

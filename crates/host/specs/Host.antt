@@ -1,17 +1,14 @@
--- What the hosts' calls answer: the last section of document 01. (The order's number is `orderNumber` of timestamp's specs/Timestamps.)
+-- What the hosts' calls on stamps answer: document 01, the last section, "Forms the Rust has and Rattle lacks". (The order's number is `orderNumber` of timestamp's specs/Timestamps.)
 -- Definitions only. Assumes nothing.
-use mathlib.Core.Bool.{Bool, true, false, cond, _&&_}
-use lib.IntN.{ℤ, pos, negsuc}
-use lib.Ieee.{Float, fin, le}
+use mathlib.Core.Bool.{Bool, true, false, cond}
+use lib.IntN.{ℤ, pos}
+use lib.Ieee.{Float, fin}
 use Rattle.timestamp.specs.FloatTimestamps.{fromSeconds, stampOf}
-
--- x is from lo to hi: false for a NaN
-abbrev pub between : Float → Float → Float → Bool
-between lo hi x = le lo x && le x hi
+use Rattle.settings.specs.Settings.{between, least64, one64}
 
 -- a timestep is in the settings' range, 1/1024 to 1 second
 abbrev pub timestepOk : Float → Bool
-timestepOk t = between (fin false 1 (negsuc 9)) (fin false 1 (pos 0)) t
+timestepOk t = between least64 one64 t
 
 -- seconds are finite and not beyond 2 ^ 32
 abbrev pub secondsOk : Float → Bool

@@ -99,7 +99,7 @@ fn weight_word(part: u64) -> u32
 }
 
 // The bits of a float; those of the quiet NaN where it is no number.
-fn bits_of(x: f64) -> u64
+pub fn bits_of(x: f64) -> u64
     ensures { λ r. ⌜ r ≡ toBits binary64 x ⌝ }
 {
     if x != x {

@@ -3,7 +3,7 @@ use borrow.Author.Needs.{needs}
 use mathlib.Core.Path.{_≡_, sym, ap, _∙_, subst}
 use mathlib.Core.Bool.{true, false, cond}
 use lib.IntN.{ℤ, pos}
-use lib.Ieee.{Float}
+use lib.Ieee.{Float, ofBits, neg}
 use lib.Ieee.Casts.{toSigned-in}
 use mir.Syntax.{w16, w32}
 use mir.Val.{SFits, toZ, ofZ}
@@ -15,11 +15,11 @@ use Rattle.host.specs.Host.{timestepOk, secondsOk, frameStampOf}
 use Rattle.host.proofs.kadwunge_frame_stamp.Statement.{statement}
 use Rattle.host.proofs.kadwunge_frame_stamp.Tie as tie
 
-timestep-ok-requires : tie.Need-timestep-ok-requires
-timestep-ok-requires c κs = search needs
+within-requires : tie.Need-within-requires
+within-requires c κs = search needs
 
-seconds-ok-requires : tie.Need-seconds-ok-requires
-seconds-ok-requires c κs = search needs
+within-requires-2 : tie.Need-within-requires-2
+within-requires-2 c κs = search needs
 
 from-seconds-requires : tie.Need-from-seconds-requires
 from-seconds-requires c κs = search needs
@@ -60,23 +60,26 @@ stamp c =
     ∙ signed-bits (stampOf y) (record { sfits = toSigned-in 15 y })
 
 returns : tie.Need-returns
+unfolding ofBits neg
 returns c =
     let k = c .before .before in
     stamp c
-    ∙ in-both _ _ (sym (k .before .before .before .timestep-ok .ensures) ∙ k .before .before .if1 .taken) (sym (k .before .seconds-ok .ensures) ∙ k .if2 .taken)
+    ∙ in-both _ _ (sym (k .before .before .before .within .ensures) ∙ k .before .before .if1 .taken) (sym (k .before .within2 .ensures) ∙ k .if2 .taken)
 
 returns-2 : tie.Need-returns-2
-returns-2 c = off-seconds _ _ (sym (c .before .before .before .timestep-ok .ensures) ∙ c .before .before .if1 .taken) (sym (c .before .seconds-ok .ensures) ∙ c .if2 .left)
+unfolding ofBits neg
+returns-2 c = off-seconds _ _ (sym (c .before .before .before .within .ensures) ∙ c .before .before .if1 .taken) (sym (c .before .within2 .ensures) ∙ c .if2 .left)
 
 returns-3 : tie.Need-returns-3
-returns-3 c = off-timestep _ _ (sym (c .before .timestep-ok .ensures) ∙ c .if1 .left)
+unfolding ofBits neg
+returns-3 c = off-timestep _ _ (sym (c .before .within .ensures) ∙ c .if1 .left)
 
 pub kadwunge-frame-stamp-spec : {M : Type 1} → statement M
 kadwunge-frame-stamp-spec =
     tie.close
     (tie.spec
-    timestep-ok-requires
-    seconds-ok-requires
+    within-requires
+    within-requires-2
     from-seconds-requires
     value-requires
     cast-result

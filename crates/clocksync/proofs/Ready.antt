@@ -1,0 +1,157 @@
+-- Offset and client number: a clock that is ready stays ready, and the update that gives the first offset also has the client's number. Assumes nothing.
+use mathlib.Core.Path.{_≡_, refl, sym, ap, _∙_}
+use mathlib.Core.List.{List, [], _∷_, _++_}
+use mathlib.Core.Bool.{Bool, true, false, cond, false≢true}
+use lib.Dec.{ltb}
+use lib.ListN.{length, drop}
+use lib.Ieee.{Float, lt, binary64, add}
+use Rattle.settings.specs.declared.Settings.{Settings}
+use Rattle.settings.specs.Settings.{samplesToDiscardOf, samplesToStoreOf}
+use Rattle.clocksync.specs.Mean.{nothing64, meanOf}
+use Rattle.clocksync.specs.Clock.{heldOf, timedOf, tickedOf, ClockMessage, listenOf, heardOf, heardAllOf, deviatesOf, syncedOf, sampledOf, filledOf, addedOf, namedOf, sampleOf, settledOf, clockOf, bothOf, readyOf}
+use Rattle.clocksync.specs.declared.Offset.{Offset}
+use Rattle.clocksync.specs.declared.Offset.the-variants.{NoOffset, Seconds}
+use Rattle.clocksync.specs.declared.ClientId.{ClientId}
+use Rattle.clocksync.specs.declared.ClientId.the-variants.{NoId, Id}
+use Rattle.clocksync.specs.declared.Clock.{Clock}
+use Rattle.clocksync.specs.declared.Ticked.{Ticked}
+use Rattle.clocksync.specs.declared.Heard.{Heard}
+
+-- there is an offset
+abbrev pub hasOffset : Offset → Bool
+hasOffset NoOffset = false
+hasOffset (Seconds x) = true
+
+-- there is a client number
+abbrev pub hasId : ClientId → Bool
+hasId NoId = false
+hasId (Id n) = true
+
+-- both, as `readyOf` has it
+both-ready : (o : Offset) (i : ClientId) → hasOffset o ≡ true → hasId i ≡ true → bothOf o i ≡ true
+both-ready NoOffset i h k = absurd (false≢true h)
+both-ready (Seconds x) NoId h k = absurd (false≢true k)
+both-ready (Seconds x) (Id n) h k = refl
+
+ready-offset : (o : Offset) (i : ClientId) → bothOf o i ≡ true → hasOffset o ≡ true
+ready-offset NoOffset i h = h
+ready-offset (Seconds x) i h = refl
+
+ready-id : (o : Offset) (i : ClientId) → bothOf o i ≡ true → hasId i ≡ true
+ready-id NoOffset i h = absurd (false≢true h)
+ready-id (Seconds x) NoId h = h
+ready-id (Seconds x) (Id n) h = refl
+
+-- ---- through the messages
+
+-- a number is kept, and a message brings one
+heard-keeps : (seconds : Float) (h : Heard) (ms : List ClockMessage) → hasId (h .id) ≡ true → hasId (heardAllOf seconds h ms .id) ≡ true
+unfolding heardAllOf heardOf
+heard-keeps seconds h [] k = k
+heard-keeps seconds h (m ∷ ms) k = heard-keeps seconds (heardOf seconds h (m .number) (m .send) (m .server)) ms (one (h .id) k)
+  where
+    one : (i : ClientId) → hasId i ≡ true → hasId (heardOf seconds (record { id = i; offset = h .offset; other = h .other }) (m .number) (m .send) (m .server) .id) ≡ true
+    one NoId k = refl
+    one (Id n) k = refl
+
+heard-brings : (seconds : Float) (h : Heard) (ms : List ClockMessage) → h .offset ≡ NoOffset → hasOffset (heardAllOf seconds h ms .offset) ≡ true → hasId (heardAllOf seconds h ms .id) ≡ true
+unfolding heardAllOf heardOf
+heard-brings seconds h [] e k = absurd (false≢true (sym (ap hasOffset e) ∙ k))
+heard-brings seconds h (m ∷ ms) e k = heard-keeps seconds (heardOf seconds h (m .number) (m .send) (m .server)) ms (one (h .id))
+  where
+    one : (i : ClientId) → hasId (heardOf seconds (record { id = i; offset = h .offset; other = h .other }) (m .number) (m .send) (m .server) .id) ≡ true
+    one NoId = refl
+    one (Id n) = refl
+
+-- ---- through a sample
+
+synced-keeps : (o : Offset) (mean deviation : Float) → hasOffset (syncedOf o mean deviation) ≡ true
+synced-keeps NoOffset mean deviation = refl
+synced-keeps (Seconds x) mean deviation = go (deviatesOf mean x deviation)
+  where
+    go : (b : Bool) → hasOffset (cond b (Seconds mean) (Seconds x)) ≡ true
+    go true = refl
+    go false = refl
+
+-- an offset is kept, and the number is the one that was heard
+added-keeps : (s : Settings) (c : Clock) (x : Float) → hasOffset (c .offset) ≡ true → hasOffset (addedOf s c x .offset) ≡ true
+unfolding filledOf
+added-keeps s c x h = go (ltb (length (heldOf c ++ (x ∷ []))) (samplesToStoreOf s))
+  where
+    go : (b : Bool) → hasOffset (cond {A = Clock} b (sampledOf c (c .offset) (heldOf c ++ (x ∷ []))) (sampledOf c (syncedOf (c .offset) (meanOf (samplesToDiscardOf s) (heldOf c ++ (x ∷ []))) (s .deviation)) (drop 1 (heldOf c ++ (x ∷ [])))) .offset) ≡ true
+    go true = h
+    go false = synced-keeps (c .offset) (meanOf (samplesToDiscardOf s) (heldOf c ++ (x ∷ []))) (s .deviation)
+
+added-id : (s : Settings) (c : Clock) (x : Float) → addedOf s c x .id ≡ c .id
+unfolding filledOf
+added-id s c x = go (ltb (length (heldOf c ++ (x ∷ []))) (samplesToStoreOf s))
+  where
+    go : (b : Bool) → cond {A = Clock} b (sampledOf c (c .offset) (heldOf c ++ (x ∷ []))) (sampledOf c (syncedOf (c .offset) (meanOf (samplesToDiscardOf s) (heldOf c ++ (x ∷ []))) (s .deviation)) (drop 1 (heldOf c ++ (x ∷ [])))) .id ≡ c .id
+    go true = refl
+    go false = refl
+
+settled-id : (s : Settings) (c : Clock) (h : Heard) → settledOf s c h .id ≡ h .id
+unfolding settledOf
+settled-id s c h = go (h .offset)
+  where
+    go : (o : Offset) → sampleOf s (namedOf c (h .id)) o .id ≡ h .id
+    go NoOffset = refl
+    go (Seconds x) = added-id s (namedOf c (h .id)) x
+
+settled-keeps : (s : Settings) (c : Clock) (h : Heard) → hasOffset (c .offset) ≡ true → hasOffset (settledOf s c h .offset) ≡ true
+unfolding settledOf
+settled-keeps s c h k = go (h .offset)
+  where
+    go : (o : Offset) → hasOffset (sampleOf s (namedOf c (h .id)) o .offset) ≡ true
+    go NoOffset = k
+    go (Seconds x) = added-keeps s (namedOf c (h .id)) x k
+
+-- without a message no offset appears
+settled-none : (s : Settings) (c : Clock) (h : Heard) → c .offset ≡ NoOffset → hasOffset (settledOf s c h .offset) ≡ true → hasOffset (h .offset) ≡ true
+unfolding settledOf
+settled-none s c h e = go (h .offset)
+  where
+    go : (o : Offset) → hasOffset (sampleOf s (namedOf c (h .id)) o .offset) ≡ true → hasOffset o ≡ true
+    go NoOffset k = absurd (false≢true (sym (ap hasOffset e) ∙ k))
+    go (Seconds x) k = refl
+
+-- ---- through the tick
+
+module _ (c : Clock) (period delta : Float) where
+  ticked-offset : tickedOf c period delta .clock .offset ≡ c .offset
+  unfolding tickedOf
+  ticked-offset = go (lt period (add binary64 (c .timer) delta)) (add binary64 (c .timer) delta)
+    where
+      go : (b : Bool) (t : Float) → cond {A = Ticked} b (record { clock = timedOf c nothing64; request = true }) (record { clock = timedOf c t; request = false }) .clock .offset ≡ c .offset
+      go true t = refl
+      go false t = refl
+
+  ticked-id : tickedOf c period delta .clock .id ≡ c .id
+  unfolding tickedOf
+  ticked-id = go (lt period (add binary64 (c .timer) delta)) (add binary64 (c .timer) delta)
+    where
+      go : (b : Bool) (t : Float) → cond {A = Ticked} b (record { clock = timedOf c nothing64; request = true }) (record { clock = timedOf c t; request = false }) .clock .id ≡ c .id
+      go true t = refl
+      go false t = refl
+
+-- ---- the laws
+
+module _ (s : Settings) (c : Clock) (delta seconds : Float) (ms : List ClockMessage) where
+  -- a clock that is ready is ready after an update
+  pub ready-stays : readyOf c ≡ true → readyOf (clockOf s c delta seconds ms .clock) ≡ true
+  unfolding clockOf
+  ready-stays h =
+      let t = tickedOf c (s .period) delta .clock in
+      let g = heardAllOf seconds (listenOf t) ms in
+      both-ready (settledOf s t g .offset) (settledOf s t g .id)
+      (settled-keeps s t g (ap hasOffset (ticked-offset c (s .period) delta) ∙ ready-offset (c .offset) (c .id) h))
+      (ap hasId (settled-id s t g) ∙ heard-keeps seconds (listenOf t) ms (ap hasId (ticked-id c (s .period) delta) ∙ ready-id (c .offset) (c .id) h))
+
+  -- an update that gives a clock its first offset leaves it ready
+  pub first-offset-ready : c .offset ≡ NoOffset → hasOffset (clockOf s c delta seconds ms .clock .offset) ≡ true → readyOf (clockOf s c delta seconds ms .clock) ≡ true
+  unfolding clockOf
+  first-offset-ready e h =
+      let t = tickedOf c (s .period) delta .clock in
+      let g = heardAllOf seconds (listenOf t) ms in
+      both-ready (settledOf s t g .offset) (settledOf s t g .id) h
+      (ap hasId (settled-id s t g) ∙ heard-brings seconds (listenOf t) ms refl (settled-none s t g (ticked-offset c (s .period) delta ∙ e) h))

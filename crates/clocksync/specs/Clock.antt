@@ -1,0 +1,181 @@
+-- Document 01, "src/clocksync.rs", and from "Sound" what it says of the clock: the request timer, the clock messages of an inbox, and the one sample that an update takes from the last of them.
+-- Definitions only. Assumes nothing.
+use Prim.Native.Nat.{ℕ, _-_, min}
+use mathlib.Core.Bool.{Bool, true, false, cond, not, _&&_, _||_}
+use mathlib.Core.List.{List, [], _∷_, _++_}
+use lib.Dec.{leb, ltb, eqb}
+use lib.IntN.{pos}
+use lib.ListN.{length, take, drop, replicate}
+use lib.Ieee.{Float, nan, inf, fin, binary64, lt, le, add, sub}
+use lib.Ieee.Scale.{finite}
+use Rattle.settings.specs.declared.Settings.{Settings}
+use Rattle.settings.specs.Settings.{between, hour64, samplesToDiscardOf, samplesToStoreOf}
+use Rattle.clocksync.specs.Offset.{offsetOf}
+use Rattle.clocksync.specs.Mean.{nothing64, meanOf}
+use Rattle.clocksync.specs.declared.Offset.{Offset}
+use Rattle.clocksync.specs.declared.Offset.the-variants.{NoOffset, Seconds}
+use Rattle.clocksync.specs.declared.ClientId.{ClientId}
+use Rattle.clocksync.specs.declared.ClientId.the-variants.{NoId, Id}
+use Rattle.clocksync.specs.declared.ServerTime.{ServerTime}
+use Rattle.clocksync.specs.declared.ServerTime.the-variants.{NoTime, At}
+use Rattle.clocksync.specs.declared.Clock.{Clock}
+use Rattle.clocksync.specs.declared.Ticked.{Ticked}
+use Rattle.clocksync.specs.declared.Heard.{Heard}
+
+-- ---- the samples of a clock
+
+-- samples in the 64 slots of a clock, the slots after them at +0.0
+abbrev pub laidOut : List Float → List Float
+laidOut xs = xs ++ replicate (64 - length xs) nothing64
+
+-- the samples that a clock holds, oldest first; of a clock that is not sound no more than 63 count
+unfoldable pub heldOf : Clock → List Float
+heldOf c = take (min (c .len) 63) (c .samples)
+
+-- a clock that has heard nothing
+unfoldable pub newOf : Clock
+newOf = record { offset = NoOffset; samples = laidOut []; len = 0; timer = nothing64; id = NoId }
+
+-- ---- the timer
+
+-- the clock with another timer
+abbrev pub timedOf : Clock → Float → Clock
+timedOf c t = record { offset = c .offset; samples = c .samples; len = c .len; timer = t; id = c .id }
+
+-- the timer takes the delta; above the period a request goes out and the timer is 0
+unfoldable pub tickedOf : Clock → Float → Float → Ticked
+tickedOf c period delta =
+    let t = add binary64 (c .timer) delta in
+    cond (lt period t) (record { clock = timedOf c nothing64; request = true }) (record { clock = timedOf c t; request = false })
+
+-- ---- clock messages
+
+-- a clock message: the client's number, its send time and the server's time
+pub record ClockMessage : Type 0 where
+  pub number : ℕ
+  pub send : Float
+  pub server : Float
+
+-- what is known before the first message of an inbox
+abbrev pub listenOf : Clock → Heard
+listenOf c = record { id = c .id; offset = NoOffset; other = false }
+
+-- a message's number is another than the client's
+abbrev pub otherOf : ClientId → ℕ → Bool
+otherOf NoId n = false
+otherOf (Id m) n = not (eqb m n)
+
+-- the client's number after a message: the first that came
+abbrev pub firstOf : ClientId → ℕ → ClientId
+firstOf NoId n = Id n
+firstOf (Id m) n = Id m
+
+-- what is known after one message more, received at `seconds`: its offset is the latest
+unfoldable pub heardOf : Float → Heard → ℕ → Float → Float → Heard
+heardOf seconds h number send server =
+    record { id = firstOf (h .id) number; offset = Seconds (offsetOf send server seconds); other = h .other || otherOf (h .id) number }
+
+-- what is known after the clock messages of an inbox, in their order
+unfoldable pub heardAllOf : Float → Heard → List ClockMessage → Heard
+heardAllOf seconds h [] = h
+heardAllOf seconds h (x ∷ xs) = heardAllOf seconds (heardOf seconds h (x .number) (x .send) (x .server)) xs
+
+-- ---- one sample more
+
+-- the size of a number, its sign left aside
+abbrev pub sizeOf : Float → Float
+sizeOf nan = nan
+sizeOf (inf s) = inf false
+sizeOf (fin s m e) = fin false m e
+
+-- the mean is further from the offset than the deviation
+unfoldable pub deviatesOf : Float → Float → Float → Bool
+deviatesOf mean offset deviation = lt deviation (sizeOf (sub binary64 mean offset))
+
+-- the offset after a mean was taken: the mean at the initial sync and where it deviates, else the old one
+abbrev pub syncedOf : Offset → Float → Float → Offset
+syncedOf NoOffset mean deviation = Seconds mean
+syncedOf (Seconds x) mean deviation = cond (deviatesOf mean x deviation) (Seconds mean) (Seconds x)
+
+-- the clock with the samples xs and an offset
+abbrev pub sampledOf : Clock → Offset → List Float → Clock
+sampledOf c o xs = record { offset = o; samples = laidOut xs; len = length xs; timer = c .timer; id = c .id }
+
+-- the clock whose samples have become xs: fewer than are stored stay; else their mean is taken and the oldest goes
+unfoldable pub filledOf : Settings → Clock → List Float → Clock
+filledOf s c xs =
+    cond (ltb (length xs) (samplesToStoreOf s))
+    (sampledOf c (c .offset) xs)
+    (sampledOf c (syncedOf (c .offset) (meanOf (samplesToDiscardOf s) xs) (s .deviation)) (drop 1 xs))
+
+-- the clock after one sample more
+abbrev pub addedOf : Settings → Clock → Float → Clock
+addedOf s c x = filledOf s c (heldOf c ++ (x ∷ []))
+
+-- the clock with another client number
+abbrev pub namedOf : Clock → ClientId → Clock
+namedOf c i = record { offset = c .offset; samples = c .samples; len = c .len; timer = c .timer; id = i }
+
+-- the clock after one sample more, if there is one
+abbrev pub sampleOf : Settings → Clock → Offset → Clock
+sampleOf s c NoOffset = c
+sampleOf s c (Seconds x) = addedOf s c x
+
+-- the clock after what the clock messages told
+unfoldable pub settledOf : Settings → Clock → Heard → Clock
+settledOf s c h = sampleOf s (namedOf c (h .id)) (h .offset)
+
+-- ---- the clock in an update
+
+-- what an update does with the clock: the clock after it, whether a request goes out, and whether a message named another client (refusal 22)
+pub record ClockStep : Type 0 where
+  pub clock : Clock
+  pub request : Bool
+  pub other : Bool
+
+-- the timer first, then the messages, then one sample from the last of them
+unfoldable pub clockOf : Settings → Clock → Float → Float → List ClockMessage → ClockStep
+clockOf s c delta seconds messages =
+    let t = tickedOf c (s .period) delta in
+    let h = heardAllOf seconds (listenOf (t .clock)) messages in
+    record { clock = settledOf s (t .clock) h; request = t .request; other = h .other }
+
+-- the server's time at a time of the client
+abbrev pub serverSecondsOf : Offset → Float → ServerTime
+serverSecondsOf NoOffset seconds = NoTime
+serverSecondsOf (Seconds x) seconds = At (add binary64 seconds x)
+
+-- there is an offset, and the client's number is known
+abbrev pub bothOf : Offset → ClientId → Bool
+bothOf NoOffset i = false
+bothOf (Seconds x) NoId = false
+bothOf (Seconds x) (Id n) = true
+
+-- the clock is synced
+abbrev pub readyOf : Clock → Bool
+readyOf c = bothOf (c .offset) (c .id)
+
+-- ---- "Sound"
+
+-- finite and within 2^33
+abbrev pub sampleOk : Float → Bool
+sampleOk x = between (fin true 1 (pos 33)) (fin false 1 (pos 33)) x
+
+-- every sample is
+unfoldable pub samplesOk : List Float → Bool
+samplesOk [] = true
+samplesOk (x ∷ xs) = sampleOk x && samplesOk xs
+
+-- the request timer is finite and at most 3,600
+unfoldable pub timerOk : Float → Bool
+timerOk t = finite t && le t hour64
+
+-- an offset, if there is one, is finite and within 2^33
+abbrev pub offsetOk : Offset → Bool
+offsetOk NoOffset = true
+offsetOk (Seconds x) = sampleOk x
+
+-- samples fewer than stored, and no more than a clock can hold, and within 2^33; request timer finite and at most 3,600; offset within 2^33
+unfoldable pub soundClock : Settings → Clock → Bool
+soundClock s c =
+    ltb (c .len) (samplesToStoreOf s) && leb (c .len) 63 && samplesOk (take (c .len) (c .samples)) && timerOk (c .timer) && offsetOk (c .offset)

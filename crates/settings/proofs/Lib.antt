@@ -1,0 +1,5 @@
+pub mod Tests
+pub mod Lag
+pub mod Discard
+pub mod Few
+pub mod Limits

@@ -1,0 +1,2 @@
+pub mod Tweening
+pub mod Settings
