@@ -1,0 +1,4 @@
+pub mod Keeping
+pub mod Ending
+pub mod Running
+pub mod Updating

@@ -1,0 +1,201 @@
+-- The stepping of the worlds by the clock: document 01, "src/fixed_timestepper.rs", with refusals 25 to 27. Every float operation is the Rust's, in its order.
+-- Definitions only. Assumes nothing.
+use Prim.Native.Nat.{ℕ, zero, suc, _+_}
+use mathlib.Core.Bool.{Bool, true, false, cond}
+use mathlib.Core.List.{List, [], _∷_, _++_}
+use mathlib.Core.Path.{_≡_}
+use lib.IntN.{pos, negsuc}
+use lib.Ieee.{Float, fin, binary64, add, sub, mul, neg, lt, le}
+use Rattle.timestamp.specs.declared.Timestamp.{Timestamp}
+use Rattle.timestamp.specs.Timestamps.{bitsOf}
+use Rattle.timestamp.specs.FloatTimestamps.{fromSeconds, floatDifferenceOf, asSeconds, floatOf, ceilStampOf}
+use Rattle.tape.specs.Tape.{Puts}
+use Rattle.settings.specs.declared.Settings.{Settings}
+use Rattle.settings.specs.Settings.{blendProgressOf, lagFrameCountOf}
+use Rattle.settings.specs.Tweening.{shapedOf}
+use Rattle.client.specs.declared.Scene.{Scene}
+use Rattle.client.specs.Sides.{oldStampOf, withWorlds, Played, still, andThen}
+use Rattle.client.specs.Frame.{frameOf, frameStops}
+use Rattle.client.specs.Skip.{skippedOf, tweenOf, weightOk, postUpdateOf}
+use Rattle.fixed_timestepper.specs.declared.Stop.{Stop}
+use Rattle.fixed_timestepper.specs.declared.Stop.the-variants.{Done, TooManyFrames, StatusStops, WeightStops}
+use Rattle.fixed_timestepper.specs.declared.Advanced.{Advanced}
+
+-- +0.0
+abbrev pub nought : Float
+nought = fin false 0 (pos 0)
+
+-- the size of a number
+abbrev pub absOf : Float → Float
+absOf x = cond (lt x nought) (neg x) x
+
+-- a number, or +0.0 where it is not above 0
+abbrev pub atLeastZero : Float → Float
+atLeastZero x = cond (lt nought x) x nought
+
+-- the logical timestamp: the old stamp less the overshoot in frames
+unfoldable pub logicalOf : Timestamp → Float → Float → Float
+logicalOf stamp overshoot timestep = floatDifferenceOf (floatOf (stamp .0)) (fromSeconds overshoot timestep)
+
+-- the drift in seconds: the logical timestamp less the target, which is the server's time in frames
+unfoldable pub driftOf : Timestamp → Float → Float → Float → Float
+driftOf stamp overshoot timestep server = asSeconds (floatDifferenceOf (logicalOf stamp overshoot timestep) (fromSeconds server timestep)) timestep
+
+-- a drift below half a timestep is not compensated
+abbrev pub beyondDeadband : Float → Float → Float
+beyondDeadband drift timestep = cond (lt (absOf drift) (mul binary64 timestep (fin false 1 (negsuc 0)))) nought drift
+
+-- the delta less the drift before the update, not negative
+unfoldable pub uncappedOf : Timestamp → Float → Float → Float → Float → Float
+uncappedOf stamp overshoot delta server timestep = atLeastZero (sub binary64 delta (beyondDeadband (driftOf stamp overshoot timestep (sub binary64 server delta)) timestep))
+
+-- the seconds that an update plays: capped by the maximum
+unfoldable pub compensatedOf : Timestamp → Float → Float → Float → Settings → Float
+compensatedOf stamp overshoot delta server s =
+    cond (lt (s .max) (uncappedOf stamp overshoot delta server (s .timestep))) (s .max) (uncappedOf stamp overshoot delta server (s .timestep))
+
+-- the paper's number of each way to end
+abbrev pub stopNumber : Stop → ℕ
+stopNumber Done = 0
+stopNumber TooManyFrames = 25
+stopNumber StatusStops = 26
+stopNumber WeightStops = 27
+
+-- ---- the frames of an update
+
+-- what happens to worlds, in its order: a frame of the scene before it, or a skip from the scene before it to a stamp
+pub data Event : Type 0 where
+  FrameFrom : (before : Scene) → Event
+  SkipFrom : (before : Scene) (stamp : Timestamp) → Event
+
+-- frames that were played: the scene and the words, the overshoot after them, how many they are, why they ended, and the trace of what happened
+pub record Run : Type 0 where
+  pub played : Played
+  pub overshoot : Float
+  pub frames : ℕ
+  pub stop : Stop
+  pub trace : List Event
+
+-- no frame more
+abbrev pub ended : Stop → Scene → Float → Run
+ended stop s o = record { played = still s; overshoot = o; frames = 0; stop = stop; trace = [] }
+
+-- a frame of the scene s, and then a run from the scene after it
+unfoldable pub framed : Scene → Played → Run → Run
+framed s p r =
+    record {
+      played = record { scene = r .played .scene; words = p .words ++ r .played .words };
+      overshoot = r .overshoot;
+      frames = 1 + r .frames;
+      stop = r .stop;
+      trace = FrameFrom s ∷ r .trace;
+    }
+
+-- a run goes on from a scene, where the frame did not stop it
+abbrev pub goesOn : Bool → Scene → Float → Run → Run
+goesOn true s o r = ended StatusStops s o
+goesOn false s o r = r
+
+-- a run while the overshoot is negative
+abbrev pub whileBelow : Bool → Scene → Float → Run → Run
+whileBelow true s o r = r
+whileBelow false s o r = ended Done s o
+
+-- frames while the overshoot is negative, with so many left before refusal 25: each adds the timestep, and a frame that the Rust stops in is the last
+unfoldable pub runOf : ℕ → Settings → Scene → Float → Run
+runOf zero c s o = whileBelow (lt o nought) s o (ended TooManyFrames s o)
+runOf (suc n) c s o =
+    whileBelow (lt o nought) s o
+    (framed s (frameOf (c .m) (blendProgressOf c) s)
+    (goesOn (frameStops (c .m) (blendProgressOf c) s) (frameOf (c .m) (blendProgressOf c) s .scene) (add binary64 o (c .timestep))
+    (runOf n c (frameOf (c .m) (blendProgressOf c) s .scene) (add binary64 o (c .timestep)))))
+
+-- ---- the skip
+
+-- the stamp that a skip sets: the server's time in frames, rounded up
+unfoldable pub correctedOf : Float → Float → Timestamp
+correctedOf server timestep = record { 0 = bitsOf (ceilStampOf (fromSeconds server timestep)) }
+
+-- the overshoot after it: that stamp less the server's time in frames, in seconds
+unfoldable pub correctedOvershoot : Float → Float → Float
+correctedOvershoot server timestep = asSeconds (floatDifferenceOf (floatOf (correctedOf server timestep .0)) (fromSeconds server timestep)) timestep
+
+-- there is a skip where the drift is at or beyond the threshold
+unfoldable pub skipsOf : Timestamp → Float → Float → Settings → Bool
+skipsOf stamp overshoot server c = le (c .skip) (absOf (driftOf stamp overshoot (c .timestep) server))
+
+-- a run, and then a skip to the server's time
+unfoldable pub skipped : Run → Float → Settings → Run
+skipped r server c =
+    record {
+      played = andThen (r .played) (λ s. skippedOf s (correctedOf server (c .timestep)));
+      overshoot = correctedOvershoot server (c .timestep);
+      frames = r .frames;
+      stop = Done;
+      trace = r .trace ++ (SkipFrom (r .played .scene) (correctedOf server (c .timestep)) ∷ []);
+    }
+
+-- a run, and then a skip where there is one
+unfoldable pub maybeSkipped : Run → Float → Settings → Run
+maybeSkipped r server c = cond (skipsOf (oldStampOf (r .played .scene .worlds)) (r .overshoot) server c) (skipped r server c) r
+
+-- ---- what every update ends with
+
+-- the run with other worlds and another end
+abbrev pub endsWith : Run → Scene → Stop → Run
+endsWith r s stop = record { played = record { scene = s; words = r .played .words }; overshoot = r .overshoot; frames = r .frames; stop = stop; trace = r .trace }
+
+-- the tween weight outside 0 to 1 is refusal 27; else it is shaped and displayed
+unfoldable pub finishedOf : Run → Settings → Run
+finishedOf r c =
+    cond (weightOk (tweenOf (r .overshoot) (c .timestep)))
+    (endsWith r (withWorlds (r .played .scene) (postUpdateOf (r .played .scene .worlds) (shapedOf (c .method) (tweenOf (r .overshoot) (c .timestep))) (bitsOf (lagFrameCountOf c)))) Done)
+    (endsWith r (r .played .scene) WeightStops)
+
+-- a run that ended by itself goes on to the skip and the end; one that was stopped does not
+abbrev pub concluded : Stop → Run → Float → Settings → Run
+concluded Done r server c = finishedOf (maybeSkipped r server c) c
+concluded TooManyFrames r server c = r
+concluded StatusStops r server c = r
+concluded WeightStops r server c = r
+
+-- the frames of an update from a scene and an overshoot, by the delta and the server's time
+unfoldable pub advancedOf : Settings → Scene → Float → Float → Float → Run
+advancedOf c s o delta server = runOf 65 c s (sub binary64 o (compensatedOf (oldStampOf (s .worlds)) o delta server c))
+
+-- one update of the worlds
+unfoldable pub updatedOf : Settings → Scene → Float → Float → Float → Run
+updatedOf c s o delta server = concluded (advancedOf c s o delta server .stop) (advancedOf c s o delta server) server c
+
+-- a run as the code leaves it: its words are on the tape from its start on
+pub record Advances (r : Run) (was : List ℕ) (a : Advanced) (last : List ℕ) : Type 0 where
+  pub scene : a .scene ≡ r .played .scene
+  pub overshoot : a .overshoot ≡ r .overshoot
+  pub frames : a .frames ≡ r .frames
+  pub stop : a .stop ≡ r .stop
+  pub puts : Puts was 0 (r .played .words) (a .at) last
+
+-- ---- the same, of a run as the code holds it
+
+-- the run that the code's answer stands for, its words being those and its trace left aside
+abbrev pub runBy : Advanced → List ℕ → Run
+runBy a ws = record { played = record { scene = a .scene; words = ws }; overshoot = a .overshoot; frames = a .frames; stop = a .stop; trace = [] }
+
+-- the skip after the frames of a run: what it adds to the tape, and the answer after it
+pub record Skips (a : Advanced) (server : Float) (c : Settings) (was : List ℕ) (r : Advanced) (last : List ℕ) : Type 0 where
+  pub scene : r .scene ≡ maybeSkipped (runBy a []) server c .played .scene
+  pub overshoot : r .overshoot ≡ maybeSkipped (runBy a []) server c .overshoot
+  pub frames : r .frames ≡ a .frames
+  pub stop : r .stop ≡ maybeSkipped (runBy a []) server c .stop
+  pub puts : Puts was (a .at) (maybeSkipped (runBy a []) server c .played .words) (r .at) last
+
+-- the answer that ends an update
+unfoldable pub finishedBy : Advanced → Settings → Advanced
+finishedBy a c =
+    record {
+      scene = finishedOf (runBy a []) c .played .scene;
+      overshoot = a .overshoot;
+      frames = a .frames;
+      at = a .at;
+      stop = finishedOf (runBy a []) c .stop;
+    }

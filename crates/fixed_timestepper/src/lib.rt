@@ -1,0 +1,229 @@
+// The stepping of the worlds by the clock: `TimeKeeper` of src/fixed_timestepper.rs of crystalorb. Every float operation is the Rust's,
+// in its order.
+ghost use mathlib.Core.Path.{_≡_};
+ghost use Prim.Native.Nat.{_≤_, _<_};
+ghost use Rattle.fixed_timestepper.specs.TimeKeeper.{absOf, atLeastZero, logicalOf, driftOf, beyondDeadband, compensatedOf, runOf, updatedOf, Advances, Skips, finishedBy};
+use client::Scene;
+use client::frame;
+use client::sides;
+use client::skip;
+use settings::Settings;
+use timestamp::FloatTimestamp;
+use timestamp::Timestamp;
+
+// Why an update's frames ended: all played, or a refusal of 25 (a 66th frame), 26 (the Rust stops in a frame) or 27 (a tween weight
+// outside 0 to 1).
+pub enum Stop {
+    Done,
+    TooManyFrames,
+    StatusStops,
+    WeightStops,
+}
+
+// Frames that were played: how many, the overshoot after them, the next place on the tape, and why they ended.
+pub struct Advanced {
+    pub scene: Scene,
+    pub overshoot: f64,
+    pub frames: u32,
+    pub at: usize,
+    pub stop: Stop,
+}
+
+// The size of a number.
+pub fn abs(x: f64) -> f64
+    ensures { λ r. ⌜ r ≡ absOf x ⌝ }
+{
+    if x < 0.0 {
+        return -x;
+    }
+    x
+}
+
+// A number, or +0.0 where it is not above 0.
+pub fn at_least_zero(x: f64) -> f64
+    ensures { λ r. ⌜ r ≡ atLeastZero x ⌝ }
+{
+    if x > 0.0 {
+        return x;
+    }
+    0.0
+}
+
+// The frame count that the worlds stand for: the client's stamp less the overshoot in frames.
+pub fn current_logical_timestamp(stamp: Timestamp, overshoot: f64, timestep: f64) -> FloatTimestamp
+    ensures { λ r. ⌜ r .0 ≡ logicalOf stamp overshoot timestep ⌝ }
+{
+    FloatTimestamp::from_timestamp(stamp).sub(FloatTimestamp::from_seconds(overshoot, timestep))
+}
+
+// How far the worlds are ahead of the server's time, in seconds.
+pub fn timestamp_drift_seconds(stamp: Timestamp, overshoot: f64, timestep: f64, server: f64) -> f64
+    ensures { λ r. ⌜ r ≡ driftOf stamp overshoot timestep server ⌝ }
+{
+    let current = current_logical_timestamp(stamp, overshoot, timestep);
+    let target = FloatTimestamp::from_seconds(server, timestep);
+    current.sub(target).as_seconds(timestep)
+}
+
+// The drift that is compensated: none where it is below half a timestep.
+pub fn beyond_deadband(drift: f64, timestep: f64) -> f64
+    ensures { λ r. ⌜ r ≡ beyondDeadband drift timestep ⌝ }
+{
+    if abs(drift) < timestep * 0.5 {
+        return 0.0;
+    }
+    drift
+}
+
+// How many seconds an update plays: its delta less the drift before it, not negative and at most the maximum.
+pub fn compensated_delta(
+    stamp: Timestamp,
+    overshoot: f64,
+    delta: f64,
+    server: f64,
+    settings: Settings,
+) -> f64
+    ensures { λ r. ⌜ r ≡ compensatedOf stamp overshoot delta server settings ⌝ }
+{
+    let t = settings.timestep;
+    let drift = beyond_deadband(
+        timestamp_drift_seconds(stamp, overshoot, t, server - delta),
+        t,
+    );
+    let uncapped = at_least_zero(delta - drift);
+    if uncapped > settings.max {
+        return settings.max;
+    }
+    uncapped
+}
+
+// Frames while the overshoot is negative, 65 at most.
+pub fn advance(scene: Scene, overshoot: f64, settings: Settings, tape: &mut [u32]) -> Advanced
+    requires { ⌜ settings .m ≤ 64 ⌝ }
+    ensures { λ r. ⌜ Advances (runOf 65 settings scene overshoot) (now (tape .entry)) r (now (tape .exit)) ⌝ }
+{
+    let progress = settings.blend_progress_per_frame();
+    let mut s = scene;
+    let mut o = overshoot;
+    let mut p: usize = 0;
+    let mut n: u32 = 0;
+    while o < 0.0 {
+        if n == 65 {
+            return Advanced {
+                scene: s,
+                overshoot: o,
+                frames: n,
+                at: p,
+                stop: Stop::TooManyFrames,
+            };
+        }
+        let f = frame::step(s, settings.m, progress, tape, p);
+        let next = f.scene;
+        s = next;
+        p = f.at;
+        n += 1;
+        o = o + settings.timestep;
+        if f.stops {
+            return Advanced {
+                scene: s,
+                overshoot: o,
+                frames: n,
+                at: p,
+                stop: Stop::StatusStops,
+            };
+        }
+    }
+    Advanced {
+        scene: s,
+        overshoot: o,
+        frames: n,
+        at: p,
+        stop: Stop::Done,
+    }
+}
+
+// The skip where the drift is at or beyond the threshold: to the server's frame, rounded up.
+pub fn timeskip(a: Advanced, server: f64, settings: Settings, tape: &mut [u32]) -> Advanced
+    requires { ⌜ a .at < 2500000000 ⌝ }
+    ensures { λ r. ⌜ Skips a server settings (now (tape .entry)) r (now (tape .exit)) ⌝ }
+{
+    let t = settings.timestep;
+    let scene = a.scene;
+    let stamp = sides::last_completed_timestamp(scene.worlds);
+    if abs(timestamp_drift_seconds(stamp, a.overshoot, t, server)) >= settings.skip {
+        let target = FloatTimestamp::from_seconds(server, t);
+        let corrected = target.ceil();
+        let overshoot = FloatTimestamp::from_timestamp(corrected)
+            .sub(target)
+            .as_seconds(t);
+        let r = skip::reset_last_completed_timestamp(scene, corrected, tape, a.at);
+        let after = r.scene;
+        let done = Stop::Done;
+        return Advanced {
+            scene: after,
+            overshoot,
+            frames: a.frames,
+            at: r.at,
+            stop: done,
+        };
+    }
+    a
+}
+
+// What an update ends with: the tween weight is tested, shaped, and displayed.
+pub fn finished(a: Advanced, settings: Settings) -> Advanced
+    ensures { λ r. ⌜ r ≡ finishedBy a settings ⌝ }
+{
+    let w = skip::tween_weight(a.overshoot, settings.timestep);
+    let scene = a.scene;
+    if skip::is_weight(w) {
+        let method = settings.method;
+        let v = skip::post_update(
+            scene.worlds,
+            method.shape_interpolation_t(w),
+            settings.lag_compensation_frame_count(),
+        );
+        let mut s = scene;
+        s.worlds = v;
+        let done = Stop::Done;
+        return Advanced {
+            scene: s,
+            overshoot: a.overshoot,
+            frames: a.frames,
+            at: a.at,
+            stop: done,
+        };
+    }
+    let stop = Stop::WeightStops;
+    Advanced {
+        scene,
+        overshoot: a.overshoot,
+        frames: a.frames,
+        at: a.at,
+        stop,
+    }
+}
+
+// One update of the worlds, by the delta and the server's time.
+pub fn update(
+    scene: Scene,
+    overshoot: f64,
+    delta: f64,
+    server: f64,
+    settings: Settings,
+    tape: &mut [u32],
+) -> Advanced
+    requires { ⌜ settings .m ≤ 64 ⌝ }
+    ensures { λ r. ⌜ Advances (updatedOf settings scene overshoot delta server) (now (tape .entry)) r (now (tape .exit)) ⌝ }
+{
+    let stamp = sides::last_completed_timestamp(scene.worlds);
+    let c = compensated_delta(stamp, overshoot, delta, server, settings);
+    let a = advance(scene, overshoot - c, settings, tape);
+    let stop = a.stop;
+    match stop {
+        Stop::Done => finished(timeskip(a, server, settings, tape), settings),
+        Stop::TooManyFrames => a,
+        Stop::StatusStops => a,
+        Stop::WeightStops => a,
+    }
+}
