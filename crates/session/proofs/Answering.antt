@@ -1,0 +1,290 @@
+-- What the calls of a session come to, over plain values: each way that a call ends, from what its parts answered. Assumes nothing.
+use Prim.{⊥}
+use mathlib.Core.Path.{_≡_, refl, ap, sym, _∙_, subst}
+use mathlib.Core.Bool.{Bool, true, false, not, cond, _&&_, false≢true}
+use mathlib.Core.List.{List, _++_}
+use Prim.Native.Nat.{ℕ, _-_, _≤_, _<_}
+use native.Mathlib.Omega.{arith}
+use lib.Dec.{eqb, leb}
+use lib.ListN.{length, replicate}
+use lib.IntN.{pos}
+use lib.Ieee.{Float, fin, binary64, add}
+use borrow.Author.Tests.{le-leb, lt-leb, leb-true, eq-eqb, ne-eqb}
+use Rattle.timestamp.specs.declared.Timestamp.{Timestamp}
+use Rattle.timestamp.specs.Timestamps.{bitsOf}
+use Rattle.timestamp.specs.FloatTimestamps.{fromSeconds, stampOf}
+use Rattle.settings.specs.Settings.{passesOf}
+use Rattle.settings.proofs.Limits.{steps-few}
+use Rattle.clocksync.specs.declared.Clock.{Clock}
+use Rattle.clocksync.specs.declared.Heard.{Heard}
+use Rattle.clocksync.specs.declared.Ticked.{Ticked}
+use Rattle.clocksync.specs.declared.ServerTime.{ServerTime}
+use Rattle.clocksync.specs.declared.ServerTime.the-variants.{NoTime, At}
+use Rattle.clocksync.specs.Clock.{tickedOf, listenOf, settledOf, serverSecondsOf, readyOf}
+use Rattle.inbox.specs.Inbox.{refusalOf}
+use Rattle.tape.specs.Tape.{cleared}
+use Rattle.tape.proofs.Writing.{puts-length, cleared-all, cleared-after}
+use Rattle.client.specs.declared.ClientWorldSimulations.{ClientWorldSimulations}
+use Rattle.client.specs.declared.Ledger.{Ledger}
+use Rattle.client.specs.declared.Received.{Received}
+use Rattle.client.specs.declared.Scene.{Scene}
+use Rattle.client.specs.Sides.{newWorldsOf, emptyLedger, withWorlds}
+use Rattle.fixed_timestepper.specs.declared.Stop.{Stop}
+use Rattle.fixed_timestepper.specs.declared.Stop.the-variants.{Done, TooManyFrames, StatusStops, WeightStops}
+use Rattle.fixed_timestepper.specs.declared.Advanced.{Advanced}
+use Rattle.fixed_timestepper.specs.TimeKeeper.{Run, updatedOf, Advances}
+use Rattle.session.specs.declared.Stage.{Stage}
+use Rattle.session.specs.declared.Stage.the-variants.{SyncingInitialState}
+use Rattle.session.specs.declared.Session.{Session}
+use Rattle.session.specs.declared.UpdateAnswer.{UpdateAnswer}
+use Rattle.session.specs.declared.ReportAnswer.{ReportAnswer}
+use Rattle.session.specs.Sound.{soundOf}
+use Rattle.session.specs.Passes.{hasForWorlds, heardIn, receivedIn, notedIn}
+use Rattle.session.specs.Calls.{timesOk, refusedAtOnce, Reply, Answer, refusedWith, withClock, startedAt, syncedOf, clockAfter, clockUpdateOf, sceneOf, closedOf, stageAfter, acceptedOf, concludedOf, serverTimeBy, unreceived, playedWith, playedOf, worldsUpdateOf, updateBy, acceptedBy, concludedBy, updateOf, Updates, unreported, reportBy, reportOf}
+use Rattle.session.proofs.Judging.{was-false, was-true}
+
+-- ---- one of two answers
+
+-- the test holds: the first
+pub at-true : {b : Bool} (x y : Answer) {r : UpdateAnswer} {last : List ℕ} → b ≡ true → Updates (x .reply) r last → Updates (cond b x y .reply) r last
+at-true {b} x y {r} {last} e h = subst (λ (z : Bool). Updates (cond z x y .reply) r last) (sym e) h
+
+-- it does not: the second
+pub at-false : {b : Bool} (x y : Answer) {r : UpdateAnswer} {last : List ℕ} → b ≡ false → Updates (y .reply) r last → Updates (cond b x y .reply) r last
+at-false {b} x y {r} {last} e h = subst (λ (z : Bool). Updates (cond z x y .reply) r last) (sym e) h
+
+-- the same of plain values
+when-true : {A : Type 0} {b : Bool} (x y : A) → b ≡ true → cond b x y ≡ x
+when-true x y e = λ i. cond (e i) x y
+
+when-false : {A : Type 0} {b : Bool} (x y : A) → b ≡ false → cond b x y ≡ y
+when-false x y e = λ i. cond (e i) x y
+
+-- another answer of the same value
+pub updates-as : {x y : Reply} {r : UpdateAnswer} {last : List ℕ} → x ≡ y → Updates x r last → Updates y r last
+updates-as {x} {y} {r} {last} e h = subst (λ (z : Reply). Updates z r last) e h
+
+-- ---- refused at once
+
+-- the tests in their order: the times are out of their ranges
+pub once-times : (s : Session) (delta seconds : Float) (inbox : List ℕ) {p : Bool} → p ≡ timesOk delta seconds → not p ≡ true → 2 ≡ refusedAtOnce s delta seconds inbox
+unfolding refusedAtOnce
+once-times s delta seconds inbox hp e = λ i. cond (sym (sym hp ∙ was-false _ e) i) (cond (eqb (refusalOf inbox) 0) (cond (soundOf s) 0 20) (refusalOf inbox)) 2
+
+module _ (s : Session) (delta seconds : Float) (inbox : List ℕ) {p : Bool} {n : ℕ} (hp : p ≡ timesOk delta seconds) (e : not p ≡ false) (hn : n ≡ refusalOf inbox) where
+  -- the inbox is refused
+  pub once-inbox : (n ≡ 0 → ⊥) → n ≡ refusedAtOnce s delta seconds inbox
+  unfolding refusedAtOnce
+  once-inbox k = hn ∙ (λ i. cond (sym (sym hp ∙ was-true _ e) i) (cond (sym (sym (ap (λ (x : ℕ). eqb x 0) hn) ∙ ne-eqb _ _ k) i) (cond (soundOf s) 0 20) (refusalOf inbox)) 2)
+
+  -- the session's soundness decides
+  once-last : {b : Bool} → n ≡ 0 → soundOf s ≡ b → cond b 0 20 ≡ refusedAtOnce s delta seconds inbox
+  unfolding refusedAtOnce
+  once-last k h = λ i. cond (sym (sym hp ∙ was-true _ e) i) (cond (sym (sym (ap (λ (x : ℕ). eqb x 0) hn) ∙ eq-eqb _ _ k) i) (cond (sym h i) 0 20) (refusalOf inbox)) 2
+
+  -- it is unsound
+  pub once-unsound : {q : Bool} → n ≡ 0 → q ≡ soundOf s → not q ≡ true → 20 ≡ refusedAtOnce s delta seconds inbox
+  once-unsound k hq h = once-last k (sym hq ∙ was-false _ h)
+
+  -- it is sound: nothing refuses
+  pub once-calm : {q : Bool} → n ≡ 0 → q ≡ soundOf s → not q ≡ false → 0 ≡ refusedAtOnce s delta seconds inbox
+  once-calm k hq h = once-last k (sym hq ∙ was-true _ h)
+
+-- no test refuses: the session is sound
+calm : (t z s : Bool) (n : ℕ) → z ≡ eqb n 0 → cond t (cond z (cond s 0 20) n) 2 ≡ 0 → s ≡ true
+calm true true true n e h = refl
+calm true true false n e h = absurd (false≢true (ap (λ (k : ℕ). eqb k 0) h))
+calm true false s n e h = absurd (false≢true (e ∙ ap (λ (k : ℕ). eqb k 0) h))
+calm false z s n e h = absurd (false≢true (ap (λ (k : ℕ). eqb k 0) h))
+
+and-left : (a b : Bool) → a && b ≡ true → a ≡ true
+and-left true b h = refl
+and-left false b h = absurd (false≢true h)
+
+-- a sound session's settings pass
+sound-passes : (s : Session) → soundOf s ≡ true → passesOf (s .settings) ≡ true
+unfolding soundOf
+sound-passes s h = and-left (passesOf (s .settings)) _ (and-left _ _ (and-left _ _ (and-left _ _ h)))
+
+-- an update that is not refused at once has an m of at most 64
+pub not-refused-few : (s : Session) (delta seconds : Float) (inbox : List ℕ) → refusedAtOnce s delta seconds inbox ≡ 0 → s .settings .m ≤ 64
+unfolding refusedAtOnce
+not-refused-few s delta seconds inbox h = steps-few (s .settings) (sound-passes s (calm (timesOk delta seconds) (eqb (refusalOf inbox) 0) (soundOf s) (refusalOf inbox) refl h)) .1
+
+-- ---- a refused update
+
+pub refuse-is : (n : ℕ) (s : Session) (was : List ℕ) {l r : Ledger} {last : List ℕ} → last ≡ cleared was 0 → l ≡ emptyLedger → r ≡ emptyLedger
+    → Updates (refusedWith n s (length was) .reply) (record { refusal = n; session = s; frames = 0; steps = 0; request = false; left = l; right = r; words = 0 }) last
+unfolding refusedWith
+refuse-is n s was e hl hr =
+    record { refusal = refl; session = refl; frames = refl; steps = refl; request = refl; left = hl; right = hr; words = refl; tape = e ∙ cleared-all was }
+
+-- ---- worlds are made
+
+-- there is no time
+pub synced-none : (s : Session) (c : Clock) (seconds : Float) {p : Bool} {t : ServerTime} → t ≡ serverSecondsOf (c .offset) seconds → p ≡ readyOf c → p ≡ true → t ≡ NoTime → s ≡ syncedOf s c seconds
+unfolding syncedOf
+synced-none s c seconds ht hp h e = λ i. cond (sym (sym hp ∙ h) i) (startedAt s c (sym (sym ht ∙ e) i)) (withClock s c)
+
+-- there is one: the worlds start at its stamp
+pub synced-at : (s : Session) (c : Clock) (seconds : Float) {p : Bool} {t : ServerTime} {x : Float} {st : Timestamp} {w : ClientWorldSimulations} → t ≡ serverSecondsOf (c .offset) seconds → p ≡ readyOf c → p ≡ true → t ≡ At x
+    → st .0 ≡ bitsOf (stampOf (fromSeconds x (s .settings .timestep))) → w ≡ newWorldsOf st
+    → record { settings = s .settings; stage = SyncingInitialState; clock = c; worlds = w; overshoot = fin false 0 (pos 0) } ≡ syncedOf s c seconds
+unfolding syncedOf
+synced-at s c seconds {p} {t} {x} {st} {w} ht hp h e hst hw =
+    let a : record { settings = s .settings; stage = SyncingInitialState; clock = c; worlds = w; overshoot = fin false 0 (pos 0) } ≡ startedAt s c (At x) =
+    λ i. record { settings = s .settings; stage = SyncingInitialState; clock = c; worlds = (hw ∙ (λ j. newWorldsOf (record { 0 = hst j }))) i; overshoot = fin false 0 (pos 0) } in
+    a ∙ (λ i. cond (sym (sym hp ∙ h) i) (startedAt s c (sym (sym ht ∙ e) i)) (withClock s c))
+
+-- the clock is not ready
+pub synced-not : (s : Session) (c : Clock) (seconds : Float) {p : Bool} → p ≡ readyOf c → p ≡ false → withClock s c ≡ syncedOf s c seconds
+unfolding syncedOf
+synced-not s c seconds hp h = λ i. cond (sym (sym hp ∙ h) i) (startedAt s c (serverSecondsOf (c .offset) seconds)) (withClock s c)
+
+-- ---- an update of the clock alone
+
+-- the clock after the timer and the messages
+clock-is : (s : Session) (delta seconds : Float) (inbox : List ℕ) {start h : Heard} {t : Ticked} {c : Clock} → start ≡ listenOf (s .clock) → h ≡ heardIn seconds inbox start → t ≡ tickedOf (s .clock) (s .settings .period) delta → c ≡ settledOf (s .settings) (t .clock) h → c ≡ clockAfter s delta seconds inbox
+clock-is s delta seconds inbox hl hh ht hc = hc ∙ (λ i. settledOf (s .settings) (ht i .clock) ((hh ∙ ap (heardIn seconds inbox) hl) i))
+
+-- whether a message of another client was heard
+other-is : (s : Session) (seconds : Float) (inbox : List ℕ) {start h : Heard} {b : Bool} → start ≡ listenOf (s .clock) → h ≡ heardIn seconds inbox start → h .other ≡ b → heardIn seconds inbox (listenOf (s .clock)) .other ≡ b
+other-is s seconds inbox hl hh e = sym (ap (λ (x : Heard). x .other) (hh ∙ ap (heardIn seconds inbox) hl)) ∙ e
+
+pub clock-early : (s : Session) (delta seconds : Float) (inbox : List ℕ) (len : ℕ) {p : Bool} {r : UpdateAnswer} {last : List ℕ} → p ≡ hasForWorlds inbox → p ≡ true → Updates (refusedWith 21 s len .reply) r last → Updates (clockUpdateOf s delta seconds inbox len .reply) r last
+unfolding clockUpdateOf
+clock-early s delta seconds inbox len hp e h = at-true _ _ (sym hp ∙ e) h
+
+pub clock-other : (s : Session) (delta seconds : Float) (inbox : List ℕ) (len : ℕ) {p : Bool} {start heard : Heard} {r : UpdateAnswer} {last : List ℕ} → p ≡ hasForWorlds inbox → p ≡ false → start ≡ listenOf (s .clock) → heard ≡ heardIn seconds inbox start → heard .other ≡ true
+    → Updates (refusedWith 22 s len .reply) r last → Updates (clockUpdateOf s delta seconds inbox len .reply) r last
+unfolding clockUpdateOf
+clock-other s delta seconds inbox len hp e hl hh o h = at-false _ _ (sym hp ∙ e) (at-true _ _ (other-is s seconds inbox hl hh o) h)
+
+pub clock-moved : (s : Session) (delta seconds : Float) (inbox was : List ℕ) {p : Bool} {start heard : Heard} {t : Ticked} {c : Clock} {next : Session} {l r : Ledger} {last : List ℕ} → p ≡ hasForWorlds inbox → p ≡ false → start ≡ listenOf (s .clock) → heard ≡ heardIn seconds inbox start → heard .other ≡ false
+    → t ≡ tickedOf (s .clock) (s .settings .period) delta → c ≡ settledOf (s .settings) (t .clock) heard → next ≡ syncedOf s c seconds → last ≡ cleared was 0 → l ≡ emptyLedger → r ≡ emptyLedger
+    → Updates (clockUpdateOf s delta seconds inbox (length was) .reply) (record { refusal = 0; session = next; frames = 0; steps = 0; request = t .request; left = l; right = r; words = 0 }) last
+unfolding clockUpdateOf
+clock-moved s delta seconds inbox was {p} {start} {heard} {t} {c} {next} {l} {r} {last} hp e hl hh o ht hc hn hz hL hR =
+    at-false _ _ (sym hp ∙ e)
+    (at-false _ _ (other-is s seconds inbox hl hh o)
+    (record { refusal = refl; session = hn ∙ (λ i. syncedOf s (clock-is s delta seconds inbox hl hh ht hc i) seconds); frames = refl; steps = refl; request = ap (λ (x : Ticked). x .request) ht; left = hL; right = hR; words = refl; tape = hz ∙ cleared-all was }))
+
+-- ---- an update of the worlds
+
+-- the words exceed the tape
+pub accept-long : (s : Session) (c : Clock) (request : Bool) (a : Advanced) (was : List ℕ) {last : List ℕ} {r : UpdateAnswer} → length was < a .at → Updates (refusedWith 28 s (length was) .reply) r last → Updates (acceptedBy s c request a was) r last
+unfolding acceptedBy
+accept-long s c request a was e h = updates-as (sym (when-false _ _ (lt-leb _ _ e))) h
+
+-- they fit
+pub accept-fits : (s : Session) (c : Clock) (request : Bool) (a : Advanced) (was : List ℕ) {last : List ℕ} {st : Stage} {l r : Ledger} → a .at ≤ length was → last ≡ cleared was (a .at) → st ≡ stageAfter (s .stage) (a .scene .worlds .published .time)
+    → l ≡ closedOf (a .scene .left) (a .scene .worlds .left .commands) → r ≡ closedOf (a .scene .right) (a .scene .worlds .right .commands)
+    → Updates (acceptedBy s c request a was) (record { refusal = 0; session = record { settings = s .settings; stage = st; clock = c; worlds = a .scene .worlds; overshoot = a .overshoot }; frames = a .frames; steps = a .scene .steps; request = request; left = l; right = r; words = a .at }) last
+unfolding acceptedBy
+accept-fits s c request a was {last} {st} e hz hs hL hR =
+    updates-as (sym (when-true _ _ (le-leb _ _ e)))
+    (record { refusal = refl; session = λ i. record { settings = s .settings; stage = hs i; clock = c; worlds = a .scene .worlds; overshoot = a .overshoot }; frames = refl; steps = refl; request = refl; left = hL; right = hR; words = refl; tape = hz })
+
+module _ (s : Session) (c : Clock) (request : Bool) (q : Run) {was mid : List ℕ} {a : Advanced} (h : Advances q was a mid) where
+  place : a .at ≡ length (q .played .words)
+  place = omega (arith, h .puts .at)
+
+  long : length mid ≡ length was
+  long = puts-length (h .puts)
+
+  -- the reply to a run as the code holds it is the reply to the run
+  accepted-by : (b : Bool) → leb (length (q .played .words)) (length was) ≡ b → acceptedBy s c request a mid ≡ cond (leb (length (q .played .words)) (length was)) (acceptedOf s c request q (length was)) (refusedWith 28 s (length was)) .reply
+  unfolding acceptedBy acceptedOf
+  accepted-by true e =
+      let p : leb (a .at) (length mid) ≡ true = (λ i. leb (place i) (long i)) ∙ e in
+      let t : cleared mid (a .at) ≡ q .played .words ++ replicate (length was - length (q .played .words)) 0 =
+      (λ i. cleared (h .puts .tape i) (place i)) ∙ cleared-after (q .played .words) was (leb-true _ _ e) in
+      when-true _ _ p
+      ∙ (λ i. record {
+        refusal = 0;
+        session = record { settings = s .settings; stage = stageAfter (s .stage) (h .scene i .worlds .published .time); clock = c; worlds = h .scene i .worlds; overshoot = h .overshoot i };
+        frames = h .frames i;
+        steps = h .scene i .steps;
+        request = request;
+        left = closedOf (h .scene i .left) (h .scene i .worlds .left .commands);
+        right = closedOf (h .scene i .right) (h .scene i .worlds .right .commands);
+        words = place i;
+        tape = t i;
+      })
+      ∙ (λ i. cond (sym e i) (acceptedOf s c request q (length was)) (refusedWith 28 s (length was)) .reply)
+  accepted-by false e =
+      let p : leb (a .at) (length mid) ≡ false = (λ i. leb (place i) (long i)) ∙ e in
+      when-false _ _ p ∙ (λ i. refusedWith 28 s (long i) .reply)
+      ∙ (λ i. cond (sym e i) (acceptedOf s c request q (length was)) (refusedWith 28 s (length was)) .reply)
+
+  concluded-is : (x : Stop) → concludedBy x s c request a mid ≡ concludedOf x s c request q (length was) .reply
+  concluded-is Done = accepted-by (leb (length (q .played .words)) (length was)) refl
+  concluded-is TooManyFrames = λ i. refusedWith 25 s (long i) .reply
+  concluded-is StatusStops = λ i. refusedWith 26 s (long i) .reply
+  concluded-is WeightStops = λ i. refusedWith 27 s (long i) .reply
+
+-- a run's answer, by why it ended
+pub conclude-by : (x : Stop) (s : Session) (c : Clock) (request : Bool) (a : Advanced) (was : List ℕ) {r : UpdateAnswer} {last : List ℕ} → a .stop ≡ x → Updates (concludedBy x s c request a was) r last → Updates (concludedBy (a .stop) s c request a was) r last
+conclude-by x s c request a was e h = updates-as (λ i. concludedBy (sym e i) s c request a was) h
+
+-- the frames, from the parts that the code has
+pub played-by : (s : Session) (got : Received) (c : Clock) (delta seconds : Float) (inbox : List ℕ) {w : ClientWorldSimulations} {x : Float} {was last : List ℕ} {a : Advanced} → w ≡ notedIn inbox (got .scene .worlds) → x ≡ serverTimeBy (serverSecondsOf (c .offset) seconds) seconds
+    → Advances (updatedOf (s .settings) (withWorlds (got .scene) w) (s .overshoot) delta (add binary64 x (s .settings .lag))) was a last → Advances (playedWith s got c delta seconds inbox) was a last
+played-by s got c delta seconds inbox {w} {x} {was} {last} {a} hw hx h =
+    subst (λ (z : Run). Advances z was a last) (λ i. updatedOf (s .settings) (withWorlds (got .scene) (hw i)) (s .overshoot) delta (add binary64 (hx i) (s .settings .lag))) h
+
+pub worlds-other : (s : Session) (delta seconds : Float) (inbox : List ℕ) (len : ℕ) {start heard : Heard} {r : UpdateAnswer} {last : List ℕ} → start ≡ listenOf (s .clock) → heard ≡ heardIn seconds inbox start → heard .other ≡ true
+    → Updates (refusedWith 22 s len .reply) r last → Updates (worldsUpdateOf s delta seconds inbox len .reply) r last
+unfolding worldsUpdateOf
+worlds-other s delta seconds inbox len hl hh o h = at-true _ _ (other-is s seconds inbox hl hh o) h
+
+-- what was received
+received-is : (s : Session) (inbox : List ℕ) {scene : Scene} {got : Received} → scene ≡ sceneOf s → got ≡ receivedIn inbox (record { scene = scene; full = false }) → got ≡ receivedIn inbox (unreceived s)
+received-is s inbox hs hg = hg ∙ (λ i. receivedIn inbox (record { scene = hs i; full = false }))
+
+pub worlds-full : (s : Session) (delta seconds : Float) (inbox : List ℕ) (len : ℕ) {start heard : Heard} {scene : Scene} {got : Received} {r : UpdateAnswer} {last : List ℕ} → start ≡ listenOf (s .clock) → heard ≡ heardIn seconds inbox start → heard .other ≡ false
+    → scene ≡ sceneOf s → got ≡ receivedIn inbox (record { scene = scene; full = false }) → got .full ≡ true
+    → Updates (refusedWith 23 s len .reply) r last → Updates (worldsUpdateOf s delta seconds inbox len .reply) r last
+unfolding worldsUpdateOf
+worlds-full s delta seconds inbox len hl hh o hs hg f h =
+    at-false _ _ (other-is s seconds inbox hl hh o) (at-true _ _ (sym (ap (λ (x : Received). x .full) (received-is s inbox hs hg)) ∙ f) h)
+
+pub worlds-played : (s : Session) (delta seconds : Float) (inbox was : List ℕ) {start heard : Heard} {scene : Scene} {got : Received} {t : Ticked} {c : Clock} {a : Advanced} {mid : List ℕ} {r : UpdateAnswer} {last : List ℕ}
+    → start ≡ listenOf (s .clock) → heard ≡ heardIn seconds inbox start → heard .other ≡ false
+    → scene ≡ sceneOf s → got ≡ receivedIn inbox (record { scene = scene; full = false }) → got .full ≡ false
+    → t ≡ tickedOf (s .clock) (s .settings .period) delta → c ≡ settledOf (s .settings) (t .clock) heard
+    → Advances (playedWith s got c delta seconds inbox) was a mid → Updates (concludedBy (a .stop) s c (t .request) a mid) r last
+    → Updates (worldsUpdateOf s delta seconds inbox (length was) .reply) r last
+unfolding worldsUpdateOf playedOf
+worlds-played s delta seconds inbox was {start} {heard} {scene} {got} {t} {c} {a} {mid} {r} {last} hl hh o hs hg f ht hc ha h =
+    let g : got ≡ receivedIn inbox (unreceived s) = received-is s inbox hs hg in
+    let k : c ≡ clockAfter s delta seconds inbox = clock-is s delta seconds inbox hl hh ht hc in
+    let q : Run = playedOf s (clockAfter s delta seconds inbox) delta seconds inbox in
+    let z : Bool = tickedOf (s .clock) (s .settings .period) delta .request in
+    let n : Advances q was a mid = subst (λ (x : Run). Advances x was a mid) (λ i. playedWith s (g i) (k i) delta seconds inbox) ha in
+    at-false _ _ (other-is s seconds inbox hl hh o)
+    (at-false _ _ (sym (ap (λ (x : Received). x .full) g) ∙ f)
+    (updates-as ((λ i. concludedBy (n .stop i) s (k i) (ht i .request) a mid) ∙ concluded-is s (clockAfter s delta seconds inbox) z q n (q .stop)) h))
+
+-- ---- update
+
+pub update-refused : (s : Session) (delta seconds : Float) (inbox : List ℕ) (len : ℕ) {n : ℕ} {r : UpdateAnswer} {last : List ℕ} → n ≡ refusedAtOnce s delta seconds inbox → (n ≡ 0 → ⊥) → Updates (refusedWith n s len .reply) r last → Updates (updateOf s delta seconds inbox len .reply) r last
+unfolding updateOf
+update-refused s delta seconds inbox len hn e h =
+    at-false _ _ (ne-eqb _ _ (λ z. e (hn ∙ z))) (updates-as (λ i. refusedWith (hn i) s len .reply) h)
+
+pub update-by : (s : Session) (delta seconds : Float) (inbox : List ℕ) (len : ℕ) (x : Stage) {n : ℕ} {r : UpdateAnswer} {last : List ℕ} → n ≡ refusedAtOnce s delta seconds inbox → n ≡ 0 → s .stage ≡ x
+    → Updates (updateBy x s delta seconds inbox len .reply) r last → Updates (updateOf s delta seconds inbox len .reply) r last
+unfolding updateOf
+update-by s delta seconds inbox len x hn e k h =
+    at-true _ _ (eq-eqb _ _ (sym hn ∙ e)) (updates-as (λ i. updateBy (sym k i) s delta seconds inbox len .reply) h)
+
+-- ---- report
+
+pub report-unsound : (s : Session) {p : Bool} {r : ReportAnswer} → p ≡ soundOf s → not p ≡ true → r ≡ unreported 20 → r ≡ reportOf s
+unfolding reportOf
+report-unsound s hp e h = h ∙ (λ i. cond (sym (sym hp ∙ was-false _ e) i) (reportBy (s .stage) s) (unreported 20))
+
+pub report-by : (s : Session) (x : Stage) {p : Bool} {r : ReportAnswer} → p ≡ soundOf s → not p ≡ false → s .stage ≡ x → r ≡ reportBy x s → r ≡ reportOf s
+unfolding reportOf
+report-by s x hp e k h = h ∙ (λ i. cond (sym (sym hp ∙ was-true _ e) i) (reportBy (sym k i) s) (unreported 20))

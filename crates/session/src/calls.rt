@@ -1,0 +1,389 @@
+// The calls: open, update, issue and report.
+ghost use mathlib.Core.Path.{_≡_};
+ghost use Prim.Native.Nat.{_≤_};
+ghost use lib.ListN.{length};
+ghost use Rattle.clocksync.specs.Clock.{serverSecondsOf};
+ghost use Rattle.fixed_timestepper.specs.TimeKeeper.{Advances};
+ghost use Rattle.session.specs.Calls.{acceptedBy, concludedBy, playedWith, openOf, timesOk, refusedAtOnce, refusedWith, syncedOf, clockUpdateOf, sceneOf, closedOf, stageAfter, serverTimeBy, worldsUpdateOf, updateOf, Updates, unreported, reportedOf, reportOf};
+use super::OpenAnswer;
+use super::ReportAnswer;
+use super::Session;
+use super::Stage;
+use super::UpdateAnswer;
+use super::inbox_passes;
+use super::sound;
+use client::DisplayTime;
+use client::Ledger;
+use client::Received;
+use client::ReconciliationStatus;
+use client::Scene;
+use client::sides;
+use client::status;
+use clocksync::Clock;
+use clocksync::ServerTime;
+use fixed_timestepper::Advanced;
+use fixed_timestepper::Stop;
+use settings::Settings;
+use timestamp::Timestamp;
+
+// A session from settings. Refused with 1, the session is that which the settings would have started, and is unsound.
+pub fn open(settings: Settings) -> OpenAnswer
+    ensures { λ r. ⌜ r ≡ openOf settings ⌝ }
+{
+    let stage = Stage::SyncingClock;
+    let session = Session {
+        settings,
+        stage,
+        clock: Clock::new(),
+        worlds: client::new(Timestamp(0)),
+        overshoot: 0.0,
+    };
+    if settings.passes() {
+        return OpenAnswer {
+            refusal: 0,
+            session,
+        };
+    }
+    OpenAnswer {
+        refusal: 1,
+        session,
+    }
+}
+
+// Whether delta and seconds are in their ranges; false for a NaN.
+pub fn times_ok(delta: f64, seconds: f64) -> bool
+    ensures { λ r. ⌜ r ≡ timesOk delta seconds ⌝ }
+{
+    if settings::within(-3600.0, 3600.0, delta) {
+        return settings::within(-4294967296.0, 4294967296.0, seconds);
+    }
+    false
+}
+
+// The refusal of an update by its input and the session's soundness, or 0: 2, then 3 to 6, then 20.
+pub fn refused_at_once(session: Session, delta: f64, seconds: f64, inbox: &[u32]) -> u32
+    ensures { λ r. ⌜ r ≡ refusedAtOnce session delta seconds (now (inbox .entry)) ⌝ }
+{
+    if !times_ok(delta, seconds) {
+        return 2;
+    }
+    let r = inbox::refusal(inbox);
+    if r != 0 {
+        return r;
+    }
+    if !sound::is_sound(session) {
+        return 20;
+    }
+    0
+}
+
+// A refused update: the session unchanged, the tape zeroed, everything else 0.
+pub fn refuse(refusal: u32, session: Session, tape: &mut [u32]) -> UpdateAnswer
+    ensures { λ r. ⌜ Updates (refusedWith refusal session (length (now (tape .entry))) .reply) r (now (tape .exit)) ⌝ }
+{
+    tape::clear(tape, 0);
+    UpdateAnswer {
+        refusal,
+        session,
+        frames: 0,
+        steps: 0,
+        request: false,
+        left: sides::empty_ledger(),
+        right: sides::empty_ledger(),
+        words: 0,
+    }
+}
+
+// The session after an update in the first stage: the worlds are made where the clock is ready.
+pub fn synced(session: Session, clock: Clock, seconds: f64) -> Session
+    ensures { λ r. ⌜ r ≡ syncedOf session clock seconds ⌝ }
+{
+    let settings = session.settings;
+    let time = clock.server_seconds(seconds);
+    if clock.is_ready() {
+        let ServerTime::At(server) = time else {
+            return session;
+        };
+        let stage = Stage::SyncingInitialState;
+        return Session {
+            settings,
+            stage,
+            clock,
+            worlds: client::new(Timestamp::from_seconds(server, settings.timestep)),
+            overshoot: 0.0,
+        };
+    }
+    let mut s = session;
+    s.clock = clock;
+    s
+}
+
+// An update while the clock syncs: 21 and 22, and then the clock alone.
+pub fn update_clock(
+    session: Session,
+    delta: f64,
+    seconds: f64,
+    inbox: &[u32],
+    tape: &mut [u32],
+) -> UpdateAnswer
+    ensures { λ r. ⌜ Updates (clockUpdateOf session delta seconds (now (inbox .entry)) (length (now (tape .entry))) .reply) r (now (tape .exit)) ⌝ }
+{
+    if inbox_passes::has_world_message(inbox) {
+        return refuse(21, session, tape);
+    }
+    let clock = session.clock;
+    let settings = session.settings;
+    let h = inbox_passes::hear_all(inbox, clock.listen(), seconds);
+    if h.other {
+        return refuse(22, session, tape);
+    }
+    let t = clock.tick(settings, delta);
+    let ticked = t.clock;
+    let next = synced(session, ticked.settle(settings, h), seconds);
+    tape::clear(tape, 0);
+    UpdateAnswer {
+        refusal: 0,
+        session: next,
+        frames: 0,
+        steps: 0,
+        request: t.request,
+        left: sides::empty_ledger(),
+        right: sides::empty_ledger(),
+        words: 0,
+    }
+}
+
+// The scene of worlds before anything happened to them.
+pub fn scene_of(session: Session) -> Scene
+    ensures { λ r. ⌜ r ≡ sceneOf session ⌝ }
+{
+    let worlds = session.worlds;
+    Scene {
+        worlds,
+        left: sides::empty_ledger(),
+        right: sides::empty_ledger(),
+        steps: 0,
+    }
+}
+
+// A ledger with what its side holds now.
+pub fn closed(l: Ledger, buffer: command::CommandBuffer) -> Ledger
+    ensures { λ r. ⌜ r ≡ closedOf l buffer ⌝ }
+{
+    let mut t = l;
+    t.held = command::held_count(buffer);
+    t
+}
+
+// The stage after an update: Ready once there is something to display.
+pub fn stage_after(stage: Stage, time: DisplayTime) -> Stage
+    ensures { λ r. ⌜ r ≡ stageAfter stage time ⌝ }
+{
+    match stage {
+        Stage::SyncingInitialState => match time {
+            DisplayTime::NotDisplayed => Stage::SyncingInitialState,
+            DisplayTime::DisplayedAt(_) => Stage::Ready,
+        },
+        Stage::SyncingClock => Stage::SyncingClock,
+        Stage::Ready => Stage::Ready,
+    }
+}
+
+// An update that was played to its end: 28 where its words exceed the tape.
+pub fn accept(
+    session: Session,
+    clock: Clock,
+    request: bool,
+    a: Advanced,
+    tape: &mut [u32],
+) -> UpdateAnswer
+    ensures { λ r. ⌜ Updates (acceptedBy session clock request a (now (tape .entry))) r (now (tape .exit)) ⌝ }
+{
+    let at = a.at;
+    if at > tape.len() {
+        return refuse(28, session, tape);
+    }
+    tape::clear(tape, at);
+    let scene = a.scene;
+    let worlds = scene.worlds;
+    let left = worlds.left;
+    let right = worlds.right;
+    let published = worlds.published;
+    let time = published.time;
+    let before = session.stage;
+    let stage = stage_after(before, time);
+    let settings = session.settings;
+    UpdateAnswer {
+        refusal: 0,
+        session: Session {
+            settings,
+            stage,
+            clock,
+            worlds,
+            overshoot: a.overshoot,
+        },
+        frames: a.frames,
+        steps: scene.steps,
+        request,
+        left: closed(scene.left, left.commands),
+        right: closed(scene.right, right.commands),
+        words: at,
+    }
+}
+
+// What an update comes to once its frames have ended.
+pub fn conclude(
+    session: Session,
+    clock: Clock,
+    request: bool,
+    a: Advanced,
+    tape: &mut [u32],
+) -> UpdateAnswer
+    ensures { λ r. ⌜ Updates (concludedBy (a .stop) session clock request a (now (tape .entry))) r (now (tape .exit)) ⌝ }
+{
+    let stop = a.stop;
+    match stop {
+        Stop::Done => accept(session, clock, request, a, tape),
+        Stop::TooManyFrames => refuse(25, session, tape),
+        Stop::StatusStops => refuse(26, session, tape),
+        Stop::WeightStops => refuse(27, session, tape),
+    }
+}
+
+// The frames of an update, after its commands: its snapshots are received, and the worlds are played by the server's time with the lag.
+pub fn play(
+    session: Session,
+    got: Received,
+    clock: Clock,
+    delta: f64,
+    seconds: f64,
+    inbox: &[u32],
+    tape: &mut [u32],
+) -> Advanced
+    requires { ⌜ session .settings .m ≤ 64 ⌝ }
+    ensures { λ r. ⌜ Advances (playedWith session got clock delta seconds (now (inbox .entry))) (now (tape .entry)) r (now (tape .exit)) ⌝ }
+{
+    let mut scene = got.scene;
+    let w = scene.worlds;
+    scene.worlds = inbox_passes::receive_snapshots(inbox, w);
+    let settings = session.settings;
+    let server = server_time(clock, seconds) + settings.lag;
+    fixed_timestepper::update(scene, session.overshoot, delta, server, settings, tape)
+}
+
+// The server's time at a time of this client; the client's own time where there is no offset.
+pub fn server_time(clock: Clock, seconds: f64) -> f64
+    ensures { λ r. ⌜ r ≡ serverTimeBy (serverSecondsOf (clock .offset) seconds) seconds ⌝ }
+{
+    match clock.server_seconds(seconds) {
+        ServerTime::NoTime => seconds,
+        ServerTime::At(x) => x,
+    }
+}
+
+// An update once worlds exist: 22, 23, and then the frames.
+pub fn update_worlds(
+    session: Session,
+    delta: f64,
+    seconds: f64,
+    inbox: &[u32],
+    tape: &mut [u32],
+) -> UpdateAnswer
+    requires { ⌜ session .settings .m ≤ 64 ⌝ }
+    ensures { λ r. ⌜ Updates (worldsUpdateOf session delta seconds (now (inbox .entry)) (length (now (tape .entry))) .reply) r (now (tape .exit)) ⌝ }
+{
+    let clock = session.clock;
+    let settings = session.settings;
+    let h = inbox_passes::hear_all(inbox, clock.listen(), seconds);
+    if h.other {
+        return refuse(22, session, tape);
+    }
+    let r = inbox_passes::receive_commands(
+        inbox,
+        Received {
+            scene: scene_of(session),
+            full: false,
+        },
+    );
+    if r.full {
+        return refuse(23, session, tape);
+    }
+    let t = clock.tick(settings, delta);
+    let ticked = t.clock;
+    let settled = ticked.settle(settings, h);
+    let a = play(session, r, settled, delta, seconds, inbox, tape);
+    conclude(session, settled, t.request, a, tape)
+}
+
+// One update: time moves on by delta seconds to `seconds`, the inbox is read, and the words of what happens are put on the tape.
+pub fn update(
+    session: Session,
+    delta: f64,
+    seconds: f64,
+    inbox: &[u32],
+    tape: &mut [u32],
+) -> UpdateAnswer
+    ensures { λ r. ⌜ Updates (updateOf session delta seconds (now (inbox .entry)) (length (now (tape .entry))) .reply) r (now (tape .exit)) ⌝ }
+{
+    let r = refused_at_once(session, delta, seconds, inbox);
+    if r != 0 {
+        return refuse(r, session, tape);
+    }
+    let stage = session.stage;
+    match stage {
+        Stage::SyncingClock => update_clock(session, delta, seconds, inbox, tape),
+        Stage::SyncingInitialState => update_worlds(session, delta, seconds, inbox, tape),
+        Stage::Ready => update_worlds(session, delta, seconds, inbox, tape),
+    }
+}
+
+// A refused report.
+pub fn refuse_report(refusal: u32) -> ReportAnswer
+    ensures { λ r. ⌜ r ≡ unreported refusal ⌝ }
+{
+    let stage = Stage::SyncingClock;
+    let status = ReconciliationStatus::AwaitingSnapshot;
+    let time = DisplayTime::NotDisplayed;
+    ReportAnswer {
+        refusal,
+        stage,
+        status,
+        old: Timestamp(0),
+        new: Timestamp(0),
+        time,
+    }
+}
+
+// Where a session with worlds stands.
+pub fn report_worlds(session: Session) -> ReportAnswer
+    ensures { λ r. ⌜ r ≡ reportedOf session ⌝ }
+{
+    let worlds = session.worlds;
+    let stage = session.stage;
+    let status = status::infer_current_reconciliation_status(worlds);
+    let published = worlds.published;
+    let time = published.time;
+    ReportAnswer {
+        refusal: 0,
+        stage,
+        status,
+        old: sides::last_completed_timestamp(worlds),
+        new: sides::new_timestamp(worlds),
+        time,
+    }
+}
+
+// Where a session stands: 20 where it is unsound, 21 while the clock syncs.
+pub fn report(session: Session) -> ReportAnswer
+    ensures { λ r. ⌜ r ≡ reportOf session ⌝ }
+{
+    if !sound::is_sound(session) {
+        return refuse_report(20);
+    }
+    let stage = session.stage;
+    match stage {
+        Stage::SyncingClock => refuse_report(21),
+        Stage::SyncingInitialState => report_worlds(session),
+        Stage::Ready => report_worlds(session),
+    }
+}

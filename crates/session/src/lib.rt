@@ -1,0 +1,57 @@
+// The session of a client, and its calls: open, update, issue and report. It answers to `Client` and src/client/stage*.rs of crystalorb.
+// A call takes the session by value and returns it; a refused call returns it unchanged.
+pub mod calls;
+pub mod inbox_passes;
+pub mod sound;
+
+use client::ClientWorldSimulations;
+use client::DisplayTime;
+use client::Ledger;
+use client::ReconciliationStatus;
+use clocksync::Clock;
+use settings::Settings;
+use timestamp::Timestamp;
+
+// How far the client is connected. Worlds exist in every stage but the first.
+pub enum Stage {
+    SyncingClock,
+    SyncingInitialState,
+    Ready,
+}
+
+// All state of a client.
+pub struct Session {
+    pub settings: Settings,
+    pub stage: Stage,
+    pub clock: Clock,
+    pub worlds: ClientWorldSimulations,
+    pub overshoot: f64,
+}
+
+// The answer of `open`.
+pub struct OpenAnswer {
+    pub refusal: u32,
+    pub session: Session,
+}
+
+// The answer of `update`: frames are F, steps are C, and words are those played.
+pub struct UpdateAnswer {
+    pub refusal: u32,
+    pub session: Session,
+    pub frames: u32,
+    pub steps: u32,
+    pub request: bool,
+    pub left: Ledger,
+    pub right: Ledger,
+    pub words: usize,
+}
+
+// The answer of `report`.
+pub struct ReportAnswer {
+    pub refusal: u32,
+    pub stage: Stage,
+    pub status: ReconciliationStatus,
+    pub old: Timestamp,
+    pub new: Timestamp,
+    pub time: DisplayTime,
+}

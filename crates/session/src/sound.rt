@@ -1,0 +1,129 @@
+// Whether a session is sound: what calls leave, as document 01 lists it.
+ghost use mathlib.Core.Path.{_≡_};
+ghost use Rattle.session.specs.Sound.{queuedSound, weightSound, initSound, buffersSound, worldsSound, overshootSound, connectedOf, soundOf};
+use super::Session;
+use super::Stage;
+use client::ClientWorldSimulations;
+use client::Queued;
+use client::sides;
+use clocksync::ClientId;
+use clocksync::Clock;
+use clocksync::Offset;
+
+// A queued snapshot's handle is within 24 bits.
+pub fn queued_sound(q: Queued) -> bool
+    ensures { λ r. ⌜ r ≡ queuedSound q ⌝ }
+{
+    match q {
+        Queued::Nothing => true,
+        Queued::Held { stamp: _, handle } => handle < 16777216,
+    }
+}
+
+// The blend weight is 0 to 1, and 0 where the stamps differ.
+pub fn weight_sound(w: ClientWorldSimulations) -> bool
+    ensures { λ r. ⌜ r ≡ weightSound w ⌝ }
+{
+    let t = w.weight;
+    let old = sides::last_completed_timestamp(w);
+    let new = sides::new_timestamp(w);
+    if old.0 == new.0 {
+        if t >= 0.0 {
+            return t <= 1.0;
+        }
+        return false;
+    }
+    t == 0.0
+}
+
+// The old world is initialised only if the new one is.
+pub fn init_sound(w: ClientWorldSimulations) -> bool
+    ensures { λ r. ⌜ r ≡ initSound w ⌝ }
+{
+    let old = sides::get_side(w, sides::old_side(w));
+    let new = sides::get_side(w, sides::new_side(w));
+    if old.init {
+        return new.init;
+    }
+    true
+}
+
+// The three buffers are sound.
+pub fn buffers_sound(w: ClientWorldSimulations) -> bool
+    ensures { λ r. ⌜ r ≡ buffersSound w ⌝ }
+{
+    let left = w.left;
+    let right = w.right;
+    if !command::sound(left.commands) {
+        return false;
+    }
+    if !command::sound(right.commands) {
+        return false;
+    }
+    command::sound(w.base)
+}
+
+// The worlds are sound.
+pub fn worlds_sound(w: ClientWorldSimulations) -> bool
+    ensures { λ r. ⌜ r ≡ worldsSound w ⌝ }
+{
+    let s = w.snapshots;
+    let q = s.queued;
+    if !buffers_sound(w) {
+        return false;
+    }
+    if !queued_sound(q) {
+        return false;
+    }
+    if !weight_sound(w) {
+        return false;
+    }
+    init_sound(w)
+}
+
+// The overshoot is 0 to the timestep.
+pub fn overshoot_sound(overshoot: f64, timestep: f64) -> bool
+    ensures { λ r. ⌜ r ≡ overshootSound overshoot timestep ⌝ }
+{
+    if overshoot >= 0.0 {
+        return overshoot <= timestep;
+    }
+    false
+}
+
+// Once worlds exist there is an offset and an id; before, there is no offset.
+pub fn connected(stage: Stage, c: Clock) -> bool
+    ensures { λ r. ⌜ r ≡ connectedOf stage c ⌝ }
+{
+    let offset = c.offset;
+    match stage {
+        Stage::SyncingClock => match offset {
+            Offset::NoOffset => true,
+            Offset::Seconds(_) => false,
+        },
+        Stage::SyncingInitialState => c.is_ready(),
+        Stage::Ready => c.is_ready(),
+    }
+}
+
+// The session is sound.
+pub fn is_sound(s: Session) -> bool
+    ensures { λ r. ⌜ r ≡ soundOf s ⌝ }
+{
+    let settings = s.settings;
+    let clock = s.clock;
+    let stage = s.stage;
+    if !settings.passes() {
+        return false;
+    }
+    if !clock.is_sound(settings) {
+        return false;
+    }
+    if !connected(stage, clock) {
+        return false;
+    }
+    if !worlds_sound(s.worlds) {
+        return false;
+    }
+    overshoot_sound(s.overshoot, settings.timestep)
+}
