@@ -5,3 +5,5 @@ pub mod Skipping
 pub mod Bounds
 pub mod Framing
 pub mod Catching
+pub mod SoundWorlds
+pub mod SoundFrames

@@ -1,0 +1,392 @@
+-- Worlds stay sound through a frame, a skip and what every update ends with. The weight moves in Blending alone, and there the stamps stay equal: the old world steps once, and the new one once after it. Assumes nothing.
+use mathlib.Core.Path.{_≡_, refl, sym, ap, _∙_, subst}
+use mathlib.Core.Bool.{Bool, true, false, cond}
+use Prim.Native.Nat.{ℕ, zero, suc, _+_, _-_, _*_, _%_, _<_, _≤_}
+use native.Mathlib.Omega.{arith}
+use lib.Dec.{T, eqb, eqb→eq, lit<, lit≤}
+use lib.IntN.{pos}
+use lib.Ieee.{Float, nan, inf, fin, up, down, binary64, add, lt, eq, le}
+use lib.Ieee.Fits.{and-l}
+use borrow.Author.Tests.{eqb-true, eq-eqb}
+use Rattle.float_laws.proofs.Value.{zeroF, oneF, le-of-val}
+use Rattle.float_laws.proofs.Order.{between-finite, float-le-trans}
+use Rattle.float_laws.proofs.Within.{Within, within-of-tests, add-within}
+use Rattle.float_laws.proofs.Overshoot.{clamp-unit}
+use Rattle.timestamp.specs.declared.Timestamp.{Timestamp}
+use Rattle.timestamp.specs.declared.Ordering.{Ordering}
+use Rattle.timestamp.specs.declared.Ordering.the-variants.{Less, Equal}
+use Rattle.timestamp.specs.Timestamps.{sumOf, orderOf}
+use Rattle.timestamp.proofs.Order.{order-equal, order-less}
+use Rattle.command.specs.Buffer.{emptiedOf}
+use Rattle.command.proofs.Soundness.{moved-sound, emptied-sound}
+use Rattle.simulation.specs.World.{nextStamp, stepOf, resetOf, isLess}
+use Rattle.client.specs.declared.FastforwardingHealth.the-variants.{Healthy, Obsolete, Overshot}
+use Rattle.client.specs.declared.ReconciliationStatus.{ReconciliationStatus}
+use Rattle.client.specs.declared.ReconciliationStatus.the-variants.{AwaitingSnapshot, Fastforwarding, Blending}
+use Rattle.client.specs.declared.Queued.{Queued}
+use Rattle.client.specs.declared.Queued.the-variants.{Nothing, Held}
+use Rattle.client.specs.declared.Published.{Published}
+use Rattle.client.specs.declared.ClientWorldSimulations.{ClientWorldSimulations}
+use Rattle.client.specs.declared.Scene.{Scene}
+use Rattle.client.specs.Sides.{newSideOf, oldSideOf, worldOf, withPublished, oldStampOf, newStampOf, Played, still, andThen, doneAt}
+use Rattle.client.specs.Status.{statusBy, statusOf, overshotOf, newerOf}
+use Rattle.client.specs.Publish.{publishedNone, publishedSide, publishedMix, publishedOld, nearOne, publishedBoth, publishedBlended}
+use Rattle.client.specs.Frame.{loadedQueued, clamped, blendedOn, resetNew, openedOf, steppedSide, caughtUpOf, steppedNew, unless, caughtOf, simulatedOf, blendedBy, publishedBy, shownOf, snapshotOf, openOf, frameOf}
+use Rattle.client.specs.Skip.{resetSide, resetAlong, skipsBack, emptiedBase, resetBoth, skippedOf, postUpdateOf}
+use Rattle.client.proofs.SoundWorlds.{Kept, Weighed, is-nought, is-even, side-sound, old-at-old, new-at-old, new-at-new, old-at-new, put-old-side, weighed-as, base-kept, base-weighed, published-kept, published-weighed, weight-kept, weight-weighed, done-worlds, done-kept, done-weight, step-init, step-sound, step-stamp, reset-init, reset-sound, reset-stamp, loaded-kept, loaded-weighed}
+
+-- ---- the buffers, the queued snapshot and the initialisation
+
+-- a step of a side
+pub stepped-kept : (s : Scene) (side : ℕ) → Kept (s .worlds) → Kept (steppedSide s side .scene .worlds)
+unfolding steppedSide
+stepped-kept s side k =
+    let x = worldOf (s .worlds) side in
+    done-kept s side (stepOf x side) (step-sound x side (side-sound (s .worlds) side k)) (step-init x side) k
+
+stepped-new-kept : (s : Scene) → Kept (s .worlds) → Kept (steppedNew s .scene .worlds)
+unfolding steppedNew
+stepped-new-kept s k = stepped-kept s (newSideOf (s .worlds)) k
+
+unless-keeps : (P : ClientWorldSimulations → Type 0) (b : Bool) (s : Scene) (p : Played) → P (s .worlds) → P (p .scene .worlds) → P (unless b s p .scene .worlds)
+unless-keeps P true s p h k = h
+unless-keeps P false s p h k = k
+
+caught-kept : (n : ℕ) (o : Timestamp) (s : Scene) → Kept (s .worlds) → Kept (caughtOf n o s .scene .worlds)
+unfolding caughtOf andThen
+caught-kept zero o s k = k
+caught-kept (suc n) o s k =
+    unless-keeps Kept (caughtUpOf (newStampOf (s .worlds)) o) s (andThen (steppedNew s) (caughtOf n o)) k (caught-kept n o (steppedNew s .scene) (stepped-new-kept s k))
+
+simulated-kept : (m : ℕ) (s : Scene) → Kept (s .worlds) → Kept (simulatedOf m s .scene .worlds)
+unfolding simulatedOf andThen
+simulated-kept m s k =
+    let t = steppedSide s (oldSideOf (s .worlds)) .scene in
+    caught-kept m (oldStampOf (t .worlds)) t (stepped-kept s (oldSideOf (s .worlds)) k)
+
+-- a publish changes the published states alone
+module _ (P : ClientWorldSimulations → Type 0) (s : Scene) (h : (q : Published) → P (withPublished (s .worlds) q)) where
+  pick-keeps : (b : Bool) (p q : Played) → P (p .scene .worlds) → P (q .scene .worlds) → P (cond b p q .scene .worlds)
+  pick-keeps true p q a b = a
+  pick-keeps false p q a b = b
+
+  none-keeps : P (publishedNone s .scene .worlds)
+  unfolding publishedNone
+  none-keeps = h _
+
+  side-keeps : (side : ℕ) → P (publishedSide s side .scene .worlds)
+  unfolding publishedSide
+  side-keeps side = h _
+
+  mix-keeps : (t : Float) → P (publishedMix s t .scene .worlds)
+  unfolding publishedMix
+  mix-keeps t = h _
+
+  both-keeps : P (publishedBoth s .scene .worlds)
+  unfolding publishedBoth
+  both-keeps =
+      pick-keeps (eq (s .worlds .weight) zeroF) (publishedSide s (oldSideOf (s .worlds))) (cond (nearOne (s .worlds .weight)) (publishedSide s (newSideOf (s .worlds))) (publishedMix s (s .worlds .weight))) (side-keeps (oldSideOf (s .worlds)))
+      (pick-keeps (nearOne (s .worlds .weight)) (publishedSide s (newSideOf (s .worlds))) (publishedMix s (s .worlds .weight)) (side-keeps (newSideOf (s .worlds))) (mix-keeps (s .worlds .weight)))
+
+  pub publish-keeps : (b : Bool) → P (publishedBy b s .scene .worlds)
+  unfolding publishedBlended publishedOld
+  publish-keeps true =
+      pick-keeps (worldOf (s .worlds) (oldSideOf (s .worlds)) .init) (publishedBoth s) (cond (worldOf (s .worlds) (newSideOf (s .worlds)) .init) (publishedSide s (newSideOf (s .worlds))) (publishedNone s)) both-keeps
+      (pick-keeps (worldOf (s .worlds) (newSideOf (s .worlds)) .init) (publishedSide s (newSideOf (s .worlds))) (publishedNone s) (side-keeps (newSideOf (s .worlds))) none-keeps)
+  publish-keeps false =
+      pick-keeps (worldOf (s .worlds) (oldSideOf (s .worlds)) .init) (publishedSide s (oldSideOf (s .worlds))) (publishedNone s) (side-keeps (oldSideOf (s .worlds))) none-keeps
+
+shown-kept : (m : ℕ) (b : Bool) (s : Scene) → Kept (s .worlds) → Kept (shownOf m b s .scene .worlds)
+unfolding shownOf andThen
+shown-kept m b s k =
+    let t = simulatedOf m s .scene in
+    publish-keeps Kept t (λ q. published-kept (t .worlds) q (simulated-kept m s k)) b
+
+reset-side-kept : (s : Scene) (side : ℕ) (t : Timestamp) → Kept (s .worlds) → Kept (doneAt s side (resetOf (worldOf (s .worlds) side) t side) .scene .worlds)
+reset-side-kept s side t k =
+    let x = worldOf (s .worlds) side in
+    done-kept s side (resetOf x t side) (reset-sound x t side (side-sound (s .worlds) side k)) (reset-init x t side) k
+
+loaded-queued-kept : (s : Scene) (q : Queued) (side : ℕ) → Kept (s .worlds) → Kept (loadedQueued s q side .scene .worlds)
+unfolding loadedQueued
+loaded-queued-kept s Nothing side k = k
+loaded-queued-kept s (Held t h) side k = loaded-kept s side t h k
+
+opened-kept : (st : ReconciliationStatus) (q : Queued) (p : Float) (s : Scene) → Kept (s .worlds) → Kept (openedOf st q p s .scene .worlds)
+unfolding openedOf blendedOn resetNew
+opened-kept AwaitingSnapshot q p s k = loaded-queued-kept s q (oldSideOf (s .worlds)) k
+opened-kept (Blending t) q p s k = weight-kept (s .worlds) _ k
+opened-kept (Fastforwarding Healthy) q p s k = k
+opened-kept (Fastforwarding Obsolete) q p s k = loaded-queued-kept s q (newSideOf (s .worlds)) k
+opened-kept (Fastforwarding Overshot) q p s k = reset-side-kept s (newSideOf (s .worlds)) (oldStampOf (s .worlds)) k
+
+-- a frame
+pub frame-kept : (m : ℕ) (p : Float) (s : Scene) → Kept (s .worlds) → Kept (frameOf m p s .scene .worlds)
+unfolding frameOf andThen openOf
+frame-kept m p s k = shown-kept m (blendedBy (statusOf (s .worlds)) (snapshotOf s)) (openOf p s .scene) (opened-kept (statusOf (s .worlds)) (snapshotOf s) p s k)
+
+-- ---- equal stamps
+
+-- a stamp has reached itself
+caught-up-same : (n o : Timestamp) → n .0 ≡ o .0 → o .0 < 65536 → caughtUpOf n o ≡ true
+unfolding caughtUpOf
+caught-up-same n o e h =
+    let i : orderOf (n .0) (o .0) ≡ Equal = order-equal 0 (omega arith) h (lit< tt) (omega arith) refl in
+    ap (λ (r : Ordering). cond (isLess r) false true) i
+
+-- a stamp has not reached the next one
+order-next : (n : ℕ) → orderOf n (sumOf n 1) ≡ orderOf (n % 65536) (sumOf n 1)
+unfolding orderOf
+order-next n = let e : (n + (65536 - (n + 1) % 65536)) % 65536 ≡ (n % 65536 + (65536 - (n + 1) % 65536)) % 65536 = omega arith in rw e
+
+caught-up-next : (n o : Timestamp) → o .0 ≡ sumOf (n .0) 1 → caughtUpOf n o ≡ false
+unfolding caughtUpOf
+caught-up-next n o e =
+    let k = n .0 in
+    let i : orderOf (k % 65536) (sumOf k 1) ≡ Less = order-less 65535 (omega arith) (omega arith) (lit< tt) (omega arith) (lit≤ tt) in
+    ap (λ (x : ℕ). cond (isLess (orderOf k x)) false true) e ∙ ap (λ (r : Ordering). cond (isLess r) false true) (order-next k ∙ i)
+
+-- nothing is left to catch up with
+caught-there : (m : ℕ) (o : Timestamp) (s : Scene) → newStampOf (s .worlds) .0 ≡ o .0 → o .0 < 65536 → caughtOf m o s ≡ still s
+unfolding caughtOf
+caught-there zero o s e h = refl
+caught-there (suc m) o s e h = ap (λ (b : Bool). unless b s (andThen (steppedNew s) (caughtOf m o))) (caught-up-same (newStampOf (s .worlds)) o e h)
+
+-- the stamps after a step of a side
+module _ (s : Scene) where
+  old-stepped-old : oldStampOf (steppedSide s (oldSideOf (s .worlds)) .scene .worlds) ≡ nextStamp (oldStampOf (s .worlds))
+  unfolding steppedSide oldStampOf
+  old-stepped-old =
+      let side = oldSideOf (s .worlds) in
+      let d = stepOf (worldOf (s .worlds) side) side in
+      ap oldStampOf (done-worlds s side d) ∙ old-at-old (s .worlds) (d .world) ∙ step-stamp (worldOf (s .worlds) side) side
+
+  new-stepped-old : newStampOf (steppedSide s (oldSideOf (s .worlds)) .scene .worlds) ≡ newStampOf (s .worlds)
+  unfolding steppedSide
+  new-stepped-old =
+      let side = oldSideOf (s .worlds) in
+      let d = stepOf (worldOf (s .worlds) side) side in
+      ap newStampOf (done-worlds s side d) ∙ new-at-old (s .worlds) (d .world)
+
+  new-stepped-new : newStampOf (steppedNew s .scene .worlds) ≡ nextStamp (newStampOf (s .worlds))
+  unfolding steppedNew steppedSide newStampOf
+  new-stepped-new =
+      let side = newSideOf (s .worlds) in
+      let d = stepOf (worldOf (s .worlds) side) side in
+      ap newStampOf (done-worlds s side d) ∙ new-at-new (s .worlds) (d .world) ∙ step-stamp (worldOf (s .worlds) side) side
+
+  old-stepped-new : oldStampOf (steppedNew s .scene .worlds) ≡ oldStampOf (s .worlds)
+  unfolding steppedNew steppedSide
+  old-stepped-new =
+      let side = newSideOf (s .worlds) in
+      let d = stepOf (worldOf (s .worlds) side) side in
+      ap oldStampOf (done-worlds s side d) ∙ old-at-new (s .worlds) (d .world)
+
+-- a new world one frame behind catches up in one step
+caught-one : (m : ℕ) (o : Timestamp) (s : Scene) → o .0 ≡ sumOf (newStampOf (s .worlds) .0) 1 → caughtOf (suc m) o s .scene ≡ steppedNew s .scene
+unfolding caughtOf andThen
+caught-one m o s e =
+    let t = steppedNew s .scene in
+    let a : newStampOf (t .worlds) .0 ≡ o .0 = ap (λ (x : Timestamp). x .0) (new-stepped-new s) ∙ sym e in
+    ap (λ (b : Bool). unless b s (andThen (steppedNew s) (caughtOf m o)) .scene) (caught-up-next (newStampOf (s .worlds)) o e)
+    ∙ ap (λ (p : Played). p .scene) (caught-there m o t a (omega arith))
+
+-- equal stamps are equal after the steps of a frame
+simulated-even : (m : ℕ) (s : Scene) → oldStampOf (s .worlds) .0 ≡ newStampOf (s .worlds) .0 → oldStampOf (simulatedOf (suc m) s .scene .worlds) .0 ≡ newStampOf (simulatedOf (suc m) s .scene .worlds) .0
+unfolding simulatedOf andThen
+simulated-even m s e =
+    let t = steppedSide s (oldSideOf (s .worlds)) .scene in
+    let o = oldStampOf (t .worlds) in
+    let a : o .0 ≡ sumOf (oldStampOf (s .worlds) .0) 1 = ap (λ (x : Timestamp). x .0) (old-stepped-old s) in
+    let b : newStampOf (t .worlds) .0 ≡ newStampOf (s .worlds) .0 = ap (λ (x : Timestamp). x .0) (new-stepped-old s) in
+    let c : o .0 ≡ sumOf (newStampOf (t .worlds) .0) 1 = a ∙ ap (λ (x : ℕ). sumOf x 1) (e ∙ sym b) in
+    let d : caughtOf (suc m) o t .scene ≡ steppedNew t .scene = caught-one m o t c in
+    ap (λ (u : Scene). oldStampOf (u .worlds) .0) d ∙ ap (λ (x : Timestamp). x .0) (old-stepped-new t) ∙ c ∙ sym (ap (λ (x : Timestamp). x .0) (new-stepped-new t)) ∙ sym (ap (λ (u : Scene). newStampOf (u .worlds) .0) d)
+
+-- ---- the weight
+
+stepped-weight : (s : Scene) (side : ℕ) → steppedSide s side .scene .worlds .weight ≡ s .worlds .weight
+unfolding steppedSide
+stepped-weight s side = done-weight s side (stepOf (worldOf (s .worlds) side) side)
+
+stepped-new-weight : (s : Scene) → steppedNew s .scene .worlds .weight ≡ s .worlds .weight
+unfolding steppedNew
+stepped-new-weight s = stepped-weight s (newSideOf (s .worlds))
+
+caught-weight : (n : ℕ) (o : Timestamp) (s : Scene) → caughtOf n o s .scene .worlds .weight ≡ s .worlds .weight
+unfolding caughtOf andThen
+caught-weight zero o s = refl
+caught-weight (suc n) o s =
+    unless-keeps (λ (v : ClientWorldSimulations). v .weight ≡ s .worlds .weight) (caughtUpOf (newStampOf (s .worlds)) o) s (andThen (steppedNew s) (caughtOf n o)) refl (caught-weight n o (steppedNew s .scene) ∙ stepped-new-weight s)
+
+simulated-weight : (m : ℕ) (s : Scene) → simulatedOf m s .scene .worlds .weight ≡ s .worlds .weight
+unfolding simulatedOf andThen
+simulated-weight m s =
+    let t = steppedSide s (oldSideOf (s .worlds)) .scene in
+    caught-weight m (oldStampOf (t .worlds)) t ∙ stepped-weight s (oldSideOf (s .worlds))
+
+simulated-weighed : (m : ℕ) (s : Scene) → Weighed (s .worlds) → Weighed (simulatedOf (suc m) s .scene .worlds)
+simulated-weighed m s (is-nought h) = is-nought (subst (λ (t : Float). T (eq t zeroF)) (sym (simulated-weight (suc m) s)) h)
+simulated-weighed m s (is-even e a b) =
+    is-even (simulated-even m s e) (subst (λ (t : Float). T (le zeroF t)) (sym (simulated-weight (suc m) s)) a) (subst (λ (t : Float). T (le t oneF)) (sym (simulated-weight (suc m) s)) b)
+
+shown-weighed : (m : ℕ) (b : Bool) (s : Scene) → Weighed (s .worlds) → Weighed (shownOf (suc m) b s .scene .worlds)
+unfolding shownOf andThen
+shown-weighed m b s h =
+    let t = simulatedOf (suc m) s .scene in
+    publish-keeps Weighed t (λ q. published-weighed (t .worlds) q (simulated-weighed m s h)) b
+
+-- in Blending the stamps are equal
+blending-by : (a l v q : Bool) (t u : Float) → statusBy a l v q t ≡ Blending u → a ≡ true
+blending-by true l v q t u e = refl
+blending-by false l true q t u e = absurd (let z : _≡_ {A = ℕ} 0 1 = cc in omega arith)
+blending-by false l false true t u e = absurd (let z : _≡_ {A = ℕ} 0 1 = cc in omega arith)
+blending-by false l false false t u e = absurd (let z : _≡_ {A = ℕ} 0 1 = cc in omega arith)
+
+blending-even : (w : ClientWorldSimulations) (u : Float) → statusOf w ≡ Blending u → oldStampOf w .0 ≡ newStampOf w .0
+unfolding statusOf
+blending-even w u e =
+    sym (eqb-true (newStampOf w .0) (oldStampOf w .0) (blending-by (eqb (newStampOf w .0) (oldStampOf w .0)) (lt (w .weight) oneF) (overshotOf (newStampOf w) (oldStampOf w)) (newerOf (w .snapshots .queued) (newStampOf w)) (w .weight) u e))
+
+-- a weight is from 0 to 1
+nought-low : (x : Float) → T (eq x zeroF) → T (le zeroF x) × T (le x oneF)
+unfolding eq le lt
+nought-low nan h = absurd h
+nought-low (inf s) h = absurd h
+nought-low (fin false m e) h =
+    let k : m * up e * 1 ≡ 0 * 1 * down e = eqb→eq (m * up e * 1) (0 * 1 * down e) (and-l (eqb (m * up e * 1) (0 * 1 * down e)) true h) in
+    (le-of-val zeroF (fin false m e) tt tt (omega arith), le-of-val (fin false m e) oneF tt tt (omega arith))
+nought-low (fin true m e) h =
+    let k : m * up e * 1 ≡ 0 * 1 * down e = eqb→eq (m * up e * 1) (0 * 1 * down e) (and-l (eqb (m * up e * 1) (0 * 1 * down e)) (eqb (m * up e * 1) 0) h) in
+    (le-of-val zeroF (fin true m e) tt tt (omega arith), le-of-val (fin true m e) oneF tt tt (omega arith))
+
+pub weighed-unit : (w : ClientWorldSimulations) → Weighed w → T (le zeroF (w .weight)) × T (le (w .weight) oneF)
+weighed-unit w (is-nought h) = nought-low (w .weight) h
+weighed-unit w (is-even e a b) = (a, b)
+
+-- and within 1
+unit-within : (x : Float) → T (le zeroF x) → T (le x oneF) → Within x 1
+unfolding le
+unit-within x a b =
+    within-of-tests x (fin true 1 (pos 0)) oneF 1 (between-finite zeroF x oneF tt tt a b) (refl, refl) (refl, refl) (float-le-trans (fin true 1 (pos 0)) zeroF x tt a) b
+
+-- moved on by a progress within 1,024 it is from 0 to 1
+clamped-unit : (x p : Float) → T (le zeroF x) → T (le x oneF) → Within p 1024 → T (le zeroF (clamped (add binary64 x p))) × T (le (clamped (add binary64 x p)) oneF)
+clamped-unit x p a b h = clamp-unit (add binary64 x p) (add-within x p 1 1024 (lit< tt) (unit-within x a b) h .0)
+
+loaded-queued-weighed : (s : Scene) (q : Queued) (side : ℕ) → Weighed (s .worlds) → Weighed (loadedQueued s q side .scene .worlds)
+unfolding loadedQueued
+loaded-queued-weighed s Nothing side h = h
+loaded-queued-weighed s (Held t n) side h = loaded-weighed s side t n
+
+-- a reset of the new world to the old stamp
+reset-new-weighed : (s : Scene) → Weighed (s .worlds) → Weighed (resetNew s .scene .worlds)
+unfolding resetNew
+reset-new-weighed s h = go h
+  where
+    go : Weighed (s .worlds) → Weighed (doneAt s (newSideOf (s .worlds)) (resetOf (worldOf (s .worlds) (newSideOf (s .worlds))) (oldStampOf (s .worlds)) (newSideOf (s .worlds))) .scene .worlds)
+    go (is-nought z) = is-nought (subst (λ (t : Float). T (eq t zeroF)) (sym (done-weight s _ _)) z)
+    go (is-even e a b) =
+        let side = newSideOf (s .worlds) in
+        let d = resetOf (worldOf (s .worlds) side) (oldStampOf (s .worlds)) side in
+        let o = ap oldStampOf (done-worlds s side d) ∙ old-at-new (s .worlds) (d .world) in
+        let n = ap newStampOf (done-worlds s side d) ∙ new-at-new (s .worlds) (d .world) ∙ reset-stamp (worldOf (s .worlds) side) (oldStampOf (s .worlds)) side in
+        is-even (ap (λ (x : Timestamp). x .0) (o ∙ sym n)) (subst (λ (t : Float). T (le zeroF t)) (sym (done-weight s side d)) a) (subst (λ (t : Float). T (le t oneF)) (sym (done-weight s side d)) b)
+
+opened-weighed : (st : ReconciliationStatus) (q : Queued) (p : Float) (s : Scene) → statusOf (s .worlds) ≡ st → Within p 1024 → Weighed (s .worlds) → Weighed (openedOf st q p s .scene .worlds)
+unfolding openedOf blendedOn
+opened-weighed AwaitingSnapshot q p s e i h = loaded-queued-weighed s q (oldSideOf (s .worlds)) h
+opened-weighed (Blending t) q p s e i h =
+    let u = weighed-unit (s .worlds) h in
+    let c = clamped-unit (s .worlds .weight) p (u .0) (u .1) i in
+    weight-weighed (s .worlds) (clamped (add binary64 (s .worlds .weight) p)) (blending-even (s .worlds) t e) (c .0) (c .1)
+opened-weighed (Fastforwarding Healthy) q p s e i h = h
+opened-weighed (Fastforwarding Obsolete) q p s e i h = loaded-queued-weighed s q (newSideOf (s .worlds)) h
+opened-weighed (Fastforwarding Overshot) q p s e i h = reset-new-weighed s h
+
+-- a frame of at least one catch-up step
+pub frame-weighed : (m : ℕ) (p : Float) (s : Scene) → 1 ≤ m → Within p 1024 → Weighed (s .worlds) → Weighed (frameOf m p s .scene .worlds)
+unfolding frameOf andThen openOf
+frame-weighed zero p s l i h = absurd (omega arith)
+frame-weighed (suc m) p s l i h = shown-weighed m (blendedBy (statusOf (s .worlds)) (snapshotOf s)) (openOf p s .scene) (opened-weighed (statusOf (s .worlds)) (snapshotOf s) p s refl i h)
+
+-- ---- a skip
+
+reset-along-kept : (s : Scene) (t : Timestamp) → Kept (s .worlds) → Kept (resetAlong s t .scene .worlds)
+unfolding resetAlong resetSide
+reset-along-kept s t k = go (eqb (newStampOf (s .worlds) .0) (oldStampOf (s .worlds) .0))
+  where
+    go : (b : Bool) → Kept (cond b (resetSide s (newSideOf (s .worlds)) t) (still s) .scene .worlds)
+    go true = reset-side-kept s (newSideOf (s .worlds)) t k
+    go false = k
+
+emptied-base-kept : (b : Bool) (s : Scene) → Kept (s .worlds) → Kept (emptiedBase b s .worlds)
+emptied-base-kept true s k = base-kept (s .worlds) (emptiedOf (s .worlds .base)) (emptied-sound (s .worlds .base) (k .base)) k
+emptied-base-kept false s k = k
+
+pub skip-kept : (s : Scene) (t : Timestamp) → Kept (s .worlds) → Kept (skippedOf s t .scene .worlds)
+unfolding skippedOf resetBoth andThen resetSide
+skip-kept s t k =
+    emptied-base-kept (skipsBack t (oldStampOf (s .worlds))) (resetBoth s t .scene) (reset-side-kept (resetAlong s t .scene) (oldSideOf (s .worlds)) t (reset-along-kept s t k))
+
+emptied-base-weighed : (b : Bool) (s : Scene) → Weighed (s .worlds) → Weighed (emptiedBase b s .worlds)
+emptied-base-weighed true s k = base-weighed (s .worlds) (emptiedOf (s .worlds .base)) k
+emptied-base-weighed false s k = k
+
+-- the new world goes along where the stamps are equal: the side of each world stays, and the new stamp is t
+along-even : (s : Scene) (t : Timestamp) → oldStampOf (s .worlds) .0 ≡ newStampOf (s .worlds) .0 → resetAlong s t ≡ resetSide s (newSideOf (s .worlds)) t
+unfolding resetAlong
+along-even s t e = ap (λ (b : Bool). cond b (resetSide s (newSideOf (s .worlds)) t) (still s)) (eq-eqb (newStampOf (s .worlds) .0) (oldStampOf (s .worlds) .0) (sym e))
+
+reset-weight : (s : Scene) (side : ℕ) (t : Timestamp) → resetSide s side t .scene .worlds .weight ≡ s .worlds .weight
+unfolding resetSide
+reset-weight s side t = done-weight s side (resetOf (worldOf (s .worlds) side) t side)
+
+along-weight : (s : Scene) (t : Timestamp) → resetAlong s t .scene .worlds .weight ≡ s .worlds .weight
+unfolding resetAlong
+along-weight s t = go (eqb (newStampOf (s .worlds) .0) (oldStampOf (s .worlds) .0))
+  where
+    go : (b : Bool) → cond b (resetSide s (newSideOf (s .worlds)) t) (still s) .scene .worlds .weight ≡ s .worlds .weight
+    go true = reset-weight s (newSideOf (s .worlds)) t
+    go false = refl
+
+both-weight : (s : Scene) (t : Timestamp) → resetBoth s t .scene .worlds .weight ≡ s .worlds .weight
+unfolding resetBoth andThen
+both-weight s t = reset-weight (resetAlong s t .scene) (oldSideOf (s .worlds)) t ∙ along-weight s t
+
+-- equal stamps are both t after it
+both-even : (s : Scene) (t : Timestamp) → oldStampOf (s .worlds) .0 ≡ newStampOf (s .worlds) .0 → oldStampOf (resetBoth s t .scene .worlds) ≡ newStampOf (resetBoth s t .scene .worlds)
+unfolding resetBoth andThen resetSide
+both-even s t e =
+    let n = newSideOf (s .worlds) in
+    let d = resetOf (worldOf (s .worlds) n) t n in
+    let u = doneAt s n d .scene in
+    let a : resetAlong s t ≡ doneAt s n d = along-even s t e in
+    let b : oldSideOf (s .worlds) ≡ oldSideOf (u .worlds) = sym (ap oldSideOf (done-worlds s n d) ∙ put-old-side (s .worlds) n (d .world)) in
+    let o = oldSideOf (u .worlds) in
+    let f = resetOf (worldOf (u .worlds) o) t o in
+    let c : resetSide (resetAlong s t .scene) (oldSideOf (s .worlds)) t .scene ≡ doneAt u o f .scene =
+    ap (λ (p : Played). resetSide (p .scene) (oldSideOf (s .worlds)) t .scene) a ∙ ap (λ (x : ℕ). doneAt u x (resetOf (worldOf (u .worlds) x) t x) .scene) b in
+    let x : newStampOf (u .worlds) ≡ t = ap newStampOf (done-worlds s n d) ∙ new-at-new (s .worlds) (d .world) ∙ reset-stamp (worldOf (s .worlds) n) t n in
+    let y : oldStampOf (doneAt u o f .scene .worlds) ≡ t = ap oldStampOf (done-worlds u o f) ∙ old-at-old (u .worlds) (f .world) ∙ reset-stamp (worldOf (u .worlds) o) t o in
+    let z : newStampOf (doneAt u o f .scene .worlds) ≡ t = ap newStampOf (done-worlds u o f) ∙ new-at-old (u .worlds) (f .world) ∙ x in
+    ap (λ (v : Scene). oldStampOf (v .worlds)) c ∙ y ∙ sym z ∙ sym (ap (λ (v : Scene). newStampOf (v .worlds)) c)
+
+both-weighed : (s : Scene) (t : Timestamp) → Weighed (s .worlds) → Weighed (resetBoth s t .scene .worlds)
+both-weighed s t (is-nought h) = is-nought (subst (λ (x : Float). T (eq x zeroF)) (sym (both-weight s t)) h)
+both-weighed s t (is-even e a b) =
+    is-even (ap (λ (x : Timestamp). x .0) (both-even s t e)) (subst (λ (x : Float). T (le zeroF x)) (sym (both-weight s t)) a) (subst (λ (x : Float). T (le x oneF)) (sym (both-weight s t)) b)
+
+pub skip-weighed : (s : Scene) (t : Timestamp) → Weighed (s .worlds) → Weighed (skippedOf s t .scene .worlds)
+unfolding skippedOf
+skip-weighed s t h = emptied-base-weighed (skipsBack t (oldStampOf (s .worlds))) (resetBoth s t .scene) (both-weighed s t h)
+
+-- ---- what every update ends with
+
+pub post-kept : (w : ClientWorldSimulations) (t : Float) (lag : ℕ) → Kept w → Kept (postUpdateOf w t lag)
+unfolding postUpdateOf
+post-kept w t lag k = record { left = k .left; right = k .right; base = moved-sound (w .base) (oldStampOf w) (k .base); queued = k .queued; init = k .init }
+
+pub post-weighed : (w : ClientWorldSimulations) (t : Float) (lag : ℕ) → Weighed w → Weighed (postUpdateOf w t lag)
+unfolding postUpdateOf oldStampOf newStampOf oldSideOf newSideOf worldOf
+post-weighed w t lag h = weighed-as (postUpdateOf w t lag) w refl refl refl h

@@ -1,0 +1,248 @@
+-- The frames of an update: worlds stay sound through them, a skip and what every update ends with, and an update that ends by itself leaves an overshoot from 0 to the timestep. Assumes nothing.
+use mathlib.Core.Path.{_≡_, refl, sym, subst}
+use mathlib.Core.Logic.{_⊎_, inl, inr}
+use mathlib.Core.Bool.{Bool, true, false, not, cond}
+use Prim.Native.Nat.{ℕ, zero, suc, _^_}
+use native.Mathlib.Omega.{arith}
+use lib.Dec.{T, lit<}
+use lib.IntN.{pos}
+use lib.Ieee.{Float, nan, inf, fin, binary64, fits, add, sub, mul, lt, le}
+use lib.Ieee.Scale.{finite}
+use Rattle.float_laws.proofs.Value.{q-le-refl, val, oneF, le-of-val}
+use Rattle.float_laws.proofs.Order.{between-finite, float-le-trans, float-le-of-lt, float-le-of-not-lt}
+use Rattle.float_laws.proofs.Round.{has-value-finite}
+use Rattle.float_laws.proofs.Within.{Within, within-of-tests}
+use Rattle.float_laws.proofs.Timestep.{Step, div-least-within}
+use Rattle.float_laws.proofs.Frames.{After, frames-start, frames-step}
+use Rattle.timestamp.specs.declared.Timestamp.{Timestamp}
+use Rattle.settings.specs.declared.Settings.{Settings}
+use Rattle.settings.specs.Settings.{passesOf, blendProgressOf, least64, sixtyFour64}
+use Rattle.settings.proofs.Limits.{timestep-within, blend-within, max-tests, steps-few, sixty-four-exact}
+use Rattle.client.specs.declared.ClientWorldSimulations.{ClientWorldSimulations}
+use Rattle.client.specs.declared.Scene.{Scene}
+use Rattle.client.specs.Sides.{oldStampOf, withWorlds, Played, andThen}
+use Rattle.client.specs.Frame.{frameOf, frameStops}
+use Rattle.client.specs.Skip.{skippedOf, tweenOf, weightOk, postUpdateOf}
+use Rattle.client.proofs.SoundWorlds.{Kept, Weighed}
+use Rattle.client.proofs.SoundFrames.{frame-kept, frame-weighed, skip-kept, skip-weighed, post-kept, post-weighed}
+use Rattle.fixed_timestepper.specs.declared.Stop.{Stop}
+use Rattle.fixed_timestepper.specs.declared.Stop.the-variants.{Done, TooManyFrames, StatusStops, WeightStops}
+use Rattle.fixed_timestepper.specs.TimeKeeper.{nought, atLeastZero, driftOf, beyondDeadband, uncappedOf, compensatedOf, Run, ended, framed, goesOn, whileBelow, runOf, correctedOf, skipsOf, skipped, maybeSkipped, endsWith, finishedOf, concluded, advancedOf, updatedOf}
+use Rattle.fixed_timestepper.proofs.SoundSkips.{corrected-in}
+
+-- ---- what settings that pass give
+
+module _ (c : Settings) (pass : passesOf c ≡ true) where
+  -- the timestep
+  pub step-of : T (fits binary64 (c .timestep)) → Step (c .timestep)
+  step-of f = let w = timestep-within c pass in record { fits-t = f; finite-t = w .number; least = w .low; most = w .high }
+
+  -- the blend weight's progress is within 1,024
+  pub progress-within : Within (blendProgressOf c) 1024
+  unfolding le
+  progress-within =
+      let t = timestep-within c pass in
+      let b = blend-within c pass in
+      let w : Within (c .timestep) 1 = within-of-tests (c .timestep) (fin true 1 (pos 0)) oneF 1 (t .number) (refl, refl) (refl, refl) (float-le-trans (fin true 1 (pos 0)) least64 (c .timestep) tt (t .low)) (t .high) in
+      div-least-within (c .timestep) (c .blend) 1 (lit< tt) w (b .number) (b .low)
+
+  -- the update maximum is finite
+  pub max-finite : T (fits binary64 (c .timestep)) → T (finite (c .max))
+  max-finite f =
+      let m = max-tests c pass in
+      between-finite nought (c .max) (mul binary64 sixtyFour64 (c .timestep)) tt (has-value-finite (mul binary64 sixtyFour64 (c .timestep)) false _ _ (sixty-four-exact (c .timestep) f (timestep-within c pass))) (m .0) (m .1)
+
+-- ---- the seconds that an update plays
+
+-- from 0 to a maximum
+pub record Capped (max d : Float) : Type 0 where
+  pub number : T (finite d)
+  pub low : T (le nought d)
+  pub high : T (le d max)
+
+-- a number that is not above 0 gives 0, and any other but an infinity is finite
+at-least : (x : Float) → (T (finite (atLeastZero x)) × T (le nought (atLeastZero x))) ⊎ (atLeastZero x ≡ inf false)
+unfolding lt le
+at-least nan = inl (tt, tt)
+at-least (inf true) = inl (tt, tt)
+at-least (inf false) = inr refl
+at-least (fin s m e) = inl (go (lt nought (fin s m e)) (λ (h : T (lt nought (fin s m e))). float-le-of-lt nought (fin s m e) tt tt h))
+  where
+    go : (b : Bool) → (T b → T (le nought (fin s m e))) → T (finite (cond b (fin s m e) nought)) × T (le nought (cond b (fin s m e) nought))
+    go true h = (tt, h tt)
+    go false h = (tt, tt)
+
+below-infinity : (x : Float) → T (finite x) → lt x (inf false) ≡ true
+unfolding lt
+below-infinity nan p = absurd p
+below-infinity (inf s) p = absurd p
+below-infinity (fin s m e) p = refl
+
+le-self : (x : Float) → T (finite x) → T (le x x)
+le-self x p = le-of-val x x p p (q-le-refl (val x))
+
+cap : (max u : Float) → T (finite max) → T (le nought max) → (T (finite u) × T (le nought u)) ⊎ (u ≡ inf false) → Capped max (cond (lt max u) max u)
+cap max u p l (inl h) = go (lt max u) (λ (n : T (not (lt max u))). float-le-of-not-lt max u p (h .0) n)
+  where
+    go : (b : Bool) → (T (not b) → T (le u max)) → Capped max (cond b max u)
+    go true k = record { number = p; low = l; high = le-self max p }
+    go false k = record { number = h .0; low = h .1; high = k tt }
+cap max u p l (inr e) =
+    subst (λ (v : Float). Capped max (cond (lt max v) max v)) (sym e)
+    (subst (λ (b : Bool). Capped max (cond b max (inf false))) (sym (below-infinity max p)) (record { number = p; low = l; high = le-self max p }))
+
+pub compensated-capped : (stamp : Timestamp) (o delta server : Float) (c : Settings) → T (finite (c .max)) → T (le nought (c .max)) → Capped (c .max) (compensatedOf stamp o delta server c)
+unfolding compensatedOf uncappedOf
+compensated-capped stamp o delta server c p l = cap (c .max) (uncappedOf stamp o delta server (c .timestep)) p l (at-least (sub binary64 delta (beyondDeadband (driftOf stamp o (c .timestep) (sub binary64 server delta)) (c .timestep))))
+
+-- ---- the overshoot after the frames
+
+-- a frame under the settings c, and the overshoot after it
+abbrev frameBy : Settings → Scene → Played
+frameBy c s = frameOf (c .m) (blendProgressOf c) s
+
+abbrev later : Settings → Float → Float
+later c o = add binary64 o (c .timestep)
+
+-- finite and from 0 to the timestep
+pub record InStep (t o : Float) : Type 0 where
+  pub number : T (finite o)
+  pub low : T (le nought o)
+  pub high : T (le o t)
+
+-- the frames end by themselves once the overshoot is not below 0, and no addition takes it above the timestep
+pub run-overshoot : (n k : ℕ) (c : Settings) (s : Scene) (o : Float) → Step (c .timestep) → After (c .timestep) k o → runOf n c s o .stop ≡ Done → InStep (c .timestep) (runOf n c s o .overshoot)
+unfolding runOf framed
+run-overshoot zero k c s o st a e = go (lt o nought) (λ (h : T (not (lt o nought))). float-le-of-not-lt o nought (a .finite-x) tt h) e
+  where
+    go : (b : Bool) → (T (not b) → T (le nought o)) → whileBelow b s o (ended TooManyFrames s o) .stop ≡ Done → InStep (c .timestep) (whileBelow b s o (ended TooManyFrames s o) .overshoot)
+    go true h q = absurd (let z : _≡_ {A = ℕ} 0 1 = cc in omega arith)
+    go false h q = record { number = a .finite-x; low = h tt; high = le-of-val o (c .timestep) (a .finite-x) (st .finite-t) (a .ceiling) }
+run-overshoot (suc n) k c s o st a e =
+    go (lt o nought) (λ (h : T (lt o nought)). frames-step (c .timestep) k o st a h) (λ (h : T (not (lt o nought))). float-le-of-not-lt o nought (a .finite-x) tt h)
+    (λ g q. run-overshoot n (suc k) c (frameBy c s .scene) (later c o) st g q) e
+  where
+    on : (b : Bool) → (runOf n c (frameBy c s .scene) (later c o) .stop ≡ Done → InStep (c .timestep) (runOf n c (frameBy c s .scene) (later c o) .overshoot)) → goesOn b (frameBy c s .scene) (later c o) (runOf n c (frameBy c s .scene) (later c o)) .stop ≡ Done → InStep (c .timestep) (goesOn b (frameBy c s .scene) (later c o) (runOf n c (frameBy c s .scene) (later c o)) .overshoot)
+    on true r q = absurd (let z : _≡_ {A = ℕ} 0 1 = cc in omega arith)
+    on false r q = r q
+
+    go : (b : Bool) → (T b → After (c .timestep) (suc k) (later c o)) → (T (not b) → T (le nought o))
+        → (After (c .timestep) (suc k) (later c o) → runOf n c (frameBy c s .scene) (later c o) .stop ≡ Done → InStep (c .timestep) (runOf n c (frameBy c s .scene) (later c o) .overshoot))
+        → whileBelow b s o (framed s (frameBy c s) (goesOn (frameStops (c .m) (blendProgressOf c) s) (frameBy c s .scene) (later c o) (runOf n c (frameBy c s .scene) (later c o)))) .stop ≡ Done
+        → InStep (c .timestep) (whileBelow b s o (framed s (frameBy c s) (goesOn (frameStops (c .m) (blendProgressOf c) s) (frameBy c s .scene) (later c o) (runOf n c (frameBy c s .scene) (later c o)))) .overshoot)
+    go true g h r q = on (frameStops (c .m) (blendProgressOf c) s) (r (g tt)) q
+    go false g h r q = record { number = a .finite-x; low = h tt; high = le-of-val o (c .timestep) (a .finite-x) (st .finite-t) (a .ceiling) }
+
+-- ---- what every frame, skip and end keep
+
+module _ (P : ClientWorldSimulations → Type 0) (c : Settings)
+    (frames : (s : Scene) → P (s .worlds) → P (frameOf (c .m) (blendProgressOf c) s .scene .worlds))
+    (skips : (s : Scene) (t : Timestamp) → P (s .worlds) → P (skippedOf s t .scene .worlds))
+    (posts : (w : ClientWorldSimulations) (t : Float) (lag : ℕ) → P w → P (postUpdateOf w t lag)) where
+  run-keeps : (n : ℕ) (s : Scene) (o : Float) → P (s .worlds) → P (runOf n c s o .played .scene .worlds)
+  unfolding runOf framed
+  run-keeps zero s o h = go (lt o nought)
+    where
+      go : (b : Bool) → P (whileBelow b s o (ended TooManyFrames s o) .played .scene .worlds)
+      go true = h
+      go false = h
+  run-keeps (suc n) s o h = go (lt o nought) (run-keeps n (frameBy c s .scene) (later c o) (frames s h))
+    where
+      on : (b : Bool) → P (runOf n c (frameBy c s .scene) (later c o) .played .scene .worlds) → P (goesOn b (frameBy c s .scene) (later c o) (runOf n c (frameBy c s .scene) (later c o)) .played .scene .worlds)
+      on true r = frames s h
+      on false r = r
+
+      go : (b : Bool) → P (runOf n c (frameBy c s .scene) (later c o) .played .scene .worlds) → P (whileBelow b s o (framed s (frameBy c s) (goesOn (frameStops (c .m) (blendProgressOf c) s) (frameBy c s .scene) (later c o) (runOf n c (frameBy c s .scene) (later c o)))) .played .scene .worlds)
+      go true r = on (frameStops (c .m) (blendProgressOf c) s) r
+      go false r = h
+
+  skip-keeps : (r : Run) (server : Float) → P (r .played .scene .worlds) → P (maybeSkipped r server c .played .scene .worlds)
+  unfolding maybeSkipped skipped andThen
+  skip-keeps r server h = go (skipsOf (oldStampOf (r .played .scene .worlds)) (r .overshoot) server c)
+    where
+      go : (b : Bool) → P (cond b (skipped r server c) r .played .scene .worlds)
+      go true = skips (r .played .scene) (correctedOf server (c .timestep)) h
+      go false = h
+
+  finish-keeps : (r : Run) → P (r .played .scene .worlds) → P (finishedOf r c .played .scene .worlds)
+  unfolding finishedOf
+  finish-keeps r h = go (weightOk (tweenOf (r .overshoot) (c .timestep))) _ _
+    where
+      go : (b : Bool) (t : Float) (lag : ℕ) → P (cond b (endsWith r (withWorlds (r .played .scene) (postUpdateOf (r .played .scene .worlds) t lag)) Done) (endsWith r (r .played .scene) WeightStops) .played .scene .worlds)
+      go true t lag = posts (r .played .scene .worlds) t lag h
+      go false t lag = h
+
+  concluded-keeps : (x : Stop) (r : Run) (server : Float) → P (r .played .scene .worlds) → P (concluded x r server c .played .scene .worlds)
+  concluded-keeps Done r server h = finish-keeps (maybeSkipped r server c) (skip-keeps r server h)
+  concluded-keeps TooManyFrames r server h = h
+  concluded-keeps StatusStops r server h = h
+  concluded-keeps WeightStops r server h = h
+
+  updated-keeps : (s : Scene) (o delta server : Float) → P (s .worlds) → P (updatedOf c s o delta server .played .scene .worlds)
+  unfolding updatedOf advancedOf
+  updated-keeps s o delta server h =
+      concluded-keeps (advancedOf c s o delta server .stop) (advancedOf c s o delta server) server (run-keeps 65 s (sub binary64 o (compensatedOf (oldStampOf (s .worlds)) o delta server c)) h)
+
+-- ---- one update of the worlds
+
+module _ (c : Settings) (pass : passesOf c ≡ true) where
+  -- buffers, queued snapshot and initialisation stay sound
+  pub updated-kept : (s : Scene) (o delta server : Float) → Kept (s .worlds) → Kept (updatedOf c s o delta server .played .scene .worlds)
+  updated-kept s o delta server k = updated-keeps Kept c (λ t. frame-kept (c .m) (blendProgressOf c) t) skip-kept post-kept s o delta server k
+
+  -- and so does the weight
+  pub updated-weighed : (s : Scene) (o delta server : Float) → Weighed (s .worlds) → Weighed (updatedOf c s o delta server .played .scene .worlds)
+  updated-weighed s o delta server h =
+      updated-keeps Weighed c (λ t i. frame-weighed (c .m) (blendProgressOf c) t (steps-few c pass .0) (progress-within c pass) i) skip-weighed post-weighed s o delta server h
+
+  module _ (fit : T (fits binary64 (c .timestep))) where
+    -- the overshoot after the frames, from one of 0 to the timestep
+    advanced-in : (s : Scene) (o delta server : Float) → InStep (c .timestep) o → advancedOf c s o delta server .stop ≡ Done → InStep (c .timestep) (advancedOf c s o delta server .overshoot)
+    unfolding advancedOf
+    advanced-in s o delta server i e =
+        let d = compensatedOf (oldStampOf (s .worlds)) o delta server c in
+        let m = max-tests c pass in
+        let k = compensated-capped (oldStampOf (s .worlds)) o delta server c (max-finite c pass fit) (m .0) in
+        let st = step-of c pass fit in
+        run-overshoot 65 0 c s (sub binary64 o d) st
+        (frames-start o d (c .timestep) st (i .number) (k .number) (i .low) (i .high) (k .low) (float-le-trans d (c .max) (mul binary64 sixtyFour64 (c .timestep)) (k .high) (m .1))) e
+
+    -- after a skip, where the weight passes
+    skipped-in : (r : Run) (server : Float) → Within server (2 ^ 34) → InStep (c .timestep) (r .overshoot) → weightOk (tweenOf (maybeSkipped r server c .overshoot) (c .timestep)) ≡ true → InStep (c .timestep) (maybeSkipped r server c .overshoot)
+    unfolding maybeSkipped skipped
+    skipped-in r server w i = go (skipsOf (oldStampOf (r .played .scene .worlds)) (r .overshoot) server c)
+      where
+        go : (b : Bool) → weightOk (tweenOf (cond b (skipped r server c) r .overshoot) (c .timestep)) ≡ true → InStep (c .timestep) (cond b (skipped r server c) r .overshoot)
+        go true ok = let x = corrected-in server (c .timestep) w (step-of c pass fit) ok in record { number = x .0; low = x .1; high = x .2 }
+        go false ok = i
+
+    -- an update that is played to its end has a weight that passes
+    finished-done : (r : Run) → finishedOf r c .stop ≡ Done → weightOk (tweenOf (r .overshoot) (c .timestep)) ≡ true
+    unfolding finishedOf
+    finished-done r = go (weightOk (tweenOf (r .overshoot) (c .timestep))) _
+      where
+        go : (b : Bool) (s : Scene) → cond b (endsWith r s Done) (endsWith r (r .played .scene) WeightStops) .stop ≡ Done → b ≡ true
+        go true s e = refl
+        go false s e = absurd (let z : _≡_ {A = ℕ} 0 1 = cc in omega arith)
+
+    finished-overshoot : (r : Run) → finishedOf r c .overshoot ≡ r .overshoot
+    unfolding finishedOf
+    finished-overshoot r = go (weightOk (tweenOf (r .overshoot) (c .timestep))) _
+      where
+        go : (b : Bool) (s : Scene) → cond b (endsWith r s Done) (endsWith r (r .played .scene) WeightStops) .overshoot ≡ r .overshoot
+        go true s = refl
+        go false s = refl
+
+    concluded-in : (x : Stop) (r : Run) (server : Float) → r .stop ≡ x → Within server (2 ^ 34) → (x ≡ Done → InStep (c .timestep) (r .overshoot)) → concluded x r server c .stop ≡ Done → InStep (c .timestep) (concluded x r server c .overshoot)
+    concluded-in Done r server q w i e =
+        let v = maybeSkipped r server c in
+        subst (λ (o : Float). InStep (c .timestep) o) (sym (finished-overshoot v)) (skipped-in r server w (i refl) (finished-done v e))
+    concluded-in TooManyFrames r server q w i e = absurd (let z : _≡_ {A = ℕ} 0 1 = cc in omega arith)
+    concluded-in StatusStops r server q w i e = absurd (let z : _≡_ {A = ℕ} 0 1 = cc in omega arith)
+    concluded-in WeightStops r server q w i e = absurd (let z : _≡_ {A = ℕ} 0 1 = cc in omega arith)
+
+    -- an update that ends by itself leaves an overshoot from 0 to the timestep
+    pub updated-overshoot : (s : Scene) (o delta server : Float) → Within server (2 ^ 34) → InStep (c .timestep) o → updatedOf c s o delta server .stop ≡ Done → InStep (c .timestep) (updatedOf c s o delta server .overshoot)
+    unfolding updatedOf
+    updated-overshoot s o delta server w i e =
+        concluded-in (advancedOf c s o delta server .stop) (advancedOf c s o delta server) server refl w (λ q. advanced-in s o delta server i q) e

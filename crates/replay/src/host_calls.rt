@@ -1,0 +1,70 @@
+// The three host calls: order, stamp and mean. Each reads what is left of its line; `end` is the byte that ended the call's name.
+use super::answers;
+use super::fields;
+use super::input::In;
+use super::lines;
+use super::lines::Place;
+use super::mean;
+use super::mean::MeanAnswer;
+use super::output::Out;
+use timestamp::Timestamp;
+
+// The stamp of 16 bits.
+fn stamp_of(v: u64) -> Timestamp {
+    Timestamp((v % 65536) as u16)
+}
+
+// Plays `order`.
+pub fn order(p: Place, end: u32, input: &mut In, out: &mut Out) -> Place {
+    let f = fields::read_last(input, p.cursor, end, b"ss");
+    if !f.ok {
+        return lines::bad(p);
+    }
+    let v = f.values;
+    let order = host::kadwunge_stamp_order(stamp_of(v[0]).value(), stamp_of(v[1]).value());
+    lines::answered(f.cursor, answers::order(out, p.at, order))
+}
+
+// Plays `stamp`.
+pub fn frame_stamp(p: Place, end: u32, input: &mut In, out: &mut Out) -> Place {
+    let f = fields::read_last(input, p.cursor, end, b"ff");
+    if !f.ok {
+        return lines::bad(p);
+    }
+    let v = f.values;
+    let stamp = host::kadwunge_frame_stamp(fields::float_of(v[0]), fields::float_of(v[1]));
+    lines::answered(f.cursor, answers::frame_stamp(out, p.at, stamp))
+}
+
+// The answer of `mean`, whose answer buffer has so many bytes.
+fn put_mean(out: &mut Out, at: usize, m: MeanAnswer, length: u64) -> usize {
+    match m {
+        MeanAnswer::Refused(n) => answers::no_mean(out, at, n, length),
+        MeanAnswer::Is(x) => answers::mean(out, at, x),
+    }
+}
+
+// Plays `mean`.
+pub fn mean(p: Place, end: u32, input: &mut In, out: &mut Out) -> Place {
+    let f = fields::read(input, p.cursor, end, b"dfd");
+    if !f.ok {
+        return lines::bad(p);
+    }
+    if f.end != 32 {
+        return lines::bad(p);
+    }
+    let mut bytes = [0u8; 512];
+    let b = mean::read_bytes(input, f.cursor, &mut bytes);
+    if !b.ok {
+        return lines::bad(p);
+    }
+    let v = f.values;
+    let m = mean::mean_of_bytes(
+        fields::narrow(v[0]),
+        fields::float_of(v[1]),
+        v[2],
+        &bytes,
+        b.count,
+    );
+    lines::answered(b.cursor, put_mean(out, p.at, m, v[2]))
+}

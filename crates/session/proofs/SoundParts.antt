@@ -1,0 +1,378 @@
+-- The parts of a sound session, as the tests say them and as facts; and what one update does to the clock and to what arrives. Assumes nothing.
+use mathlib.Core.Path.{_≡_, refl, sym, ap, _∙_, subst}
+use mathlib.Core.List.{List, [], _∷_, _++_}
+use mathlib.Core.Bool.{Bool, true, false, cond, _&&_}
+use Prim.Native.Nat.{ℕ, _+_, _-_, _^_, _≤_}
+use native.Mathlib.Omega.{arith}
+use lib.Dec.{T, eqb, ltb, lit<, lit≤}
+use lib.IntN.{pos}
+use lib.ListN.{length, drop, replicate, length-append, length-take, length-drop, length-replicate}
+use lib.Ieee.{Float, fin, binary64, fits, add, lt, le, eq}
+use lib.Ieee.Bits.{is-true}
+use lib.Ieee.Fits.{and-l, and-r}
+use borrow.Author.Tests.{lt-ltb, ltb-true, eqb-true, eq-eqb}
+use Rattle.float_laws.proofs.Value.{zeroF, oneF}
+use Rattle.float_laws.proofs.Order.{between-finite, float-le-trans}
+use Rattle.float_laws.proofs.Within.{Within, within-widen, within-of-tests, add-within}
+use Rattle.timestamp.proofs.Basics.{holds-true, not-true}
+use Rattle.settings.specs.declared.Settings.{Settings}
+use Rattle.settings.specs.Settings.{passesOf, between, samplesToDiscardOf, samplesToStoreOf}
+use Rattle.settings.proofs.Tests.{apart}
+use Rattle.settings.proofs.Limits.{timestep-within, lag-within}
+use Rattle.command.specs.Soundness.{soundBuffer}
+use Rattle.inbox.specs.declared.Message.{Message}
+use Rattle.inbox.specs.declared.Message.the-variants.{Command, Snapshot, Clock, BadTime, WrongWord, CutShort}
+use Rattle.inbox.specs.Inbox.{messagesOf, timeOk}
+use Rattle.inbox.specs.Passes.{over}
+use Rattle.inbox.proofs.Passes.{Each, over-keeps}
+use Rattle.inbox.proofs.Bounds.{Bounded, messages-bounded}
+use Rattle.clocksync.specs.declared.Clock.{Clock as ClockState}
+use Rattle.clocksync.specs.declared.Heard.{Heard}
+use Rattle.clocksync.specs.declared.Ticked.{Ticked}
+use Rattle.clocksync.specs.declared.Offset.{Offset}
+use Rattle.clocksync.specs.declared.Offset.the-variants.{NoOffset, Seconds}
+use Rattle.clocksync.specs.declared.ClientId.{ClientId}
+use Rattle.clocksync.specs.Mean.{nothing64, meanOf}
+use Rattle.clocksync.specs.Clock.{laidOut, heldOf, timedOf, tickedOf, ClockMessage, listenOf, heardOf, heardAllOf, syncedOf, sampledOf, filledOf, namedOf, sampleOf, settledOf, clockOf, serverSecondsOf, readyOf, offsetOk, soundClock}
+use Rattle.clocksync.proofs.Sound.{sample-within, AllTimed, clock-sound, clock-timer-fits}
+use Rattle.clocksync.proofs.Ready.{hasOffset, ready-stays, first-offset-ready}
+use Rattle.client.specs.declared.Queued.{Queued}
+use Rattle.client.specs.declared.Queued.the-variants.{Nothing, Held}
+use Rattle.client.specs.declared.ClientWorldSimulations.{ClientWorldSimulations}
+use Rattle.client.specs.declared.Received.{Received}
+use Rattle.client.specs.Sides.{newSideOf, oldSideOf, worldOf, oldStampOf, newStampOf}
+use Rattle.client.proofs.SoundWorlds.{SmallQueued, InitOrder, Kept, Weighed, is-nought, is-even, received-kept, received-weighed, noted-kept, noted-weighed}
+use Rattle.client.proofs.SoundFrames.{weighed-unit}
+use Rattle.fixed_timestepper.proofs.SoundRuns.{InStep}
+use Rattle.session.specs.declared.Session.{Session}
+use Rattle.session.specs.Sound.{queuedSound, weightSound, initSound, buffersSound, worldsSound, overshootSound, connectedOf, soundOf}
+use Rattle.session.specs.Passes.{hearOne, heardIn, receiveOne, receivedIn, noteOne, notedIn}
+use Rattle.session.specs.Calls.{timesOk, clockAfter, serverTimeBy, sceneAfter, sceneOf}
+
+both : {a b : Bool} → a ≡ true → b ≡ true → a && b ≡ true
+both p q = rw (p, q)
+
+-- ---- sound worlds
+
+queued-tells : (q : Queued) → queuedSound q ≡ true → SmallQueued q
+unfolding queuedSound
+queued-tells Nothing h = tt
+queued-tells (Held t n) h = ltb-true n (2 ^ 24) h
+
+queued-holds : (q : Queued) → SmallQueued q → queuedSound q ≡ true
+unfolding queuedSound
+queued-holds Nothing h = refl
+queued-holds (Held t n) h = lt-ltb n (2 ^ 24) h
+
+weight-tells : (w : ClientWorldSimulations) → weightSound w ≡ true → Weighed w
+unfolding weightSound
+weight-tells w h = go (eqb (oldStampOf w .0) (newStampOf w .0)) (eqb-true (oldStampOf w .0) (newStampOf w .0)) h
+  where
+    go : (b : Bool) → (b ≡ true → oldStampOf w .0 ≡ newStampOf w .0) → cond b (between zeroF oneF (w .weight)) (eq (w .weight) zeroF) ≡ true → Weighed w
+    go true e i = let a = apart (le zeroF (w .weight)) (le (w .weight) oneF) i in is-even (e refl) (holds-true (le zeroF (w .weight)) (a .0)) (holds-true (le (w .weight) oneF) (a .1))
+    go false e i = is-nought (holds-true (eq (w .weight) zeroF) i)
+
+weight-holds : (w : ClientWorldSimulations) → Weighed w → weightSound w ≡ true
+unfolding weightSound
+weight-holds w h = by h
+  where
+    unit : between zeroF oneF (w .weight) ≡ true
+    unit = let u = weighed-unit w h in both (is-true (le zeroF (w .weight)) (u .0)) (is-true (le (w .weight) oneF) (u .1))
+
+    go : (b : Bool) → T (eq (w .weight) zeroF) → cond b (between zeroF oneF (w .weight)) (eq (w .weight) zeroF) ≡ true
+    go true i = unit
+    go false i = is-true (eq (w .weight) zeroF) i
+
+    by : Weighed w → cond (eqb (oldStampOf w .0) (newStampOf w .0)) (between zeroF oneF (w .weight)) (eq (w .weight) zeroF) ≡ true
+    by (is-nought i) = go (eqb (oldStampOf w .0) (newStampOf w .0)) i
+    by (is-even e a b) = ap (λ (x : Bool). cond x (between zeroF oneF (w .weight)) (eq (w .weight) zeroF)) (eq-eqb (oldStampOf w .0) (newStampOf w .0) e) ∙ unit
+
+implied : (a b : Bool) → cond a b true ≡ true → a ≡ true → b ≡ true
+implied true b h e = h
+implied false b h e = not-true e
+
+implies : (a b : Bool) → (a ≡ true → b ≡ true) → cond a b true ≡ true
+implies true b f = f refl
+implies false b f = refl
+
+init-tells : (w : ClientWorldSimulations) → initSound w ≡ true → InitOrder (eqb (w .new) 0) (w .left .init) (w .right .init)
+unfolding initSound worldOf oldSideOf newSideOf
+init-tells w h = go (eqb (w .new) 0) h
+  where
+    go : (b : Bool) → cond (cond (eqb (cond b 1 0) 0) (w .left) (w .right) .init) (cond (eqb (cond b 0 1) 0) (w .left) (w .right) .init) true ≡ true → InitOrder b (w .left .init) (w .right .init)
+    go true i = implied (w .right .init) (w .left .init) i
+    go false i = implied (w .left .init) (w .right .init) i
+
+init-holds : (w : ClientWorldSimulations) → InitOrder (eqb (w .new) 0) (w .left .init) (w .right .init) → initSound w ≡ true
+unfolding initSound worldOf oldSideOf newSideOf
+init-holds w h = go (eqb (w .new) 0) h
+  where
+    go : (b : Bool) → InitOrder b (w .left .init) (w .right .init) → cond (cond (eqb (cond b 1 0) 0) (w .left) (w .right) .init) (cond (eqb (cond b 0 1) 0) (w .left) (w .right) .init) true ≡ true
+    go true i = implies (w .right .init) (w .left .init) i
+    go false i = implies (w .left .init) (w .right .init) i
+
+-- worlds that pass the test, as facts
+pub worlds-tell : (w : ClientWorldSimulations) → worldsSound w ≡ true → Kept w × Weighed w
+unfolding worldsSound buffersSound
+worlds-tell w h =
+    let l = soundBuffer (w .left .commands) in
+    let r = soundBuffer (w .right .commands) in
+    let b = soundBuffer (w .base) in
+    let q = queuedSound (w .snapshots .queued) in
+    let a = apart (buffersSound w && q && weightSound w) (initSound w) h in
+    let c = apart (buffersSound w && q) (weightSound w) (a .0) in
+    let d = apart (buffersSound w) q (c .0) in
+    let e = apart (l && r) b (d .0) in
+    let f = apart l r (e .0) in
+    (record { left = f .0; right = f .1; base = e .1; queued = queued-tells (w .snapshots .queued) (d .1); init = init-tells w (a .1) }, weight-tells w (c .1))
+
+-- and back
+pub worlds-hold : (w : ClientWorldSimulations) → Kept w → Weighed w → worldsSound w ≡ true
+unfolding worldsSound buffersSound
+worlds-hold w k h = both (both (both (both (both (k .left) (k .right)) (k .base)) (queued-holds (w .snapshots .queued) (k .queued))) (weight-holds w h)) (init-holds w (k .init))
+
+-- ---- a sound session
+
+-- a session that passes the test, as facts
+pub record SoundFacts (s : Session) : Type 0 where
+  pub settings : passesOf (s .settings) ≡ true
+  pub clock : soundClock (s .settings) (s .clock) ≡ true
+  pub connected : connectedOf (s .stage) (s .clock) ≡ true
+  pub kept : Kept (s .worlds)
+  pub weighed : Weighed (s .worlds)
+  pub overshoot : InStep (s .settings .timestep) (s .overshoot)
+
+pub sound-facts : (s : Session) → soundOf s ≡ true → SoundFacts s
+unfolding soundOf overshootSound
+sound-facts s h =
+    let p = passesOf (s .settings) in
+    let c = soundClock (s .settings) (s .clock) in
+    let n = connectedOf (s .stage) (s .clock) in
+    let w = worldsSound (s .worlds) in
+    let a = apart (p && c && n && w) (overshootSound (s .overshoot) (s .settings .timestep)) h in
+    let b = apart (p && c && n) w (a .0) in
+    let d = apart (p && c) n (b .0) in
+    let e = apart p c (d .0) in
+    let v = worlds-tell (s .worlds) (b .1) in
+    let o = apart (le zeroF (s .overshoot)) (le (s .overshoot) (s .settings .timestep)) (a .1) in
+    let lo = holds-true (le zeroF (s .overshoot)) (o .0) in
+    let hi = holds-true (le (s .overshoot) (s .settings .timestep)) (o .1) in
+    record {
+      settings = e .0;
+      clock = e .1;
+      connected = d .1;
+      kept = v .0;
+      weighed = v .1;
+      overshoot = record { number = between-finite zeroF (s .overshoot) (s .settings .timestep) tt (timestep-within (s .settings) (e .0) .number) lo hi; low = lo; high = hi };
+    }
+
+pub facts-sound : (s : Session) → SoundFacts s → soundOf s ≡ true
+unfolding soundOf overshootSound
+facts-sound s f =
+    both (both (both (both (f .settings) (f .clock)) (f .connected)) (worlds-hold (s .worlds) (f .kept) (f .weighed)))
+    (both (is-true (le zeroF (s .overshoot)) (f .overshoot .low)) (is-true (le (s .overshoot) (s .settings .timestep)) (f .overshoot .high)))
+
+-- ---- what the types say of a session's floats and of its clock's slots
+
+pub record FloatsFit (s : Session) : Type 0 where
+  pub timestep : T (fits binary64 (s .settings .timestep))
+  pub timer : T (fits binary64 (s .clock .timer))
+  pub slots : length (s .clock .samples) ≡ 64
+
+-- ---- times
+
+pub times-within : (delta seconds : Float) → timesOk delta seconds ≡ true → Within delta 3600 × Within seconds (2 ^ 32)
+unfolding timesOk
+times-within delta seconds h =
+    let a = apart (between (fin true 225 (pos 4)) (fin false 225 (pos 4)) delta) (between (fin true 1 (pos 32)) (fin false 1 (pos 32)) seconds) h in
+    let d = apart (le (fin true 225 (pos 4)) delta) (le delta (fin false 225 (pos 4))) (a .0) in
+    let s = apart (le (fin true 1 (pos 32)) seconds) (le seconds (fin false 1 (pos 32))) (a .1) in
+    let dl = holds-true (le (fin true 225 (pos 4)) delta) (d .0) in
+    let dh = holds-true (le delta (fin false 225 (pos 4))) (d .1) in
+    let sl = holds-true (le (fin true 1 (pos 32)) seconds) (s .0) in
+    let sh = holds-true (le seconds (fin false 1 (pos 32))) (s .1) in (
+      within-of-tests delta (fin true 225 (pos 4)) (fin false 225 (pos 4)) 3600 (between-finite (fin true 225 (pos 4)) delta (fin false 225 (pos 4)) tt tt dl dh) (refl, refl) (refl, refl) dl dh,
+      within-of-tests seconds (fin true 1 (pos 32)) (fin false 1 (pos 32)) (2 ^ 32) (between-finite (fin true 1 (pos 32)) seconds (fin false 1 (pos 32)) tt tt sl sh) (refl, refl) (refl, refl) sl sh,
+    )
+
+time-within : (x : Float) → T (timeOk x) → Within x (2 ^ 32)
+time-within x h =
+    let l = and-l (le (fin true 1 (pos 32)) x) (le x (fin false 1 (pos 32))) h in
+    let u = and-r (le (fin true 1 (pos 32)) x) (le x (fin false 1 (pos 32))) h in
+    within-of-tests x (fin true 1 (pos 32)) (fin false 1 (pos 32)) (2 ^ 32) (between-finite (fin true 1 (pos 32)) x (fin false 1 (pos 32)) tt tt l u) (refl, refl) (refl, refl) l u
+
+-- ---- the clock messages of an inbox
+
+-- the clock messages, in their order
+pub clocksIn : List Message → List ClockMessage
+clocksIn [] = []
+clocksIn (Command s h ∷ ms) = clocksIn ms
+clocksIn (Snapshot s h ∷ ms) = clocksIn ms
+clocksIn (Clock i s t ∷ ms) = record { number = i; send = s; server = t } ∷ clocksIn ms
+clocksIn (BadTime ∷ ms) = clocksIn ms
+clocksIn (WrongWord ∷ ms) = clocksIn ms
+clocksIn (CutShort ∷ ms) = clocksIn ms
+
+heard-is : (seconds : Float) (h : Heard) (ms : List Message) → over (hearOne seconds) h ms ≡ heardAllOf seconds h (clocksIn ms)
+unfolding heardAllOf clocksIn
+heard-is seconds h [] = refl
+heard-is seconds h (Command s n ∷ ms) = heard-is seconds h ms
+heard-is seconds h (Snapshot s n ∷ ms) = heard-is seconds h ms
+heard-is seconds h (Clock i s t ∷ ms) = heard-is seconds (heardOf seconds h i s t) ms
+heard-is seconds h (BadTime ∷ ms) = heard-is seconds h ms
+heard-is seconds h (WrongWord ∷ ms) = heard-is seconds h ms
+heard-is seconds h (CutShort ∷ ms) = heard-is seconds h ms
+
+clocks-timed : (ms : List Message) → Each Bounded ms → AllTimed (clocksIn ms)
+unfolding clocksIn
+clocks-timed [] b = tt
+clocks-timed (Command s n ∷ ms) b = clocks-timed ms (b .1)
+clocks-timed (Snapshot s n ∷ ms) b = clocks-timed ms (b .1)
+clocks-timed (Clock i s t ∷ ms) b = (record { send = time-within s (b .0 .1); server = time-within t (b .0 .2) }, clocks-timed ms (b .1))
+clocks-timed (BadTime ∷ ms) b = clocks-timed ms (b .1)
+clocks-timed (WrongWord ∷ ms) b = clocks-timed ms (b .1)
+clocks-timed (CutShort ∷ ms) b = clocks-timed ms (b .1)
+
+-- ---- the clock in an update
+
+ticked-id : (c : ClockState) (period delta : Float) → tickedOf c period delta .clock .id ≡ c .id
+unfolding tickedOf
+ticked-id c period delta = go (lt period (add binary64 (c .timer) delta)) (add binary64 (c .timer) delta)
+  where
+    go : (b : Bool) (t : Float) → cond {A = Ticked} b (record { clock = timedOf c nothing64; request = true }) (record { clock = timedOf c t; request = false }) .clock .id ≡ c .id
+    go true t = refl
+    go false t = refl
+
+ticked-samples : (c : ClockState) (period delta : Float) → tickedOf c period delta .clock .samples ≡ c .samples
+unfolding tickedOf
+ticked-samples c period delta = go (lt period (add binary64 (c .timer) delta)) (add binary64 (c .timer) delta)
+  where
+    go : (b : Bool) (t : Float) → cond {A = Ticked} b (record { clock = timedOf c nothing64; request = true }) (record { clock = timedOf c t; request = false }) .clock .samples ≡ c .samples
+    go true t = refl
+    go false t = refl
+
+-- an update's clock is the one that clocksync's laws are about
+clock-is : (s : Session) (delta seconds : Float) (inbox : List ℕ) → clockAfter s delta seconds inbox ≡ clockOf (s .settings) (s .clock) delta seconds (clocksIn (messagesOf inbox)) .clock
+unfolding clockOf heardIn
+clock-is s delta seconds inbox =
+    let c = tickedOf (s .clock) (s .settings .period) delta .clock in
+    ap (λ (h : Heard). settledOf (s .settings) c h)
+    (heard-is seconds (listenOf (s .clock)) (messagesOf inbox)
+    ∙ ap (λ (i : ClientId). heardAllOf seconds (record { id = i; offset = NoOffset; other = false }) (clocksIn (messagesOf inbox))) (sym (ticked-id (s .clock) (s .settings .period) delta)))
+
+laid-slots : (xs : List Float) → length xs ≤ 64 → length (laidOut xs) ≡ 64
+laid-slots xs h = length-append xs (replicate (64 - length xs) nothing64) ∙ omega (arith, length-replicate (64 - length xs) nothing64)
+
+held-short : (c : ClockState) → length (heldOf c) ≤ 63
+unfolding heldOf
+held-short c = simp length-take (omega arith)
+
+filled-slots : (s : Settings) (c : ClockState) (xs : List Float) → length xs ≤ 64 → length (filledOf s c xs .samples) ≡ 64
+unfolding filledOf
+filled-slots s c xs h = go (ltb (length xs) (samplesToStoreOf s))
+  where
+    go : (b : Bool) → length (cond {A = ClockState} b (sampledOf c (c .offset) xs) (sampledOf c (syncedOf (c .offset) (meanOf (samplesToDiscardOf s) xs) (s .deviation)) (drop 1 xs)) .samples) ≡ 64
+    go true = laid-slots xs h
+    go false = laid-slots (drop 1 xs) (simp length-drop (omega arith))
+
+settled-slots : (s : Settings) (c : ClockState) (h : Heard) → length (c .samples) ≡ 64 → length (settledOf s c h .samples) ≡ 64
+unfolding settledOf
+settled-slots s c h e = go (h .offset)
+  where
+    go : (o : Offset) → length (sampleOf s (namedOf c (h .id)) o .samples) ≡ 64
+    go NoOffset = e
+    go (Seconds x) =
+        let n = namedOf c (h .id) in
+        filled-slots s n (heldOf n ++ (x ∷ [])) (omega (arith, length-append (heldOf n) (x ∷ []), held-short n))
+
+module _ (s : Session) (delta seconds : Float) (inbox : List ℕ) where
+  -- it is sound
+  pub clock-after-sound : FloatsFit s → passesOf (s .settings) ≡ true → timesOk delta seconds ≡ true → soundClock (s .settings) (s .clock) ≡ true → soundClock (s .settings) (clockAfter s delta seconds inbox) ≡ true
+  clock-after-sound f pass ok h =
+      let t = times-within delta seconds ok in
+      let ms = messagesOf inbox in
+      subst (λ (c : ClockState). soundClock (s .settings) c ≡ true) (sym (clock-is s delta seconds inbox))
+      (clock-sound (s .settings) (s .clock) delta seconds (clocksIn ms) pass (f .slots) (f .timer) (t .0) (t .1) (clocks-timed ms (messages-bounded inbox)) h)
+
+  -- a value of the format in its timer, and 64 slots
+  pub clock-after-timer : T (fits binary64 (clockAfter s delta seconds inbox .timer))
+  clock-after-timer = subst (λ (c : ClockState). T (fits binary64 (c .timer))) (sym (clock-is s delta seconds inbox)) (clock-timer-fits (s .settings) (s .clock) delta seconds (clocksIn (messagesOf inbox)))
+
+  pub clock-after-slots : length (s .clock .samples) ≡ 64 → length (clockAfter s delta seconds inbox .samples) ≡ 64
+  clock-after-slots e = settled-slots (s .settings) (tickedOf (s .clock) (s .settings .period) delta .clock) (heardIn seconds inbox (listenOf (s .clock))) (ap length (ticked-samples (s .clock) (s .settings .period) delta) ∙ e)
+
+  -- a clock that is ready stays so
+  pub clock-after-ready : readyOf (s .clock) ≡ true → readyOf (clockAfter s delta seconds inbox) ≡ true
+  clock-after-ready h = subst (λ (c : ClockState). readyOf c ≡ true) (sym (clock-is s delta seconds inbox)) (ready-stays (s .settings) (s .clock) delta seconds (clocksIn (messagesOf inbox)) h)
+
+  -- the first offset comes with an id
+  pub clock-after-first : s .clock .offset ≡ NoOffset → hasOffset (clockAfter s delta seconds inbox .offset) ≡ true → readyOf (clockAfter s delta seconds inbox) ≡ true
+  clock-after-first e h =
+      let i = clock-is s delta seconds inbox in
+      let ms = clocksIn (messagesOf inbox) in
+      subst (λ (c : ClockState). readyOf c ≡ true) (sym i) (first-offset-ready (s .settings) (s .clock) delta seconds ms e (subst (λ (c : ClockState). hasOffset (c .offset) ≡ true) i h))
+
+-- the server's time with the lag is within 2^34
+pub server-within : (c : Settings) (o : Offset) (seconds : Float) → passesOf c ≡ true → Within seconds (2 ^ 32) → offsetOk o ≡ true → Within (add binary64 (serverTimeBy (serverSecondsOf o seconds) seconds) (c .lag)) (2 ^ 34)
+unfolding le
+server-within c o seconds pass w ok = go o ok
+  where
+    lag : Within (c .lag) 60
+    lag =
+        let l = lag-within c pass in
+        within-of-tests (c .lag) (fin true 15 (pos 2)) (fin false 15 (pos 2)) 60 (l .number) (refl, refl) (refl, refl) (float-le-trans (fin true 15 (pos 2)) zeroF (c .lag) tt (l .low)) (l .high)
+
+    go : (o : Offset) → offsetOk o ≡ true → Within (add binary64 (serverTimeBy (serverSecondsOf o seconds) seconds) (c .lag)) (2 ^ 34)
+    go NoOffset k = within-widen (add binary64 seconds (c .lag)) (2 ^ 32 + 60) (2 ^ 34) (lit≤ tt) (add-within seconds (c .lag) (2 ^ 32) 60 (lit< tt) w lag)
+    go (Seconds x) k = within-widen (add binary64 (add binary64 seconds x) (c .lag)) (2 ^ 32 + 2 ^ 33 + 60) (2 ^ 34) (lit≤ tt) (add-within (add binary64 seconds x) (c .lag) (2 ^ 32 + 2 ^ 33) 60 (lit< tt) (add-within seconds x (2 ^ 32) (2 ^ 33) (lit< tt) w (sample-within x k)) lag)
+
+-- ---- what arrives
+
+receive-kept : (r : Received) (m : Message) → Bounded m → Kept (r .scene .worlds) → Kept (receiveOne r m .scene .worlds)
+receive-kept r (Command s h) b k = received-kept (r .scene) (record { stamp = s; handle = h }) (b .1) k
+receive-kept r (Snapshot s h) b k = k
+receive-kept r (Clock i s t) b k = k
+receive-kept r BadTime b k = k
+receive-kept r WrongWord b k = k
+receive-kept r CutShort b k = k
+
+receive-weighed : (r : Received) (m : Message) → Bounded m → Weighed (r .scene .worlds) → Weighed (receiveOne r m .scene .worlds)
+receive-weighed r (Command s h) b k = received-weighed (r .scene) (record { stamp = s; handle = h }) k
+receive-weighed r (Snapshot s h) b k = k
+receive-weighed r (Clock i s t) b k = k
+receive-weighed r BadTime b k = k
+receive-weighed r WrongWord b k = k
+receive-weighed r CutShort b k = k
+
+note-kept : (w : ClientWorldSimulations) (m : Message) → Bounded m → Kept w → Kept (noteOne w m)
+note-kept w (Command s h) b k = k
+note-kept w (Snapshot s h) b k = noted-kept w s h (b .1) k
+note-kept w (Clock i s t) b k = k
+note-kept w BadTime b k = k
+note-kept w WrongWord b k = k
+note-kept w CutShort b k = k
+
+note-weighed : (w : ClientWorldSimulations) (m : Message) → Bounded m → Weighed w → Weighed (noteOne w m)
+note-weighed w (Command s h) b k = k
+note-weighed w (Snapshot s h) b k = noted-weighed w s h k
+note-weighed w (Clock i s t) b k = k
+note-weighed w BadTime b k = k
+note-weighed w WrongWord b k = k
+note-weighed w CutShort b k = k
+
+-- the worlds after an inbox's commands and snapshots
+pub scene-after-kept : (s : Session) (inbox : List ℕ) → Kept (s .worlds) → Kept (sceneAfter s inbox .worlds)
+unfolding receivedIn notedIn
+scene-after-kept s inbox k =
+    let ms = messagesOf inbox in
+    let b = messages-bounded inbox in
+    let r : Received = record { scene = sceneOf s; full = false } in
+    over-keeps Kept noteOne note-kept (over receiveOne r ms .scene .worlds) ms b (over-keeps (λ (x : Received). Kept (x .scene .worlds)) receiveOne receive-kept r ms b k)
+
+pub scene-after-weighed : (s : Session) (inbox : List ℕ) → Weighed (s .worlds) → Weighed (sceneAfter s inbox .worlds)
+unfolding receivedIn notedIn
+scene-after-weighed s inbox k =
+    let ms = messagesOf inbox in
+    let b = messages-bounded inbox in
+    let r : Received = record { scene = sceneOf s; full = false } in
+    over-keeps Weighed noteOne note-weighed (over receiveOne r ms .scene .worlds) ms b (over-keeps (λ (x : Received). Weighed (x .scene .worlds)) receiveOne receive-weighed r ms b k)
