@@ -7,3 +7,11 @@ pub mod Framing
 pub mod Catching
 pub mod SoundWorlds
 pub mod SoundFrames
+pub mod TraceStamps
+pub mod TraceSteps
+pub mod TraceFrames
+pub mod TraceArrivals
+pub mod LedgerBooks
+pub mod LedgerSides
+pub mod LedgerFrames
+pub mod LedgerArrivals

@@ -4,3 +4,4 @@ pub mod Running
 pub mod Updating
 pub mod SoundSkips
 pub mod SoundRuns
+pub mod LedgerRuns

@@ -16,6 +16,7 @@ use clocksync::ClientId;
 use clocksync::Clock;
 use clocksync::Offset;
 use command::CommandBuffer;
+use session::IssueAnswer;
 use session::ReportAnswer;
 use session::Session;
 use session::Stage;
@@ -238,6 +239,14 @@ pub fn update(out: &mut Out, at: usize, a: UpdateAnswer, tape: &Tape, length: us
     let m = named(out, l, b" words=", words as u64);
     let k = tape_words(out, m, tape, words);
     rest(out, k, is_zero(tape, words, length))
+}
+
+// The answer of `issue`.
+pub fn issue(out: &mut Out, at: usize, a: IssueAnswer) -> usize {
+    let n = named(out, at, b"issue refusal=", a.refusal as u64);
+    let s = named_stamp(out, n, b" stamp=", a.stamp);
+    let l = ledgers(out, s, a.left, a.right);
+    output::byte(out, l, b'\n')
 }
 
 // The answer of `report`.

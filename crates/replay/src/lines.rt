@@ -9,6 +9,7 @@ pub enum Line {
     Comment,
     Open,
     Update,
+    Issue,
     Report,
     Session,
     Order,
@@ -29,6 +30,8 @@ pub struct Place {
 const OPEN: u64 = 1869636974;
 
 const UPDATE: u64 = 129125580895333;
+
+const ISSUE: u64 = 452908512613;
 
 const REPORT: u64 = 125780003615348;
 
@@ -51,6 +54,7 @@ fn call_of(letters: u32, name: u64) -> Line {
     }
     if letters == 5 {
         return match name {
+            ISSUE => Line::Issue,
             ORDER => Line::Order,
             STAMP => Line::Stamp,
             _ => Line::Unknown,

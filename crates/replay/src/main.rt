@@ -60,6 +60,7 @@ fn play_line(
 ) -> Player {
     match l {
         Line::Update => session_calls::update(p, end, input, words, tape, out),
+        Line::Issue => session_calls::issue(p, end, input, out),
         Line::Open => session_calls::open(p, end, input, out),
         _ => moved(p, play_beside(p.session, l, p.place, end, input, out)),
     }

@@ -1,4 +1,4 @@
-// The calls on a session: open, update, report, and the line that prints it. Each reads what is left of its line; `end` is the
+// The calls on a session: open, update, issue, report, and the line that prints it. Each reads what is left of its line; `end` is the
 // byte that ended the call's name.
 use super::answers;
 use super::fields;
@@ -220,6 +220,23 @@ pub fn update(
     Player {
         session,
         place: lines::answered(l.cursor, n),
+    }
+}
+
+// Plays `issue`.
+pub fn issue(p: Player, end: u32, input: &mut In, out: &mut Out) -> Player {
+    let place = p.place;
+    let f = fields::read_last(input, place.cursor, end, b"d");
+    if !f.ok {
+        return at_bad_line(p);
+    }
+    let v = f.values;
+    let a = calls::issue(p.session, fields::narrow(v[0]));
+    let session = a.session;
+    let n = answers::issue(out, place.at, a);
+    Player {
+        session,
+        place: lines::answered(f.cursor, n),
     }
 }
 

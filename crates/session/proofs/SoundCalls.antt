@@ -1,13 +1,13 @@
--- Every session that an accepted open or update returns is sound, and a refused update returns the session that it was handed. Assumes nothing.
+-- Every session that an accepted open, update or issue returns is sound, and a refused update or issue returns the session that it was handed. Assumes nothing.
 use mathlib.Core.Path.{_≡_, refl, sym, ap, _∙_, subst}
 use mathlib.Core.List.{List}
 use mathlib.Core.Bool.{Bool, true, false, cond}
-use Prim.Native.Nat.{ℕ}
+use Prim.Native.Nat.{ℕ, _^_, _<_}
 use native.Mathlib.Omega.{arith}
-use lib.Dec.{T, eqb, leb}
+use lib.Dec.{T, eqb, ltb, leb}
 use lib.ListN.{length}
 use lib.Ieee.{Float, binary64, fits, add, le}
-use borrow.Author.Tests.{eqb-true, eqb-false}
+use borrow.Author.Tests.{ltb-true, eqb-true, eqb-false}
 use Rattle.float_laws.proofs.Value.{zeroF}
 use Rattle.float_laws.proofs.Order.{float-le-trans}
 use Rattle.timestamp.specs.declared.Timestamp.{Timestamp}
@@ -26,7 +26,8 @@ use Rattle.clocksync.proofs.Sound.{parts-of, new-sound}
 use Rattle.clocksync.proofs.Ready.{hasOffset}
 use Rattle.client.specs.declared.DisplayTime.{DisplayTime}
 use Rattle.client.specs.declared.DisplayTime.the-variants.{NotDisplayed, DisplayedAt}
-use Rattle.client.proofs.SoundWorlds.{new-kept, new-weighed}
+use Rattle.client.specs.Receive.{receivedOf}
+use Rattle.client.proofs.SoundWorlds.{new-kept, new-weighed, received-kept, received-weighed}
 use Rattle.fixed_timestepper.specs.declared.Stop.{Stop}
 use Rattle.fixed_timestepper.specs.declared.Stop.the-variants.{Done, TooManyFrames, StatusStops, WeightStops}
 use Rattle.fixed_timestepper.specs.TimeKeeper.{Run, updatedOf}
@@ -34,9 +35,11 @@ use Rattle.fixed_timestepper.proofs.SoundRuns.{InStep, updated-kept, updated-we
 use Rattle.session.specs.declared.Stage.{Stage}
 use Rattle.session.specs.declared.Stage.the-variants.{SyncingClock, SyncingInitialState, Ready}
 use Rattle.session.specs.declared.Session.{Session}
+use Rattle.session.specs.declared.IssueAnswer.{IssueAnswer}
 use Rattle.session.specs.Sound.{noOffset, connectedOf, soundOf}
 use Rattle.session.specs.Passes.{hasForWorlds, heardIn, receivedIn}
 use Rattle.session.specs.Calls.{startOf, openOf, timesOk, refusedAtOnce, Answer, refusedWith, withClock, startedAt, syncedOf, clockAfter, clockUpdateOf, sceneOf, stageAfter, acceptedOf, concludedOf, serverTimeBy, sceneAfter, playedOf, worldsUpdateOf, updateBy, updateOf}
+use Rattle.session.specs.Issue.{unissued, withWorldsOf, entryOf, issuedBy, issuedOf, issueBy, issueOf}
 use Rattle.session.proofs.SoundParts.{sound-facts, facts-sound, FloatsFit, times-within, clock-after-sound, clock-after-timer, clock-after-slots, clock-after-ready, clock-after-first, server-within, scene-after-kept, scene-after-weighed}
 
 -- ---- open
@@ -360,3 +363,85 @@ update-stays-sound s delta seconds inbox len f h = go (update-back s delta secon
     go : Back s (updateOf s delta seconds inbox len) → soundOf (updateOf s delta seconds inbox len .reply .session) ≡ true
     go (accepted e) = update-good s delta seconds inbox len f e .sound
     go (handed-back e) = subst (λ (t : Session). soundOf t ≡ true) (sym e) h
+
+-- ---- issue
+
+received-good : (s : Session) (h : ℕ) → h < 2 ^ 24 → soundOf s ≡ true → soundOf (withWorldsOf s (receivedOf (sceneOf s) (entryOf s h) .scene .worlds)) ≡ true
+received-good s h i k =
+    let f = sound-facts s k in
+    let w = receivedOf (sceneOf s) (entryOf s h) .scene .worlds in
+    facts-sound (withWorldsOf s w)
+    (record {
+      settings = f .settings;
+      clock = f .clock;
+      connected = f .connected;
+      kept = received-kept (sceneOf s) (entryOf s h) i (f .kept);
+      weighed = received-weighed (sceneOf s) (entryOf s h) (f .weighed);
+      overshoot = f .overshoot;
+    })
+
+-- an issue's answer is accepted and leaves a sound session, or hands the session back
+pub data Issued (s : Session) (a : IssueAnswer) : Type 0 where
+  taken : a .refusal ≡ 0 → soundOf s ≡ true → soundOf (a .session) ≡ true → (FloatsFit s → FloatsFit (a .session)) → Issued s a
+  turned-down : (a .refusal ≡ 0 → ⊥) → a .session ≡ s → Issued s a
+
+down-with : (n : ℕ) (s : Session) → (n ≡ 0 → ⊥) → Issued s (unissued n s)
+down-with n s h = turned-down h refl
+
+issued-by : (x : Stage) (s : Session) (h : ℕ) → h < 2 ^ 24 → soundOf s ≡ true → Issued s (issuedBy x s (entryOf s h .stamp) (receivedOf (sceneOf s) (entryOf s h)))
+issued-by SyncingClock s h i k = down-with 24 s (λ e. omega arith)
+issued-by SyncingInitialState s h i k = down-with 24 s (λ e. omega arith)
+issued-by Ready s h i k = taken refl k (received-good s h i k) (λ f. record { timestep = f .timestep; timer = f .timer; slots = f .slots })
+
+pick-issued : (s : Session) (b : Bool) (x y : IssueAnswer) → (b ≡ true → Issued s x) → (b ≡ false → Issued s y) → Issued s (cond b x y)
+pick-issued s true x y h k = h refl
+pick-issued s false x y h k = k refl
+
+issued-of : (s : Session) (h : ℕ) → h < 2 ^ 24 → soundOf s ≡ true → Issued s (issuedOf s h)
+unfolding issuedOf
+issued-of s h i k = pick-issued s (receivedOf (sceneOf s) (entryOf s h) .full) (unissued 23 s) _ (λ e. down-with 23 s (λ z. omega arith)) (λ e. issued-by (s .stage) s h i k)
+
+issue-by : (x : Stage) (s : Session) (h : ℕ) → h < 2 ^ 24 → soundOf s ≡ true → Issued s (issueBy x s h)
+issue-by SyncingClock s h i k = down-with 24 s (λ e. omega arith)
+issue-by SyncingInitialState s h i k = issued-of s h i k
+issue-by Ready s h i k = issued-of s h i k
+
+-- the two ways of an issue
+pub issue-ways : (s : Session) (h : ℕ) → Issued s (issueOf s h)
+unfolding issueOf
+issue-ways s h =
+    pick-issued s (ltb h (2 ^ 24)) (cond (soundOf s) (issueBy (s .stage) s h) (unissued 20 s)) (unissued 7 s)
+    (λ e. pick-issued s (soundOf s) (issueBy (s .stage) s h) (unissued 20 s) (λ k. issue-by (s .stage) s h (ltb-true h (2 ^ 24) e) k) (λ k. down-with 20 s (λ z. omega arith)))
+    (λ e. down-with 7 s (λ z. omega arith))
+
+-- every session that an accepted issue returns is sound
+pub issue-sound : (s : Session) (h : ℕ) → issueOf s h .refusal ≡ 0 → soundOf (issueOf s h .session) ≡ true
+issue-sound s h e = go (issue-ways s h)
+  where
+    go : Issued s (issueOf s h) → soundOf (issueOf s h .session) ≡ true
+    go (taken z k w f) = w
+    go (turned-down z w) = absurd (z e)
+
+-- a refused issue returns the session that it was handed
+pub issue-refused : (s : Session) (h : ℕ) → (issueOf s h .refusal ≡ 0 → ⊥) → issueOf s h .session ≡ s
+issue-refused s h e = go (issue-ways s h)
+  where
+    go : Issued s (issueOf s h) → issueOf s h .session ≡ s
+    go (taken z k w f) = absurd (e z)
+    go (turned-down z w) = w
+
+-- what the types say of the session goes on holding
+pub issue-fits : (s : Session) (h : ℕ) → FloatsFit s → FloatsFit (issueOf s h .session)
+issue-fits s h f = go (issue-ways s h)
+  where
+    go : Issued s (issueOf s h) → FloatsFit (issueOf s h .session)
+    go (taken z k w g) = g f
+    go (turned-down z w) = subst FloatsFit (sym w) f
+
+-- a sound session is followed by a sound one, refused or not
+pub issue-stays-sound : (s : Session) (h : ℕ) → soundOf s ≡ true → soundOf (issueOf s h .session) ≡ true
+issue-stays-sound s h k = go (issue-ways s h)
+  where
+    go : Issued s (issueOf s h) → soundOf (issueOf s h .session) ≡ true
+    go (taken z j w g) = w
+    go (turned-down z w) = subst (λ (t : Session). soundOf t ≡ true) (sym w) k

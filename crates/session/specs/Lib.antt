@@ -1,3 +1,4 @@
 pub mod Sound
 pub mod Passes
 pub mod Calls
+pub mod Issue

@@ -4,7 +4,10 @@ ghost use Prim.Native.Nat.{_≤_};
 ghost use lib.ListN.{length};
 ghost use Rattle.clocksync.specs.Clock.{serverSecondsOf};
 ghost use Rattle.fixed_timestepper.specs.TimeKeeper.{Advances};
+ghost use Rattle.session.specs.declared.Stage.the-variants.{Ready};
+ghost use Rattle.session.specs.Issue.{unissued, issuedBy, issuedOf, issueOf};
 ghost use Rattle.session.specs.Calls.{acceptedBy, concludedBy, playedWith, openOf, timesOk, refusedAtOnce, refusedWith, syncedOf, clockUpdateOf, sceneOf, closedOf, stageAfter, serverTimeBy, worldsUpdateOf, updateOf, Updates, unreported, reportedOf, reportOf};
+use super::IssueAnswer;
 use super::OpenAnswer;
 use super::ReportAnswer;
 use super::Session;
@@ -17,10 +20,12 @@ use client::Ledger;
 use client::Received;
 use client::ReconciliationStatus;
 use client::Scene;
+use client::receive;
 use client::sides;
 use client::status;
 use clocksync::Clock;
 use clocksync::ServerTime;
+use command::Entry;
 use fixed_timestepper::Advanced;
 use fixed_timestepper::Stop;
 use settings::Settings;
@@ -334,6 +339,81 @@ pub fn update(
         Stage::SyncingClock => update_clock(session, delta, seconds, inbox, tape),
         Stage::SyncingInitialState => update_worlds(session, delta, seconds, inbox, tape),
         Stage::Ready => update_worlds(session, delta, seconds, inbox, tape),
+    }
+}
+
+// A refused issue: the session unchanged, everything else 0.
+pub fn refuse_issue(refusal: u32, session: Session) -> IssueAnswer
+    ensures { λ r. ⌜ r ≡ unissued refusal session ⌝ }
+{
+    IssueAnswer {
+        refusal,
+        session,
+        stamp: Timestamp(0),
+        left: sides::empty_ledger(),
+        right: sides::empty_ledger(),
+    }
+}
+
+// The answer to a command that the worlds of a ready session received.
+pub fn accept_issue(session: Session, stamp: Timestamp, got: Received) -> IssueAnswer
+    ensures { λ r. ⌜ r ≡ issuedBy Ready session stamp got ⌝ }
+{
+    let after = got.scene;
+    let worlds = after.worlds;
+    let left = worlds.left;
+    let right = worlds.right;
+    let mut s = session;
+    s.worlds = worlds;
+    IssueAnswer {
+        refusal: 0,
+        session: s,
+        stamp,
+        left: closed(after.left, left.commands),
+        right: closed(after.right, right.commands),
+    }
+}
+
+// A received command, by the stage: 24 before the session is ready.
+pub fn conclude_issue(session: Session, stamp: Timestamp, got: Received) -> IssueAnswer
+    ensures { λ r. ⌜ r ≡ issuedBy (session .stage) session stamp got ⌝ }
+{
+    let stage = session.stage;
+    match stage {
+        Stage::SyncingClock => refuse_issue(24, session),
+        Stage::SyncingInitialState => refuse_issue(24, session),
+        Stage::Ready => accept_issue(session, stamp, got),
+    }
+}
+
+// An issue once worlds exist: 23 where a buffer that takes the command is full, and then by the stage.
+pub fn issue_command(session: Session, handle: u32) -> IssueAnswer
+    ensures { λ r. ⌜ r ≡ issuedOf session handle ⌝ }
+{
+    let scene = scene_of(session);
+    let stamp = sides::last_completed_timestamp(session.worlds).add(1);
+    let r = receive::receive_command(scene, Entry { stamp, handle });
+    if r.full {
+        return refuse_issue(23, session);
+    }
+    conclude_issue(session, stamp, r)
+}
+
+// A command of this client, for the frame that is played next: 7 for a handle over 24 bits, 20 for an unsound session.
+pub fn issue(session: Session, handle: u32) -> IssueAnswer
+    ensures { λ r. ⌜ r ≡ issueOf session handle ⌝ }
+{
+    if handle >= 16777216 {
+        return refuse_issue(7, session);
+    }
+    if !sound::is_sound(session) {
+        return refuse_issue(20, session);
+    }
+    let stage = session.stage;
+    match stage {
+        Stage::SyncingClock => refuse_issue(24, session),
+        Stage::SyncingInitialState => issue_command(session, handle),
+        Stage::Ready => issue_command(session, handle),
     }
 }
 

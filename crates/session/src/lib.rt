@@ -46,6 +46,15 @@ pub struct UpdateAnswer {
     pub words: usize,
 }
 
+// The answer of `issue`: the stamp of the command.
+pub struct IssueAnswer {
+    pub refusal: u32,
+    pub session: Session,
+    pub stamp: Timestamp,
+    pub left: Ledger,
+    pub right: Ledger,
+}
+
 // The answer of `report`.
 pub struct ReportAnswer {
     pub refusal: u32,

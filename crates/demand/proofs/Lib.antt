@@ -1,0 +1,9 @@
+pub mod SoundChain
+pub mod TraceLaw
+pub mod TraceCounts
+pub mod TraceRuns
+pub mod TraceCalls
+pub mod TraceTold
+pub mod LedgerList
+pub mod Demand
+pub mod Tied

@@ -1,0 +1,232 @@
+-- What the frames of an update, a skip after them, and the end of an update come to. Assumes nothing.
+use mathlib.Core.Bool.{Bool, true, false, cond}
+use mathlib.Core.List.{List, [], _∷_, _++_, append-nil}
+use mathlib.Core.Path.{_≡_, refl, ap, sym, _∙_}
+use Prim.Native.Nat.{ℕ, zero, suc, _+_, _-_, _*_, _%_, _^_, _<_, _≤_}
+use native.Mathlib.Omega.{arith}
+use lib.Dec.{eqb}
+use lib.IntN.{ℤ, pos, negsuc}
+use lib.Ieee.{Float, binary64, add, sub, lt}
+use lib.Ieee.Casts.{toSigned-in}
+use mir.Syntax.{w16}
+use mir.Val.{SFits}
+use Rattle.timestamp.specs.declared.Timestamp.{Timestamp}
+use Rattle.timestamp.specs.Timestamps.{bitsOf, differenceOf}
+use Rattle.timestamp.specs.Whole.{ceilOf}
+use Rattle.timestamp.specs.FloatTimestamps.{fromSeconds, ceilStampOf}
+use Rattle.tape.specs.Words.{stepsOn}
+use Rattle.settings.specs.declared.Settings.{Settings}
+use Rattle.settings.specs.Settings.{blendProgressOf, lagFrameCountOf}
+use Rattle.settings.specs.Tweening.{shapedOf}
+use Rattle.client.specs.declared.ClientWorldSimulations.{ClientWorldSimulations}
+use Rattle.client.specs.declared.Scene.{Scene}
+use Rattle.client.specs.Sides.{oldStampOf, withWorlds, Played, andThen}
+use Rattle.client.specs.Frame.{frameStops}
+use Rattle.client.specs.Skip.{skippedOf, tweenOf, weightOk, postUpdateOf}
+use Rattle.client.proofs.TraceStamps.{lagOf, lag-is, lag-there, next-sum}
+use Rattle.client.proofs.TraceSteps.{lagIn}
+use Rattle.client.proofs.TraceFrames.{QueuedFits, Fitting, OneFrame}
+use Rattle.client.proofs.TraceArrivals.{Alike, alike-fitting, alike-lag, post-alike, post-queued, OneSkip, one-skip}
+use Rattle.fixed_timestepper.specs.declared.Stop.{Stop}
+use Rattle.fixed_timestepper.specs.declared.Stop.the-variants.{Done, TooManyFrames, StatusStops, WeightStops}
+use Rattle.fixed_timestepper.specs.TimeKeeper.{nought, Event, FrameFrom, SkipFrom, Run, ended, framed, goesOn, whileBelow, runOf, compensatedOf, correctedOf, skipsOf, skipped, maybeSkipped, endsWith, finishedOf, concluded, advancedOf, updatedOf}
+use Rattle.demand.specs.Demand.{frameFrom, newIn, framesIn, distancesIn, wordsIn, newSteps, SameWorlds, Walk}
+use Rattle.demand.proofs.TraceLaw.{Linked, lastIn, linked-append, last-append}
+use Rattle.demand.proofs.TraceCounts.{frame-is, frame-new, frames-append, distances-append, new-append, words-append}
+
+-- ---- walks
+
+pub same-self : (v : ClientWorldSimulations) → SameWorlds v v
+same-self v = record { side = refl; old = refl; new = refl; weight = refl }
+
+pub same-then : {u v w : ClientWorldSimulations} → SameWorlds u v → SameWorlds v w → SameWorlds u w
+same-then h k = record { side = h .side ∙ k .side; old = h .old ∙ k .old; new = h .new ∙ k .new; weight = h .weight ∙ k .weight }
+
+pub same-of : {v w : ClientWorldSimulations} → Alike v w → SameWorlds v w
+same-of h = record { side = h .side; old = h .old; new = h .new; weight = h .weight }
+
+pub walk-same : (c : Settings) (u v w : ClientWorldSimulations) (es : List Event) → SameWorlds u v → Walk c v es w → Walk c u es w
+walk-same c u v w [] h k = same-then h k
+walk-same c u v w (FrameFrom s ∷ es) h k = (same-then h (k .0), k .1)
+walk-same c u v w (SkipFrom s t ∷ es) h k = (same-then h (k .0), k .1)
+
+pub walk-append : (c : Settings) (u v w : ClientWorldSimulations) (t r : List Event) → Walk c u t v → Walk c v r w → Walk c u (t ++ r) w
+walk-append c u v w [] r h k = walk-same c u v w r h k
+walk-append c u v w (FrameFrom s ∷ t) r h k = (h .0, walk-append c (frameFrom c s .scene .worlds) v w t r (h .1) k)
+walk-append c u v w (SkipFrom s x ∷ t) r h k = (h .0, walk-append c (skippedOf s x .scene .worlds) v w t r (h .1) k)
+
+pub walk-on : (c : Settings) (u v w : ClientWorldSimulations) (t : List Event) → Walk c u t v → SameWorlds v w → Walk c u t w
+walk-on c u v w [] h k = same-then h k
+walk-on c u v w (FrameFrom s ∷ t) h k = (h .0, walk-on c (frameFrom c s .scene .worlds) v w t (h .1) k)
+walk-on c u v w (SkipFrom s x ∷ t) h k = (h .0, walk-on c (skippedOf s x .scene .worlds) v w t (h .1) k)
+
+-- ---- a run
+
+-- a run r from the scene s: its trace tells its frames, its words, its steps, its stamps and its worlds
+pub record Ran (c : Settings) (s : Scene) (r : Run) : Type 0 where
+  pub frames : framesIn (r .trace) ≡ r .frames
+  pub words : wordsIn c (r .trace) ≡ r .played .words
+  pub caught : r .played .scene .steps ≡ s .steps + (newSteps c 0 (r .trace) + newSteps c 1 (r .trace))
+  pub old : oldStampOf (r .played .scene .worlds) .0 ≡ (oldStampOf (s .worlds) .0 + r .frames + distancesIn (r .trace)) % 65536
+  pub fitting : Fitting (r .played .scene .worlds)
+  pub linked : Linked c (lagIn (s .worlds)) (r .trace)
+  pub last : lastIn c (lagIn (s .worlds)) (r .trace) ≡ lagIn (r .played .scene .worlds)
+  pub walk : Walk c (s .worlds) (r .trace) (r .played .scene .worlds)
+
+ran-ended : (c : Settings) (stop : Stop) (s : Scene) (o : Float) → Fitting (s .worlds) → Ran c s (ended stop s o)
+ran-ended c stop s o h =
+    record {
+      frames = refl;
+      words = refl;
+      caught = omega arith;
+      old = omega (arith, h .old);
+      fitting = h;
+      linked = tt;
+      last = refl;
+      walk = same-self (s .worlds);
+    }
+
+-- the sums of a frame more
+steps-more : (z y x a b m n k : ℕ) → y ≡ x + k → a + b ≡ k → z ≡ y + (m + n) → z ≡ x + ((a + m) + (b + n))
+steps-more z y x a b m n k e f g = omega arith
+
+stamp-more : (z y x f d : ℕ) → y ≡ (x + 1) % 65536 → z ≡ (y + f + d) % 65536 → z ≡ (x + (1 + f) + d) % 65536
+stamp-more z y x f d e g = omega arith
+
+ran-framed : (c : Settings) (s : Scene) (r : Run) → 1 ≤ c .m → s .steps + c .m < 2 ^ 32 → Fitting (s .worlds) → Ran c (frameFrom c s .scene) r → Ran c s (framed s (frameFrom c s) r)
+unfolding framed
+ran-framed c s r hm hs h i =
+    let f : OneFrame (c .m) (blendProgressOf c) s (frameFrom c s) = frame-is c s in
+    record {
+      frames = ap (λ n. 1 + n) (i .frames);
+      words = ap (λ ws. frameFrom c s .words ++ ws) (i .words);
+      caught = steps-more (r .played .scene .steps) (frameFrom c s .scene .steps) (s .steps) (cond (eqb (newIn c s) 0) (stepsOn 0 (frameFrom c s .words)) 0) (cond (eqb (newIn c s) 1) (stepsOn 1 (frameFrom c s .words)) 0) (newSteps c 0 (r .trace)) (newSteps c 1 (r .trace)) (stepsOn (newIn c s) (frameFrom c s .words)) (f .steps hs) (frame-new c s) (i .caught);
+      old = stamp-more (oldStampOf (r .played .scene .worlds) .0) (oldStampOf (frameFrom c s .scene .worlds) .0) (oldStampOf (s .worlds) .0) (r .frames) (distancesIn (r .trace)) (f .old ∙ next-sum (oldStampOf (s .worlds) .0)) (i .old);
+      fitting = i .fitting;
+      linked = (record { law = λ l. f .behind hm h l }, i .linked);
+      last = i .last;
+      walk = (same-self (s .worlds), i .walk);
+    }
+
+ran-goes : (b : Bool) (c : Settings) (s : Scene) (o : Float) (r : Run) → Fitting (s .worlds) → Ran c s r → Ran c s (goesOn b s o r)
+ran-goes true c s o r h i = ran-ended c StatusStops s o h
+ran-goes false c s o r h i = i
+
+ran-while : (b : Bool) (c : Settings) (s : Scene) (o : Float) (r : Run) → Fitting (s .worlds) → Ran c s r → Ran c s (whileBelow b s o r)
+ran-while true c s o r h i = i
+ran-while false c s o r h i = ran-ended c Done s o h
+
+room-first : (x m n : ℕ) → m ≤ 64 → x + 64 * suc n < 2 ^ 32 → x + m < 2 ^ 32
+room-first x m n h k = omega arith
+
+room-rest : (y x m k n : ℕ) → m ≤ 64 → k ≤ m → y ≡ x + k → x + 64 * suc n < 2 ^ 32 → y + 64 * n < 2 ^ 32
+room-rest y x m k n h l e r = omega arith
+
+pub ran : (n : ℕ) (c : Settings) (s : Scene) (o : Float) → 1 ≤ c .m → c .m ≤ 64 → Fitting (s .worlds) → s .steps + 64 * n < 2 ^ 32 → Ran c s (runOf n c s o)
+unfolding runOf
+ran zero c s o hm hl h k = ran-while (lt o nought) c s o (ended TooManyFrames s o) h (ran-ended c TooManyFrames s o h)
+ran (suc n) c s o hm hl h k =
+    let p : Played = frameFrom c s in
+    let f : OneFrame (c .m) (blendProgressOf c) s p = frame-is c s in
+    let x : Float = add binary64 o (c .timestep) in
+    let b : Bool = frameStops (c .m) (blendProgressOf c) s in
+    let hs : s .steps + c .m < 2 ^ 32 = room-first (s .steps) (c .m) n hl k in
+    ran-while (lt o nought) c s o (framed s p (goesOn b (p .scene) x (runOf n c (p .scene) x))) h
+    (ran-framed c s (goesOn b (p .scene) x (runOf n c (p .scene) x)) hm hs h
+    (ran-goes b c (p .scene) x (runOf n c (p .scene) x) (f .fitting h)
+    (ran n c (p .scene) x hm hl (f .fitting h) (room-rest (p .scene .steps) (s .steps) (c .m) (stepsOn (newIn c s) (p .words)) n hl (f .few) (f .steps hs) k))))
+
+-- ---- the skip
+
+bits-below : (v : ℤ) → SFits w16 v → bitsOf v < 65536
+bits-below (pos n) f = omega (arith, f .sfits)
+bits-below (negsuc n) f = omega arith
+
+-- the stamp that a skip sets has 16 bits
+pub corrected-below : (server timestep : Float) → correctedOf server timestep .0 < 65536
+unfolding correctedOf ceilStampOf
+corrected-below server timestep = bits-below (ceilStampOf (fromSeconds server timestep)) (record { sfits = toSigned-in 15 (ceilOf (fromSeconds server timestep)) })
+
+stamp-skip : (z y x f d e : ℕ) → y ≡ (x + f + d) % 65536 → z ≡ (y + e) % 65536 → z ≡ (x + f + (d + (e + 0))) % 65536
+stamp-skip z y x f d e h g = omega arith
+
+steps-skip : (z y x a b a′ b′ : ℕ) → z ≡ y → y ≡ x + (a + b) → a′ ≡ a + 0 → b′ ≡ b + 0 → z ≡ x + (a′ + b′)
+steps-skip z y x a b a′ b′ e f g h = omega arith
+
+plus-none : (z y f : ℕ) → z ≡ y + 0 → y ≡ f → z ≡ f
+plus-none z y f e g = omega arith
+
+ran-skipped : (c : Settings) (s : Scene) (r : Run) (server : Float) → Ran c s r → Ran c s (skipped r server c)
+unfolding skipped andThen
+ran-skipped c s r server i =
+    let t : Timestamp = correctedOf server (c .timestep) in
+    let u : Scene = r .played .scene in
+    let es : List Event = SkipFrom u t ∷ [] in
+    let tr : List Event = r .trace in
+    let k : OneSkip u t (skippedOf u t) = one-skip u t in
+    let tl : t .0 < 65536 = corrected-below server (c .timestep) in
+    let there : t .0 ≡ (oldStampOf (u .worlds) .0 + lagOf (t .0) (oldStampOf (u .worlds) .0)) % 65536 = lag-there (oldStampOf (u .worlds) .0) (t .0) (i .fitting .old) tl in
+    let ko : oldStampOf (skippedOf u t .scene .worlds) .0 ≡ (oldStampOf (u .worlds) .0 + differenceOf (t .0) (oldStampOf (u .worlds) .0)) % 65536 =
+    ap (λ (x : Timestamp). x .0) (k .old) ∙ there ∙ ap (λ n. (oldStampOf (u .worlds) .0 + n) % 65536) (lag-is (t .0) (oldStampOf (u .worlds) .0)) in
+    record {
+      frames = plus-none (framesIn (tr ++ es)) (framesIn tr) (r .frames) (frames-append tr es) (i .frames);
+      words = words-append c tr es ∙ ap (λ ws. ws ++ (skippedOf u t .words ++ [])) (i .words) ∙ ap (λ ws. r .played .words ++ ws) (append-nil (skippedOf u t .words));
+      caught = steps-skip (skippedOf u t .scene .steps) (u .steps) (s .steps) (newSteps c 0 tr) (newSteps c 1 tr) (newSteps c 0 (tr ++ es)) (newSteps c 1 (tr ++ es)) (k .steps) (i .caught) (new-append c 0 tr es) (new-append c 1 tr es);
+      old = stamp-skip (oldStampOf (skippedOf u t .scene .worlds) .0) (oldStampOf (u .worlds) .0) (oldStampOf (s .worlds) .0) (r .frames) (distancesIn tr) (differenceOf (t .0) (oldStampOf (u .worlds) .0)) (i .old) ko ∙ ap (λ d. (oldStampOf (s .worlds) .0 + r .frames + d) % 65536) (sym (distances-append tr es));
+      fitting = k .fitting tl (i .fitting);
+      linked = linked-append c (lagIn (s .worlds)) tr es (i .linked) tt;
+      last = last-append c (lagIn (s .worlds)) tr es;
+      walk = walk-append c (s .worlds) (u .worlds) (skippedOf u t .scene .worlds) tr es (i .walk) (same-self (u .worlds), same-self (skippedOf u t .scene .worlds));
+    }
+
+skipped-by : (b : Bool) (c : Settings) (s : Scene) (r : Run) (server : Float) → Ran c s r → Ran c s (cond b (skipped r server c) r)
+skipped-by true c s r server i = ran-skipped c s r server i
+skipped-by false c s r server i = i
+
+ran-maybe : (c : Settings) (s : Scene) (r : Run) (server : Float) → Ran c s r → Ran c s (maybeSkipped r server c)
+unfolding maybeSkipped
+ran-maybe c s r server i = skipped-by (skipsOf (oldStampOf (r .played .scene .worlds)) (r .overshoot) server c) c s r server i
+
+-- ---- the end
+
+ran-stops : (c : Settings) (s : Scene) (r : Run) (stop : Stop) → Ran c s r → Ran c s (endsWith r (r .played .scene) stop)
+ran-stops c s r stop i =
+    record { frames = i .frames; words = i .words; caught = i .caught; old = i .old; fitting = i .fitting; linked = i .linked; last = i .last; walk = i .walk }
+
+ran-ends : (c : Settings) (s : Scene) (r : Run) (w : ClientWorldSimulations) (stop : Stop) → Alike (r .played .scene .worlds) w → QueuedFits (w .snapshots .queued) → Ran c s r → Ran c s (endsWith r (withWorlds (r .played .scene) w) stop)
+ran-ends c s r w stop a q i =
+    record {
+      frames = i .frames;
+      words = i .words;
+      caught = i .caught;
+      old = ap (λ (x : Timestamp). x .0) (sym (a .old)) ∙ i .old;
+      fitting = alike-fitting a q (i .fitting);
+      linked = i .linked;
+      last = i .last ∙ alike-lag a;
+      walk = walk-on c (s .worlds) (r .played .scene .worlds) w (r .trace) (i .walk) (same-of a);
+    }
+
+finished-by : (b : Bool) (c : Settings) (s : Scene) (r : Run) (t : Float) (lag : ℕ) → Ran c s r →
+    Ran c s (cond b (endsWith r (withWorlds (r .played .scene) (postUpdateOf (r .played .scene .worlds) t lag)) Done) (endsWith r (r .played .scene) WeightStops))
+finished-by true c s r t lag i =
+    ran-ends c s r (postUpdateOf (r .played .scene .worlds) t lag) Done (post-alike (r .played .scene .worlds) t lag) (rw (post-queued (r .played .scene .worlds) t lag) (i .fitting .queued)) i
+finished-by false c s r t lag i = ran-stops c s r WeightStops i
+
+ran-finished : (c : Settings) (s : Scene) (r : Run) → Ran c s r → Ran c s (finishedOf r c)
+unfolding finishedOf
+ran-finished c s r i = finished-by (weightOk (tweenOf (r .overshoot) (c .timestep))) c s r (shapedOf (c .method) (tweenOf (r .overshoot) (c .timestep))) (bitsOf (lagFrameCountOf c)) i
+
+ran-concluded : (stop : Stop) (c : Settings) (s : Scene) (r : Run) (server : Float) → Ran c s r → Ran c s (concluded stop r server c)
+ran-concluded Done c s r server i = ran-finished c s (maybeSkipped r server c) (ran-maybe c s r server i)
+ran-concluded TooManyFrames c s r server i = i
+ran-concluded StatusStops c s r server i = i
+ran-concluded WeightStops c s r server i = i
+
+ran-advanced : (c : Settings) (s : Scene) (o delta server : Float) → 1 ≤ c .m → c .m ≤ 64 → Fitting (s .worlds) → s .steps ≡ 0 → Ran c s (advancedOf c s o delta server)
+unfolding advancedOf
+ran-advanced c s o delta server hm hl h e = ran 65 c s (sub binary64 o (compensatedOf (oldStampOf (s .worlds)) o delta server c)) hm hl h (omega arith)
+
+-- one update of the worlds
+pub ran-updated : (c : Settings) (s : Scene) (o delta server : Float) → 1 ≤ c .m → c .m ≤ 64 → Fitting (s .worlds) → s .steps ≡ 0 → Ran c s (updatedOf c s o delta server)
+unfolding updatedOf
+ran-updated c s o delta server hm hl h e = ran-concluded (advancedOf c s o delta server .stop) c s (advancedOf c s o delta server) server (ran-advanced c s o delta server hm hl h e)

@@ -1,0 +1,244 @@
+-- Demand 3: one statement about any list of updates and issues, from any sound session whose worlds exist. Document 01, "src/client.rs" and "Contracts and cases".
+-- Definitions only. Assumes nothing.
+use mathlib.Core.Bool.{Bool, true, false, cond}
+use mathlib.Core.List.{List, [], _∷_, _++_}
+use mathlib.Core.Path.{_≡_}
+use Prim.Native.Nat.{ℕ, zero, suc, _+_, _-_, _*_, _%_, _^_, _<_, _≤_}
+use lib.Dec.{T, eqb}
+use lib.ListN.{length, replicate}
+use lib.Ieee.{Float, binary64, fits}
+use Rattle.timestamp.specs.declared.Timestamp.{Timestamp}
+use Rattle.timestamp.specs.Timestamps.{differenceOf}
+use Rattle.tape.specs.Words.{stepsOn}
+use Rattle.command.specs.declared.CommandBuffer.{CommandBuffer}
+use Rattle.command.specs.Buffer.{held}
+use Rattle.settings.specs.declared.Settings.{Settings}
+use Rattle.settings.specs.Settings.{blendProgressOf}
+use Rattle.client.specs.declared.ClientWorldSimulations.{ClientWorldSimulations}
+use Rattle.client.specs.declared.Queued.{Queued}
+use Rattle.client.specs.declared.Queued.the-variants.{Nothing, Held}
+use Rattle.client.specs.declared.Scene.{Scene}
+use Rattle.client.specs.Sides.{oldSideOf, newSideOf, worldOf, oldStampOf, newStampOf, Played}
+use Rattle.client.specs.Frame.{frameOf, openOf, snapshotOf}
+use Rattle.client.specs.Skip.{skippedOf}
+use Rattle.fixed_timestepper.specs.TimeKeeper.{Event, FrameFrom, SkipFrom}
+use Rattle.session.specs.declared.Session.{Session}
+use Rattle.session.specs.declared.Stage.{Stage}
+use Rattle.session.specs.declared.Stage.the-variants.{SyncingClock, SyncingInitialState, Ready}
+use Rattle.session.specs.Sound.{soundOf}
+use Rattle.demand.specs.Calls.{Call, Update, Issue, Chain, endOf, traceOf, happened, sum, sessionOf, framesOf, caughtOf, ledgerOn, markedOf, markedOn, appliedOn}
+
+-- ---- a frame of the trace, by the scene before it
+
+-- what a frame did: the frame of the definition, from the scene before it
+abbrev pub frameFrom : Settings → Scene → Played
+frameFrom c s = frameOf (c .m) (blendProgressOf c) s
+
+-- the scene once the frame is opened: its load, its swap or its reset is done, and no world has stepped yet
+abbrev pub openedFrom : Settings → Scene → Scene
+openedFrom c s = openOf (blendProgressOf c) s .scene
+
+-- the side then old
+abbrev pub oldIn : Settings → Scene → ℕ
+oldIn c s = oldSideOf (openedFrom c s .worlds)
+
+-- the side then new
+abbrev pub newIn : Settings → Scene → ℕ
+newIn c s = newSideOf (openedFrom c s .worlds)
+
+-- (O - N) modulo 65,536: how many frames the new world is behind
+abbrev pub behindOf : ClientWorldSimulations → ℕ
+behindOf w = differenceOf (oldStampOf w .0) (newStampOf w .0)
+
+-- how far behind it is after a frame
+abbrev pub behindAfter : Settings → Scene → ℕ
+behindAfter c s = behindOf (frameFrom c s .scene .worlds)
+
+-- whether a frame loads a snapshot, and g: how far behind the old stamp that is, just before the frame
+pub data Load : Type 0 where
+  NoLoad : Load
+  Loaded : (g : ℕ) → Load
+
+-- the load of a queued snapshot
+abbrev pub loadBy : Queued → Timestamp → Load
+loadBy Nothing o = NoLoad
+loadBy (Held t h) o = Loaded (differenceOf (o .0) (t .0))
+
+-- the load of a frame
+abbrev pub loadIn : Scene → Load
+loadIn s = loadBy (snapshotOf s) (oldStampOf (s .worlds))
+
+-- ---- what a trace says, under the settings c
+
+-- its frames
+abbrev pub framesIn : List Event → ℕ
+framesIn [] = 0
+framesIn (FrameFrom s ∷ es) = 1 + framesIn es
+framesIn (SkipFrom s t ∷ es) = framesIn es
+
+-- the distances of its skips: the stamp that a skip sets less the old stamp just before it
+abbrev pub distancesIn : List Event → ℕ
+distancesIn [] = 0
+distancesIn (FrameFrom s ∷ es) = distancesIn es
+distancesIn (SkipFrom s t ∷ es) = differenceOf (t .0) (oldStampOf (s .worlds) .0) + distancesIn es
+
+-- the words of one thing that happened
+abbrev pub wordsOf : Settings → Event → List ℕ
+wordsOf c (FrameFrom s) = frameFrom c s .words
+wordsOf c (SkipFrom s t) = skippedOf s t .words
+
+-- its words, joined
+abbrev pub wordsIn : Settings → List Event → List ℕ
+wordsIn c [] = []
+wordsIn c (e ∷ es) = wordsOf c e ++ wordsIn c es
+
+-- ---- the catch-up law
+
+-- the trace of frames of these scenes
+abbrev pub framesFrom : List Scene → List Event
+framesFrom [] = []
+framesFrom (s ∷ ss) = FrameFrom s ∷ framesFrom ss
+
+-- none of these frames loads
+abbrev pub NoLoads : List Scene → Type 0
+NoLoads [] = Unit {0}
+NoLoads (s ∷ ss) = (loadIn s ≡ NoLoad) × NoLoads ss
+
+-- how far behind the new world is after the last of frames that are not none
+abbrev pub behindLast : Settings → Scene → List Scene → ℕ
+behindLast c s [] = behindAfter c s
+behindLast c s (t ∷ ts) = behindLast c t ts
+
+-- Whenever a snapshot is loaded g frames behind, 0 to 32,767, and frames follow with no load among them and no skip, k frames in all with that of the load (k = 1),
+-- the new world is max(0, g - k × (m - 1)) behind after the last of them: `-` on natural numbers stops at 0. The frames may be of several updates.
+unfoldable pub CatchUp : Settings → List Event → Type 0
+CatchUp c trace =
+    (before : List Event) (load : Scene) (frames : List Scene) (after : List Event) (g : ℕ) →
+    trace ≡ before ++ (framesFrom (load ∷ frames) ++ after) →
+    loadIn load ≡ Loaded g → g ≤ 32767 → NoLoads frames →
+    behindLast c load frames ≡ g - length (load ∷ frames) * (c .m - 1)
+
+-- ---- the step words of each frame
+
+-- one step word for the side then old, and at most m for the side then new
+pub record Stepped (c : Settings) (s : Scene) : Type 0 where
+  pub one : stepsOn (oldIn c s) (frameFrom c s .words) ≡ 1
+  pub most : stepsOn (newIn c s) (frameFrom c s .words) ≤ c .m
+
+-- so in every frame of a trace
+unfoldable pub Steps : Settings → List Event → Type 0
+Steps c trace = (before : List Event) (s : Scene) (after : List Event) → trace ≡ before ++ (FrameFrom s ∷ after) → Stepped c s
+
+-- the steps of the sides then old in a trace, counted for the side x
+abbrev pub oldSteps : Settings → ℕ → List Event → ℕ
+oldSteps c x [] = 0
+oldSteps c x (FrameFrom s ∷ es) = cond (eqb (oldIn c s) x) 1 0 + oldSteps c x es
+oldSteps c x (SkipFrom s t ∷ es) = oldSteps c x es
+
+-- the steps of the sides then new, counted for the side x
+abbrev pub newSteps : Settings → ℕ → List Event → ℕ
+newSteps c x [] = 0
+newSteps c x (FrameFrom s ∷ es) = cond (eqb (newIn c s) x) (stepsOn x (frameFrom c s .words)) 0 + newSteps c x es
+newSteps c x (SkipFrom s t ∷ es) = newSteps c x es
+
+-- ---- the tapes
+
+-- the tape of an update as it came back: the words of what happened, and zeros
+abbrev pub Taped : Session → Call → Type 0
+Taped s (Update d t box was r last) =
+    last ≡ wordsIn (s .settings) (happened s (Update d t box was r last)) ++ replicate (length was - length (wordsIn (s .settings) (happened s (Update d t box was r last)))) 0
+Taped s (Issue h r) = Unit {0}
+
+-- so of every call
+abbrev pub Tapes : Session → List Call → Type 0
+Tapes s [] = Unit {0}
+Tapes s (c ∷ cs) = Taped s c × Tapes (sessionOf c) cs
+
+-- ---- the worlds between what happens
+
+-- two pairs of worlds that differ at most in their commands, in what snapshots wait, and in what is displayed
+pub record SameWorlds (v w : ClientWorldSimulations) : Type 0 where
+  pub side : newSideOf v ≡ newSideOf w
+  pub old : oldStampOf v ≡ oldStampOf w
+  pub new : newStampOf v ≡ newStampOf w
+  pub weight : v .weight ≡ w .weight
+
+-- from the worlds v to the worlds w: each frame and each skip starts from the worlds that were there, and goes on from those that it leaves
+abbrev pub Walk : Settings → ClientWorldSimulations → List Event → ClientWorldSimulations → Type 0
+Walk c v [] w = SameWorlds v w
+Walk c v (FrameFrom s ∷ es) w = SameWorlds v (s .worlds) × Walk c (frameFrom c s .scene .worlds) es w
+Walk c v (SkipFrom s t ∷ es) w = SameWorlds v (s .worlds) × Walk c (skippedOf s t .scene .worlds) es w
+
+-- ---- ledgers
+
+-- how many entries the buffer of a side holds
+abbrev pub heldOn : ℕ → Session → ℕ
+heldOn x s = length (held (worldOf (s .worlds) x .commands))
+
+-- for the side x: held before + taken + copied = applied + left out + replaced + held after, each term summed from the answers; applied are its command words on the tapes
+pub record Balanced (x : ℕ) (s : Session) (cs : List Call) : Type 0 where
+  pub balance :
+      heldOn x s + sum (λ c. ledgerOn x c .taken) cs + sum (λ c. ledgerOn x c .copied) cs
+      ≡ sum (λ c. ledgerOn x c .applied) cs + sum (λ c. ledgerOn x c .leftout) cs + sum (λ c. ledgerOn x c .replaced) cs + heldOn x (endOf s cs)
+  pub applied : sum (λ c. ledgerOn x c .applied) cs ≡ sum (appliedOn x) cs
+
+-- ---- soundness
+
+-- every session on the way is sound
+abbrev pub AllSound : List Call → Type 0
+AllSound [] = Unit {0}
+AllSound (c ∷ cs) = (soundOf (sessionOf c) ≡ true) × AllSound cs
+
+-- worlds exist in every stage but SyncingClock
+abbrev pub worldsExist : Stage → Bool
+worldsExist SyncingClock = false
+worldsExist SyncingInitialState = true
+worldsExist Ready = true
+
+-- what the types say of a session: stamps have 16 bits
+abbrev pub Stamp : Queued → Type 0
+Stamp Nothing = Unit {0}
+Stamp (Held t h) = t .0 < 65536
+
+-- what the types say of a session, and no more: stamps of 16 bits, an f64 is a value of binary64, and a clock has 64 slots
+pub record Typed (s : Session) : Type 0 where
+  pub timestep : T (fits binary64 (s .settings .timestep))
+  pub timer : T (fits binary64 (s .clock .timer))
+  pub slots : length (s .clock .samples) ≡ 64
+  pub left : s .worlds .left .commands .timestamp .0 < 65536
+  pub right : s .worlds .right .commands .timestamp .0 < 65536
+  pub base : s .worlds .base .timestamp .0 < 65536
+  pub queued : Stamp (s .worlds .snapshots .queued)
+
+-- ---- all of it, for the calls of a list
+
+-- what demand 3 says of the calls cs from the session s
+pub record Told (s : Session) (cs : List Call) : Type 0 where
+  -- every session on the way is sound
+  pub sound : AllSound cs
+  -- F is the number of frames that happened
+  pub frames : framesIn (traceOf s cs) ≡ sum framesOf cs
+  -- the old world's stamp has moved by F plus the distances of its skips, modulo 65,536
+  pub old : oldStampOf (endOf s cs .worlds) .0 ≡ (oldStampOf (s .worlds) .0 + sum framesOf cs + distancesIn (traceOf s cs)) % 65536
+  -- the tapes as returned hold exactly F + C step words
+  pub marks : sum markedOf cs ≡ sum framesOf cs + sum caughtOf cs
+  -- of the side x: one for each frame in which it is old, and the others for the frames in which it is new
+  pub sides : (x : ℕ) → x < 2 → sum (markedOn x) cs ≡ oldSteps (s .settings) x (traceOf s cs) + newSteps (s .settings) x (traceOf s cs)
+  -- C of them for the sides then new
+  pub caught : newSteps (s .settings) 0 (traceOf s cs) + newSteps (s .settings) 1 (traceOf s cs) ≡ sum caughtOf cs
+  -- one a frame for the side then old, at most m a frame for the side then new
+  pub steps : Steps (s .settings) (traceOf s cs)
+  -- and so at most m × F
+  pub most : sum caughtOf cs ≤ s .settings .m * sum framesOf cs
+  -- the tapes are the words of what happened
+  pub tapes : Tapes s cs
+  -- what happened leads from the first worlds to the last
+  pub walk : Walk (s .settings) (s .worlds) (traceOf s cs) (endOf s cs .worlds)
+  -- both ledgers
+  pub ledgers : (x : ℕ) → x < 2 → Balanced x s cs
+  -- the catch-up law
+  pub law : CatchUp (s .settings) (traceOf s cs)
+
+-- demand 3, proved in proofs/Demand.antt
+unfoldable pub Demand3 : Type 0
+Demand3 = (s : Session) (cs : List Call) → Typed s → soundOf s ≡ true → worldsExist (s .stage) ≡ true → Chain s cs → Told s cs
