@@ -5,13 +5,3 @@ pub mod Skipping
 pub mod Bounds
 pub mod Framing
 pub mod Catching
-pub mod SoundWorlds
-pub mod SoundFrames
-pub mod TraceStamps
-pub mod TraceSteps
-pub mod TraceFrames
-pub mod TraceArrivals
-pub mod LedgerBooks
-pub mod LedgerSides
-pub mod LedgerFrames
-pub mod LedgerArrivals

@@ -6,8 +6,8 @@ use lib.ListN.{length}
 use Rattle.session.specs.declared.Session.{Session}
 use Rattle.session.specs.declared.IssueAnswer.{IssueAnswer}
 use Rattle.session.specs.Sound.{soundOf}
-use Rattle.session.proofs.SoundParts.{FloatsFit}
-use Rattle.session.proofs.SoundCalls.{update-stays-sound, update-fits, issue-stays-sound, issue-fits}
+use Rattle.session_laws.proofs.SoundParts.{FloatsFit}
+use Rattle.session_laws.proofs.SoundCalls.{update-stays-sound, update-fits, issue-stays-sound, issue-fits}
 use Rattle.demand.specs.Calls.{Call, Update, Issue, Answered, sessionOf, Chain, endOf}
 use Rattle.demand.specs.Demand.{AllSound, Typed}
 

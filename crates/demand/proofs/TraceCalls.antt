@@ -14,9 +14,9 @@ use Rattle.client.specs.declared.DisplayTime.{DisplayTime}
 use Rattle.client.specs.declared.DisplayTime.the-variants.{NotDisplayed, DisplayedAt}
 use Rattle.client.specs.declared.Scene.{Scene}
 use Rattle.client.specs.Sides.{oldStampOf}
-use Rattle.client.proofs.TraceSteps.{lagIn}
-use Rattle.client.proofs.TraceFrames.{Fitting}
-use Rattle.client.proofs.TraceArrivals.{alike-lag}
+use Rattle.session_laws.proofs.TraceSteps.{lagIn}
+use Rattle.session_laws.proofs.TraceFrames.{Fitting}
+use Rattle.session_laws.proofs.TraceArrivals.{alike-lag}
 use Rattle.fixed_timestepper.specs.declared.Stop.{Stop}
 use Rattle.fixed_timestepper.specs.declared.Stop.the-variants.{Done, TooManyFrames, StatusStops, WeightStops}
 use Rattle.fixed_timestepper.specs.TimeKeeper.{Run}
@@ -26,7 +26,7 @@ use Rattle.session.specs.declared.Session.{Session}
 use Rattle.session.specs.Sound.{soundOf}
 use Rattle.session.specs.Passes.{heardIn, receivedIn}
 use Rattle.session.specs.Calls.{Answer, refusedAtOnce, refusedWith, sceneOf, clockAfter, stageAfter, acceptedOf, concludedOf, serverTimeBy, sceneAfter, playedOf, worldsUpdateOf, updateBy, updateOf}
-use Rattle.session.proofs.TraceReading.{sound-m, Read, read-in}
+use Rattle.session_laws.proofs.TraceReading.{sound-m, Read, read-in}
 use Rattle.demand.specs.Demand.{framesIn, distancesIn, wordsIn, newSteps, Walk, worldsExist}
 use Rattle.demand.proofs.TraceLaw.{Linked, lastIn}
 use Rattle.demand.proofs.TraceRuns.{Ran, ran-updated, same-self, same-of, walk-same}

@@ -12,9 +12,9 @@ use Rattle.settings.specs.declared.Settings.{Settings}
 use Rattle.settings.specs.Settings.{blendProgressOf}
 use Rattle.client.specs.declared.Scene.{Scene}
 use Rattle.client.specs.Skip.{skippedOf}
-use Rattle.client.proofs.TraceStamps.{sides-apart}
-use Rattle.client.proofs.TraceFrames.{OneFrame, one-frame}
-use Rattle.client.proofs.TraceArrivals.{one-skip}
+use Rattle.session_laws.proofs.TraceStamps.{sides-apart}
+use Rattle.session_laws.proofs.TraceFrames.{OneFrame, one-frame}
+use Rattle.session_laws.proofs.TraceArrivals.{one-skip}
 use Rattle.fixed_timestepper.specs.TimeKeeper.{Event, FrameFrom, SkipFrom}
 use Rattle.demand.specs.Demand.{frameFrom, openedFrom, oldIn, newIn, framesIn, distancesIn, wordsOf, wordsIn, Stepped, Steps, oldSteps, newSteps}
 

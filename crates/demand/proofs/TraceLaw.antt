@@ -12,9 +12,9 @@ use Rattle.client.specs.declared.Scene.{Scene}
 use Rattle.client.specs.Sides.{oldStampOf, newStampOf}
 use Rattle.client.specs.Frame.{snapshotOf}
 use Rattle.client.specs.Skip.{skippedOf}
-use Rattle.client.proofs.TraceStamps.{lag-is}
-use Rattle.client.proofs.TraceSteps.{lagIn}
-use Rattle.client.proofs.TraceFrames.{gapBy}
+use Rattle.session_laws.proofs.TraceStamps.{lag-is}
+use Rattle.session_laws.proofs.TraceSteps.{lagIn}
+use Rattle.session_laws.proofs.TraceFrames.{gapBy}
 use Rattle.fixed_timestepper.specs.TimeKeeper.{Event, FrameFrom, SkipFrom}
 use Rattle.demand.specs.Demand.{frameFrom, Load, NoLoad, Loaded, loadBy, framesFrom, NoLoads, behindLast, CatchUp}
 

@@ -23,10 +23,10 @@ use Rattle.client.specs.declared.Scene.{Scene}
 use Rattle.client.specs.Sides.{oldStampOf, withWorlds, Played, andThen}
 use Rattle.client.specs.Frame.{frameStops}
 use Rattle.client.specs.Skip.{skippedOf, tweenOf, weightOk, postUpdateOf}
-use Rattle.client.proofs.TraceStamps.{lagOf, lag-is, lag-there, next-sum}
-use Rattle.client.proofs.TraceSteps.{lagIn}
-use Rattle.client.proofs.TraceFrames.{QueuedFits, Fitting, OneFrame}
-use Rattle.client.proofs.TraceArrivals.{Alike, alike-fitting, alike-lag, post-alike, post-queued, OneSkip, one-skip}
+use Rattle.session_laws.proofs.TraceStamps.{lagOf, lag-is, lag-there, next-sum}
+use Rattle.session_laws.proofs.TraceSteps.{lagIn}
+use Rattle.session_laws.proofs.TraceFrames.{QueuedFits, Fitting, OneFrame}
+use Rattle.session_laws.proofs.TraceArrivals.{Alike, alike-fitting, alike-lag, post-alike, post-queued, OneSkip, one-skip}
 use Rattle.fixed_timestepper.specs.declared.Stop.{Stop}
 use Rattle.fixed_timestepper.specs.declared.Stop.the-variants.{Done, TooManyFrames, StatusStops, WeightStops}
 use Rattle.fixed_timestepper.specs.TimeKeeper.{nought, Event, FrameFrom, SkipFrom, Run, ended, framed, goesOn, whileBelow, runOf, compensatedOf, correctedOf, skipsOf, skipped, maybeSkipped, endsWith, finishedOf, concluded, advancedOf, updatedOf}

@@ -14,16 +14,16 @@ use Rattle.client.specs.declared.ClientWorldSimulations.{ClientWorldSimulations
 use Rattle.client.specs.declared.Queued.{Queued}
 use Rattle.client.specs.declared.Queued.the-variants.{Nothing, Held}
 use Rattle.client.specs.Sides.{newSideOf, oldSideOf, worldOf, oldStampOf, newStampOf}
-use Rattle.client.proofs.TraceSteps.{lagIn}
-use Rattle.client.proofs.TraceFrames.{QueuedFits, Fitting}
-use Rattle.client.proofs.TraceArrivals.{alike-fitting, alike-lag}
+use Rattle.session_laws.proofs.TraceSteps.{lagIn}
+use Rattle.session_laws.proofs.TraceFrames.{QueuedFits, Fitting}
+use Rattle.session_laws.proofs.TraceArrivals.{alike-fitting, alike-lag}
 use Rattle.fixed_timestepper.specs.TimeKeeper.{Event}
 use Rattle.session.specs.declared.Session.{Session}
 use Rattle.session.specs.declared.IssueAnswer.{IssueAnswer}
 use Rattle.session.specs.Sound.{soundOf}
 use Rattle.session.specs.Calls.{Answer, updateOf}
 use Rattle.session.specs.Issue.{issueOf}
-use Rattle.session.proofs.TraceReading.{Keeps, issue-keeps}
+use Rattle.session_laws.proofs.TraceReading.{Keeps, issue-keeps}
 use Rattle.demand.specs.Calls.{Call, Update, Issue, Answered, sessionOf, Chain, endOf, framesOf, caughtOf, markedOf, markedOn, happened, traceOf, sum}
 use Rattle.demand.specs.Demand.{framesIn, distancesIn, wordsIn, oldSteps, newSteps, Taped, Tapes, Walk, AllSound, Balanced, worldsExist, Stamp, Typed, Told, Demand3}
 use Rattle.demand.proofs.TraceLaw.{Linked, lastIn, linked-append, last-append, catch-up}

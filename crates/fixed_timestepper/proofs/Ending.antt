@@ -19,7 +19,8 @@ use Rattle.client.specs.Skip.{skippedOf, tweenOf, weightOk, postUpdateOf}
 use Rattle.fixed_timestepper.specs.declared.Stop.{Stop}
 use Rattle.fixed_timestepper.specs.declared.Stop.the-variants.{Done, WeightStops}
 use Rattle.fixed_timestepper.specs.declared.Advanced.{Advanced}
-use Rattle.fixed_timestepper.specs.TimeKeeper.{absOf, driftOf, correctedOf, correctedOvershoot, Run, skipsOf, skipped, maybeSkipped, finishedOf, runBy, Skips, finishedBy}
+use Rattle.fixed_timestepper.specs.TimeKeeper.{absOf, driftOf, correctedOf, correctedOvershoot, Run, skipsOf, skipped, maybeSkipped, finishedOf}
+use Rattle.fixed_timestepper.specs.Inner.{runBy, Skips, finishedBy}
 
 -- the test for a skip, by the calls that make it
 pub skips-is : (stamp : Timestamp) (overshoot server : Float) (c : Settings) {old : Timestamp} {d a : Float} {b : Bool}

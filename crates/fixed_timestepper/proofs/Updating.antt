@@ -17,7 +17,8 @@ use Rattle.client.specs.Skip.{skippedOf, tweenOf, weightOk, postUpdateOf}
 use Rattle.fixed_timestepper.specs.declared.Stop.{Stop}
 use Rattle.fixed_timestepper.specs.declared.Stop.the-variants.{Done, TooManyFrames, StatusStops, WeightStops}
 use Rattle.fixed_timestepper.specs.declared.Advanced.{Advanced}
-use Rattle.fixed_timestepper.specs.TimeKeeper.{Run, runOf, correctedOf, correctedOvershoot, compensatedOf, skipsOf, skipped, maybeSkipped, endsWith, finishedOf, concluded, advancedOf, updatedOf, runBy, Advances, Skips, finishedBy}
+use Rattle.fixed_timestepper.specs.TimeKeeper.{Run, runOf, correctedOf, correctedOvershoot, compensatedOf, skipsOf, skipped, maybeSkipped, endsWith, finishedOf, concluded, advancedOf, updatedOf, Advances}
+use Rattle.fixed_timestepper.specs.Inner.{runBy, Skips, finishedBy}
 
 -- ---- the end of a run turns on its scene and its overshoot alone
 

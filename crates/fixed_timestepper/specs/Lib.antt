@@ -1,1 +1,2 @@
 pub mod TimeKeeper
+pub mod Inner

@@ -174,28 +174,3 @@ pub record Advances (r : Run) (was : List ℕ) (a : Advanced) (last : List ℕ) 
   pub frames : a .frames ≡ r .frames
   pub stop : a .stop ≡ r .stop
   pub puts : Puts was 0 (r .played .words) (a .at) last
-
--- ---- the same, of a run as the code holds it
-
--- the run that the code's answer stands for, its words being those and its trace left aside
-abbrev pub runBy : Advanced → List ℕ → Run
-runBy a ws = record { played = record { scene = a .scene; words = ws }; overshoot = a .overshoot; frames = a .frames; stop = a .stop; trace = [] }
-
--- the skip after the frames of a run: what it adds to the tape, and the answer after it
-pub record Skips (a : Advanced) (server : Float) (c : Settings) (was : List ℕ) (r : Advanced) (last : List ℕ) : Type 0 where
-  pub scene : r .scene ≡ maybeSkipped (runBy a []) server c .played .scene
-  pub overshoot : r .overshoot ≡ maybeSkipped (runBy a []) server c .overshoot
-  pub frames : r .frames ≡ a .frames
-  pub stop : r .stop ≡ maybeSkipped (runBy a []) server c .stop
-  pub puts : Puts was (a .at) (maybeSkipped (runBy a []) server c .played .words) (r .at) last
-
--- the answer that ends an update
-unfoldable pub finishedBy : Advanced → Settings → Advanced
-finishedBy a c =
-    record {
-      scene = finishedOf (runBy a []) c .played .scene;
-      overshoot = a .overshoot;
-      frames = a .frames;
-      at = a .at;
-      stop = finishedOf (runBy a []) c .stop;
-    }

@@ -2,7 +2,8 @@
 // in its order.
 ghost use mathlib.Core.Path.{_≡_};
 ghost use Prim.Native.Nat.{_≤_, _<_};
-ghost use Rattle.fixed_timestepper.specs.TimeKeeper.{absOf, atLeastZero, logicalOf, driftOf, beyondDeadband, compensatedOf, runOf, updatedOf, Advances, Skips, finishedBy};
+ghost use Rattle.fixed_timestepper.specs.TimeKeeper.{absOf, atLeastZero, logicalOf, driftOf, beyondDeadband, compensatedOf, runOf, updatedOf, Advances};
+ghost use Rattle.fixed_timestepper.specs.Inner.{Skips, finishedBy};
 use client::Scene;
 use client::frame;
 use client::sides;

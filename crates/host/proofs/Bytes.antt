@@ -1,33 +1,13 @@
--- Samples as bytes: a bit pattern that is tested before a float is made of it, eight bytes each written, and a loop that fills an array with the floats of bytes. Assumes nothing.
+-- Samples as bytes: eight bytes each written, and a loop that fills an array with the floats of bytes. Assumes nothing.
 use mathlib.Core.Path.{_≡_, refl, sym, ap, _∙_, subst}
-use mathlib.Core.Bool.{Bool, true, not}
 use mathlib.Core.List.{List, [], _∷_, _++_}
 use Prim.Native.Nat.{ℕ, _+_, _*_, _%_, _^_, _<_, _≤_}
 use native.Mathlib.Numerals.{add-one}
 use native.Mathlib.Omega.{arith}
-use lib.Dec.{T}
 use lib.ListN.{length, set, take, length-set}
 use lib.Seq.{take-suc-set}
-use lib.Ieee.{Float, nan, inf, fin, binary64, ofBits, nanBits, isNan}
-use lib.Ieee.Bits.{nanBits-is, nanBits-above}
-use borrow.Author.Tests.{lt-ltb, le-ltb}
+use lib.Ieee.{Float, binary64, ofBits}
 use Rattle.host.specs.Mean.{wordAt, floatsOf}
-
--- ---- a pattern's float
-
--- with the sign's bit cleared, a NaN's pattern is above the infinity's
-pub is-nan : (n : ℕ) → 0x7ff0_0000_0000_0000 < n % 2 ^ 63 → nan ≡ ofBits binary64 n
-unfolding isNan
-is-nan n h = found (ofBits binary64 n) (sym (nanBits-is binary64 n) ∙ nanBits-above binary64 n ∙ lt-ltb 0x7ff0_0000_0000_0000 (n % 2 ^ 63) h)
-  where
-    found : (x : Float) → isNan x ≡ true → nan ≡ x
-    found nan e = refl
-    found (inf s) e = absurd (subst T (sym e) tt)
-    found (fin s m e') e = absurd (subst T (sym e) tt)
-
--- and no other pattern is
-pub no-nan : (n : ℕ) → n % 2 ^ 63 ≤ 0x7ff0_0000_0000_0000 → T (not (nanBits binary64 n))
-no-nan n h = subst (λ (t : Bool). T (not t)) (sym (nanBits-above binary64 n ∙ le-ltb 0x7ff0_0000_0000_0000 (n % 2 ^ 63) h)) tt
 
 -- ---- eight bytes
 

@@ -162,7 +162,7 @@ fn ledger(out: &mut Out, at: usize, name: &[u8], l: Ledger) -> usize {
 }
 
 // The answer of `open`.
-pub fn open(out: &mut Out, at: usize, refusal: u32) -> usize {
+pub(crate) fn open(out: &mut Out, at: usize, refusal: u32) -> usize {
     let n = named(out, at, b"open refusal=", refusal as u64);
     output::byte(out, n, b'\n')
 }
@@ -232,7 +232,13 @@ fn update_numbers(
 }
 
 // The answer of `update`, whose tape has so many words.
-pub fn update(out: &mut Out, at: usize, a: UpdateAnswer, tape: &Tape, length: usize) -> usize {
+pub(crate) fn update(
+    out: &mut Out,
+    at: usize,
+    a: UpdateAnswer,
+    tape: &Tape,
+    length: usize,
+) -> usize {
     let words = a.words;
     let n = update_numbers(out, at, a.refusal, a.frames, a.steps, a.request);
     let l = ledgers(out, n, a.left, a.right);
@@ -242,7 +248,7 @@ pub fn update(out: &mut Out, at: usize, a: UpdateAnswer, tape: &Tape, length: us
 }
 
 // The answer of `issue`.
-pub fn issue(out: &mut Out, at: usize, a: IssueAnswer) -> usize {
+pub(crate) fn issue(out: &mut Out, at: usize, a: IssueAnswer) -> usize {
     let n = named(out, at, b"issue refusal=", a.refusal as u64);
     let s = named_stamp(out, n, b" stamp=", a.stamp);
     let l = ledgers(out, s, a.left, a.right);
@@ -250,7 +256,7 @@ pub fn issue(out: &mut Out, at: usize, a: IssueAnswer) -> usize {
 }
 
 // The answer of `report`.
-pub fn report(out: &mut Out, at: usize, a: ReportAnswer) -> usize {
+pub(crate) fn report(out: &mut Out, at: usize, a: ReportAnswer) -> usize {
     let n = named(out, at, b"report refusal=", a.refusal as u64);
     let reached = a.stage;
     let status = a.status;
@@ -380,7 +386,7 @@ fn worlds_of(out: &mut Out, at: usize, s: Session) -> usize {
 }
 
 // The session in one line.
-pub fn session(out: &mut Out, at: usize, s: Session) -> usize {
+pub(crate) fn session(out: &mut Out, at: usize, s: Session) -> usize {
     let reached = s.stage;
     let n = stage(out, at, b"session stage=", reached);
     let c = clock(out, n, s.clock);
@@ -389,14 +395,14 @@ pub fn session(out: &mut Out, at: usize, s: Session) -> usize {
 }
 
 // The answer of `order`.
-pub fn order(out: &mut Out, at: usize, order: i32) -> usize {
+pub(crate) fn order(out: &mut Out, at: usize, order: i32) -> usize {
     let n = output::text(out, at, b"order ");
     let m = output::signed(out, n, order);
     output::byte(out, m, b'\n')
 }
 
 // The answer of `stamp`.
-pub fn frame_stamp(out: &mut Out, at: usize, stamp: i32) -> usize {
+pub(crate) fn frame_stamp(out: &mut Out, at: usize, stamp: i32) -> usize {
     let n = output::text(out, at, b"stamp ");
     let m = output::signed(out, n, stamp);
     output::byte(out, m, b'\n')
@@ -427,7 +433,7 @@ fn low_first(out: &mut Out, at: usize, v: u64) -> usize {
 }
 
 // The answer of a `mean` that was refused.
-pub fn no_mean(out: &mut Out, at: usize, refusal: u32, length: u64) -> usize {
+pub(crate) fn no_mean(out: &mut Out, at: usize, refusal: u32, length: u64) -> usize {
     let n = named(out, at, b"mean ", refusal as u64);
     let m = output::byte(out, n, b' ');
     if length == 0 {
@@ -439,14 +445,14 @@ pub fn no_mean(out: &mut Out, at: usize, refusal: u32, length: u64) -> usize {
 }
 
 // The answer of `mean`.
-pub fn mean(out: &mut Out, at: usize, x: f64) -> usize {
+pub(crate) fn mean(out: &mut Out, at: usize, x: f64) -> usize {
     let n = output::text(out, at, b"mean 0 ");
     let m = low_first(out, n, output::bits_of(x));
     output::byte(out, m, b'\n')
 }
 
 // What ends the program.
-pub fn bad_call(out: &mut Out, at: usize, line: u64) -> usize {
+pub(crate) fn bad_call(out: &mut Out, at: usize, line: u64) -> usize {
     let n = named(out, at, b"bad call at line ", line);
     output::byte(out, n, b'\n')
 }

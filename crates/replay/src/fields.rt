@@ -62,7 +62,7 @@ fn blank() -> Field {
 }
 
 // The digit that a byte is, in lower case; 16 where it is none.
-pub fn digit(b: u32) -> u32 {
+pub(crate) fn digit(b: u32) -> u32 {
     if b < 48 {
         return 16;
     }
@@ -161,7 +161,7 @@ fn ends(b: u32) -> bool {
 }
 
 // The next field.
-pub fn scan(input: &mut In, c: Cursor) -> Scanned {
+pub(crate) fn scan(input: &mut In, c: Cursor) -> Scanned {
     let mut cursor = c;
     let mut field = blank();
     let mut turns = u64::MAX;
@@ -182,7 +182,7 @@ pub fn scan(input: &mut In, c: Cursor) -> Scanned {
 }
 
 // Passes over what is left of a line.
-pub fn skip_line(input: &mut In, c: Cursor) -> Cursor {
+pub(crate) fn skip_line(input: &mut In, c: Cursor) -> Cursor {
     let mut cursor = c;
     let mut turns = u64::MAX;
     while turns > 0 {
@@ -202,7 +202,7 @@ pub fn skip_line(input: &mut In, c: Cursor) -> Cursor {
 }
 
 // A number of so many hexadecimal digits.
-pub fn hex_of(f: Field, digits: u32) -> Value {
+pub(crate) fn hex_of(f: Field, digits: u32) -> Value {
     Value {
         ok: f.count == digits && !f.nohex,
         value: f.hex,
@@ -210,7 +210,7 @@ pub fn hex_of(f: Field, digits: u32) -> Value {
 }
 
 // A float by its bits. The pattern of a NaN gives the one NaN that there is.
-pub fn float_of(bits: u64) -> f64 {
+pub(crate) fn float_of(bits: u64) -> f64 {
     if bits % 9223372036854775808 > 9218868437227405312 {
         return 0.0 / 0.0;
     }
@@ -218,7 +218,7 @@ pub fn float_of(bits: u64) -> f64 {
 }
 
 // A number cut to 32 bits: what is more stays more than any limit of a call.
-pub fn narrow(v: u64) -> u32 {
+pub(crate) fn narrow(v: u64) -> u32 {
     if v > 4294967295 {
         return 4294967295;
     }
@@ -267,7 +267,7 @@ fn value_of(f: Field, kind: u8) -> Value {
 }
 
 // Whether a byte ends a line.
-pub fn ends_line(b: u32) -> bool {
+pub(crate) fn ends_line(b: u32) -> bool {
     if b == 10 {
         return true;
     }
@@ -275,7 +275,7 @@ pub fn ends_line(b: u32) -> bool {
 }
 
 // The fields of these kinds, at most 11. `end` is the byte that ended the field before them: there are more only after a space.
-pub fn read(input: &mut In, c: Cursor, end: u32, kinds: &[u8]) -> Fields {
+pub(crate) fn read(input: &mut In, c: Cursor, end: u32, kinds: &[u8]) -> Fields {
     let mut f = Fields {
         cursor: c,
         ok: true,
@@ -309,7 +309,7 @@ pub fn read(input: &mut In, c: Cursor, end: u32, kinds: &[u8]) -> Fields {
 }
 
 // The fields of these kinds, which are the rest of their line.
-pub fn read_last(input: &mut In, c: Cursor, end: u32, kinds: &[u8]) -> Fields {
+pub(crate) fn read_last(input: &mut In, c: Cursor, end: u32, kinds: &[u8]) -> Fields {
     let mut f = read(input, c, end, kinds);
     if !ends_line(f.end) {
         f.ok = false;

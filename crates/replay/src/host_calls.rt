@@ -15,7 +15,7 @@ fn stamp_of(v: u64) -> Timestamp {
 }
 
 // Plays `order`.
-pub fn order(p: Place, end: u32, input: &mut In, out: &mut Out) -> Place {
+pub(crate) fn order(p: Place, end: u32, input: &mut In, out: &mut Out) -> Place {
     let f = fields::read_last(input, p.cursor, end, b"ss");
     if !f.ok {
         return lines::bad(p);
@@ -26,7 +26,7 @@ pub fn order(p: Place, end: u32, input: &mut In, out: &mut Out) -> Place {
 }
 
 // Plays `stamp`.
-pub fn frame_stamp(p: Place, end: u32, input: &mut In, out: &mut Out) -> Place {
+pub(crate) fn frame_stamp(p: Place, end: u32, input: &mut In, out: &mut Out) -> Place {
     let f = fields::read_last(input, p.cursor, end, b"ff");
     if !f.ok {
         return lines::bad(p);
@@ -45,7 +45,7 @@ fn put_mean(out: &mut Out, at: usize, m: MeanAnswer, length: u64) -> usize {
 }
 
 // Plays `mean`.
-pub fn mean(p: Place, end: u32, input: &mut In, out: &mut Out) -> Place {
+pub(crate) fn mean(p: Place, end: u32, input: &mut In, out: &mut Out) -> Place {
     let f = fields::read(input, p.cursor, end, b"dfd");
     if !f.ok {
         return lines::bad(p);

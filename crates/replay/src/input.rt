@@ -53,7 +53,7 @@ fn taken(input: &In, c: Cursor) -> NextByte {
 }
 
 // The next byte of the input.
-pub fn next(input: &mut In, c: Cursor) -> NextByte {
+pub(crate) fn next(input: &mut In, c: Cursor) -> NextByte {
     let at = c.at;
     if at < c.end {
         return taken(input, c);

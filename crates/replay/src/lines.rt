@@ -76,7 +76,7 @@ fn call_of(letters: u32, name: u64) -> Line {
 }
 
 // What a line is whose first field is this one.
-pub fn line_of(f: Field) -> Line {
+pub(crate) fn line_of(f: Field) -> Line {
     if f.count > 0 {
         if f.first == 35 {
             return Line::Comment;
@@ -93,7 +93,7 @@ pub fn line_of(f: Field) -> Line {
 }
 
 // The place after a line was read up to a cursor and answered up to a place of the output.
-pub fn answered(cursor: Cursor, at: usize) -> Place {
+pub(crate) fn answered(cursor: Cursor, at: usize) -> Place {
     Place {
         cursor,
         at,
@@ -103,7 +103,7 @@ pub fn answered(cursor: Cursor, at: usize) -> Place {
 }
 
 // The place after a line that is no call.
-pub fn bad(p: Place) -> Place {
+pub(crate) fn bad(p: Place) -> Place {
     let mut q = p;
     q.going = false;
     q.bad = true;
@@ -111,7 +111,7 @@ pub fn bad(p: Place) -> Place {
 }
 
 // The place at the end of the input.
-pub fn ended(p: Place) -> Place {
+pub(crate) fn ended(p: Place) -> Place {
     let mut q = p;
     q.going = false;
     q

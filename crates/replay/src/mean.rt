@@ -98,7 +98,7 @@ fn finished(cursor: Cursor, end: u32, r: Reading) -> Bytes {
 }
 
 // Reads the last field of a line as bytes, of which the first 512 are kept.
-pub fn read_bytes(input: &mut In, c: Cursor, bytes: &mut [u8; 512]) -> Bytes {
+pub(crate) fn read_bytes(input: &mut In, c: Cursor, bytes: &mut [u8; 512]) -> Bytes {
     let mut cursor = c;
     let mut r = Reading {
         total: 0,
@@ -160,7 +160,7 @@ fn mean_of_samples(bytes: &[u8; 512], store: usize, discard: usize) -> MeanAnswe
 }
 
 // The mean of samples given as bytes: refusal 1 for samples needed or a rate out of range, 8 for the samples and the answer's length.
-pub fn mean_of_bytes(
+pub(crate) fn mean_of_bytes(
     needed: u32,
     rate: f64,
     length: u64,

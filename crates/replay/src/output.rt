@@ -6,7 +6,7 @@ use timestamp::Timestamp;
 pub type Out = [u8; 65536];
 
 // One byte. A full buffer is written out first.
-pub fn byte(out: &mut Out, at: usize, b: u8) -> usize {
+pub(crate) fn byte(out: &mut Out, at: usize, b: u8) -> usize {
     if at < 65536 {
         out[at] = b;
         return at + 1;
@@ -24,12 +24,12 @@ fn write_first(bytes: &[u8], count: usize) {
 }
 
 // Writes out what the buffer holds.
-pub fn flush(out: &Out, at: usize) {
+pub(crate) fn flush(out: &Out, at: usize) {
     write_first(out, at);
 }
 
 // Some bytes.
-pub fn text(out: &mut Out, at: usize, bytes: &[u8]) -> usize {
+pub(crate) fn text(out: &mut Out, at: usize, bytes: &[u8]) -> usize {
     let mut n = at;
     let mut i: usize = 0;
     while i < bytes.len() {
@@ -40,21 +40,21 @@ pub fn text(out: &mut Out, at: usize, bytes: &[u8]) -> usize {
 }
 
 // A number in decimal.
-pub fn decimal(out: &mut Out, at: usize, v: u64) -> usize {
+pub(crate) fn decimal(out: &mut Out, at: usize, v: u64) -> usize {
     let mut digits = [0u8; 20];
     let n = io::decimal(v, &mut digits);
     text(out, at, &digits[..n])
 }
 
 // A number in hexadecimal, with at least so many digits.
-pub fn hex(out: &mut Out, at: usize, v: u64, least: usize) -> usize {
+pub(crate) fn hex(out: &mut Out, at: usize, v: u64, least: usize) -> usize {
     let mut digits = [0u8; 16];
     let n = io::hex(v, least, &mut digits);
     text(out, at, &digits[..n])
 }
 
 // The bits of a float; those of the quiet NaN where it is no number.
-pub fn bits_of(x: f64) -> u64 {
+pub(crate) fn bits_of(x: f64) -> u64 {
     if x != x {
         return 9221120237041090560;
     }
@@ -62,12 +62,12 @@ pub fn bits_of(x: f64) -> u64 {
 }
 
 // A float, by the digits of its bits.
-pub fn float(out: &mut Out, at: usize, x: f64) -> usize {
+pub(crate) fn float(out: &mut Out, at: usize, x: f64) -> usize {
     hex(out, at, bits_of(x), 16)
 }
 
 // A stamp, in signed decimal.
-pub fn stamp(out: &mut Out, at: usize, t: Timestamp) -> usize {
+pub(crate) fn stamp(out: &mut Out, at: usize, t: Timestamp) -> usize {
     let v = t.0;
     if v < 32768 {
         return decimal(out, at, v as u64);
@@ -85,7 +85,7 @@ fn magnitude(v: i32) -> u64 {
 }
 
 // A signed number in decimal.
-pub fn signed(out: &mut Out, at: usize, v: i32) -> usize {
+pub(crate) fn signed(out: &mut Out, at: usize, v: i32) -> usize {
     let size = magnitude(v);
     if v < 0 {
         let n = byte(out, at, b'-');

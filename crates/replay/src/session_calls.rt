@@ -69,7 +69,7 @@ fn settings_of(v: [u64; 11]) -> Settings {
 }
 
 // The session before the first `open`: that of an open with settings of 0, which is refused.
-pub fn no_session() -> Session {
+pub(crate) fn no_session() -> Session {
     let a = calls::open(settings_of([0; 11]));
     a.session
 }
@@ -83,7 +83,7 @@ fn at_bad_line(p: Player) -> Player {
 }
 
 // Plays `open`. The session that it returns, refused or not, is the one that the following calls are handed.
-pub fn open(p: Player, end: u32, input: &mut In, out: &mut Out) -> Player {
+pub(crate) fn open(p: Player, end: u32, input: &mut In, out: &mut Out) -> Player {
     let place = p.place;
     let f = fields::read_last(input, place.cursor, end, b"fffffffdfdd");
     if !f.ok {
@@ -200,7 +200,7 @@ fn call_update(s: Session, l: UpdateLine, words: &[u32], tape: &mut [u32]) -> Up
 }
 
 // Plays `update`.
-pub fn update(
+pub(crate) fn update(
     p: Player,
     end: u32,
     input: &mut In,
@@ -224,7 +224,7 @@ pub fn update(
 }
 
 // Plays `issue`.
-pub fn issue(p: Player, end: u32, input: &mut In, out: &mut Out) -> Player {
+pub(crate) fn issue(p: Player, end: u32, input: &mut In, out: &mut Out) -> Player {
     let place = p.place;
     let f = fields::read_last(input, place.cursor, end, b"d");
     if !f.ok {
@@ -241,7 +241,7 @@ pub fn issue(p: Player, end: u32, input: &mut In, out: &mut Out) -> Player {
 }
 
 // Plays `report`.
-pub fn report(s: Session, p: Place, end: u32, out: &mut Out) -> Place {
+pub(crate) fn report(s: Session, p: Place, end: u32, out: &mut Out) -> Place {
     if !fields::ends_line(end) {
         return lines::bad(p);
     }
@@ -250,7 +250,7 @@ pub fn report(s: Session, p: Place, end: u32, out: &mut Out) -> Place {
 }
 
 // Prints the session.
-pub fn show(s: Session, p: Place, end: u32, out: &mut Out) -> Place {
+pub(crate) fn show(s: Session, p: Place, end: u32, out: &mut Out) -> Place {
     if !fields::ends_line(end) {
         return lines::bad(p);
     }

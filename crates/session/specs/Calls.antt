@@ -17,7 +17,6 @@ use Rattle.clocksync.specs.declared.ServerTime.{ServerTime}
 use Rattle.clocksync.specs.declared.ServerTime.the-variants.{NoTime, At}
 use Rattle.clocksync.specs.Clock.{newOf, tickedOf, listenOf, settledOf, serverSecondsOf, readyOf}
 use Rattle.inbox.specs.Inbox.{refusalOf}
-use Rattle.tape.specs.Tape.{cleared}
 use Rattle.command.specs.declared.CommandBuffer.{CommandBuffer}
 use Rattle.command.specs.Buffer.{held}
 use Rattle.client.specs.declared.DisplayTime.{DisplayTime}
@@ -29,7 +28,6 @@ use Rattle.client.specs.declared.Received.{Received}
 use Rattle.client.specs.Sides.{newWorldsOf, emptyLedger, withWorlds, oldStampOf, newStampOf}
 use Rattle.client.specs.Status.{statusOf}
 use Rattle.fixed_timestepper.specs.declared.Stop.{Stop}
-use Rattle.fixed_timestepper.specs.declared.Advanced.{Advanced}
 use Rattle.fixed_timestepper.specs.declared.Stop.the-variants.{Done, TooManyFrames, StatusStops, WeightStops}
 use Rattle.fixed_timestepper.specs.TimeKeeper.{Run, Event, stopNumber, updatedOf}
 use Rattle.session.specs.declared.Stage.{Stage}
@@ -224,34 +222,6 @@ abbrev pub updateBy : Stage → Session → Float → Float → List ℕ → ℕ
 updateBy SyncingClock s delta seconds inbox len = clockUpdateOf s delta seconds inbox len
 updateBy SyncingInitialState s delta seconds inbox len = worldsUpdateOf s delta seconds inbox len
 updateBy Ready s delta seconds inbox len = worldsUpdateOf s delta seconds inbox len
-
--- ---- the same, of a run as the code holds it: its words are on the tape already
-
--- the reply to an update that was played to its end: 28 where its words exceed the tape, and else the rest of the tape is zeroed
-unfoldable pub acceptedBy : Session → Clock → Bool → Advanced → List ℕ → Reply
-acceptedBy s c request a tape =
-    cond (leb (a .at) (length tape))
-    (record {
-      refusal = 0;
-      session = record { settings = s .settings; stage = stageAfter (s .stage) (a .scene .worlds .published .time); clock = c; worlds = a .scene .worlds; overshoot = a .overshoot };
-      frames = a .frames;
-      steps = a .scene .steps;
-      request = request;
-      left = closedOf (a .scene .left) (a .scene .worlds .left .commands);
-      right = closedOf (a .scene .right) (a .scene .worlds .right .commands);
-      words = a .at;
-      tape = cleared tape (a .at);
-    })
-    (refusedWith 28 s (length tape) .reply)
-
--- the reply to an update once its frames have ended
-abbrev pub concludedBy : Stop → Session → Clock → Bool → Advanced → List ℕ → Reply
-concludedBy Done s c request a tape = acceptedBy s c request a tape
-concludedBy TooManyFrames s c request a tape = refusedWith (stopNumber TooManyFrames) s (length tape) .reply
-concludedBy StatusStops s c request a tape = refusedWith (stopNumber StatusStops) s (length tape) .reply
-concludedBy WeightStops s c request a tape = refusedWith (stopNumber WeightStops) s (length tape) .reply
-
--- ---- update
 
 -- update, with a tape of so many words
 unfoldable pub updateOf : Session → Float → Float → List ℕ → ℕ → Answer

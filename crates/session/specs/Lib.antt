@@ -1,4 +1,5 @@
 pub mod Sound
 pub mod Passes
 pub mod Calls
+pub mod Inner
 pub mod Issue

@@ -7,3 +7,4 @@ pub mod Table
 pub mod Masked
 pub mod Whole
 pub mod Nearer
+pub mod Patterns

@@ -249,6 +249,16 @@ fn make_ready(exact: &mut Exact) {
     }
 }
 
+/// One frame with two commands: one that is due in 20 frames, and one near the end of the accepted range.
+fn command_soon_and_late(exact: &mut Exact) {
+    let commands = [
+        text::command(exact.stamp().wrapping_add(20), 1),
+        text::command(exact.stamp().wrapping_add(16_000), 2),
+    ]
+    .concat();
+    exact.play(1, &commands);
+}
+
 fn p_run(out: &mut Out) {
     out.call(&text::open_line(&P));
     for second in [1.0, 2.0, 3.0] {
@@ -497,12 +507,7 @@ fn skip_half_lap(out: &mut Out) {
     let mut rng = unused();
     let mut run = exact(out, &mut rng, P, 4, 10, 100);
     make_ready(&mut run);
-    let commands = [
-        text::command(run.stamp().wrapping_add(20), 1),
-        text::command(run.stamp().wrapping_add(16_000), 2),
-    ]
-    .concat();
-    run.play(1, &commands);
+    command_soon_and_late(&mut run);
     run.update(4, run.old + 4 + 32_768, &[]);
     run.run.report();
     run.play(1, &[]);
@@ -513,12 +518,7 @@ fn skip_forward(out: &mut Out) {
     let mut rng = unused();
     let mut run = exact(out, &mut rng, P, 4, 10, 100);
     make_ready(&mut run);
-    let commands = [
-        text::command(run.stamp().wrapping_add(20), 1),
-        text::command(run.stamp().wrapping_add(16_000), 2),
-    ]
-    .concat();
-    run.play(1, &commands);
+    command_soon_and_late(&mut run);
     run.update(1, run.old + 40, &[]);
     run.play(1, &[]);
     run.update(1, run.old + 32_700, &[]);

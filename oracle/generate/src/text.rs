@@ -1,25 +1,10 @@
 //! Lines of the call text, and inbox words.
 
+pub use observe::settings::Settings;
 use std::{
     fmt::Write as _,
     io::{self, BufWriter, Stdout, Write as _},
 };
-
-/// The settings of an `open` call, in its order.
-#[derive(Clone, Copy, Debug)]
-pub struct Settings {
-    pub timestep: f64,
-    pub blend: f64,
-    pub lag: f64,
-    pub period: f64,
-    pub deviation: f64,
-    pub skip: f64,
-    pub update_max: f64,
-    pub needed: u64,
-    pub rate: f64,
-    pub fastforward_max: u64,
-    pub method: u64,
-}
 
 pub fn float(value: f64) -> String {
     format!("{:016x}", value.to_bits())

@@ -3,6 +3,7 @@
 use crate::inbox::{self, Fault, Message};
 use crystalorb::client::probe::{BufferView, View, WorldsView};
 use observe::rule::in_range;
+pub use observe::settings::Settings;
 
 pub const TWO_32: f64 = 4_294_967_296.0;
 pub const TWO_33: f64 = 8_589_934_592.0;
@@ -12,22 +13,6 @@ const INBOX_WORDS_MAX: usize = 4_096;
 
 /// "Each buffer holds 64 commands."
 pub const BUFFER_CAPACITY: usize = 64;
-
-/// The settings of an `open` call, before they are known to be within limits.
-#[derive(Clone, Copy, Debug, PartialEq)]
-pub struct Settings {
-    pub timestep: f64,
-    pub blend: f64,
-    pub lag: f64,
-    pub period: f64,
-    pub deviation: f64,
-    pub skip: f64,
-    pub update_max: f64,
-    pub needed: u64,
-    pub rate: f64,
-    pub fastforward_max: u64,
-    pub method: u64,
-}
 
 fn between(value: f64, low: f64, high: f64) -> bool {
     low <= value && value <= high

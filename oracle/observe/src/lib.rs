@@ -3,6 +3,7 @@
 //! The probes inside the client report here; the harness reads the record after the call.
 
 pub mod rule;
+pub mod settings;
 
 use std::cell::RefCell;
 

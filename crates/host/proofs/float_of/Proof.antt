@@ -2,13 +2,14 @@
 use borrow.Author.Needs.{needs}
 use native.Mathlib.Omega.{arith}
 use lib.Ieee.{ofBits, div}
-use Rattle.host.proofs.Bytes.{is-nan, no-nan}
+use mathlib.Core.Path.{sym}
+use Rattle.timestamp.proofs.Patterns.{is-nan, no-nan}
 use Rattle.host.proofs.float_of.Statement.{statement}
 use Rattle.host.proofs.float_of.Tie as tie
 
 returns : tie.Need-returns
 unfolding ofBits div
-returns c = is-nan (c .before .args .bits) (omega (arith, c .if1 .taken))
+returns c = sym (is-nan (c .before .args .bits) (omega (arith, c .if1 .taken)))
 
 float-from-bits-result : tie.Need-float-from-bits-result
 float-from-bits-result c = no-nan (c .before .args .bits) (omega (arith, c .if1 .left))

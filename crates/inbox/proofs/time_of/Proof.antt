@@ -5,7 +5,8 @@ use mathlib.Core.Bool.{Bool, true, false, _&&_}
 use lib.IntN.{pos}
 use lib.Ieee.{Float, fin, binary64, le, ofBits, neg}
 use Rattle.inbox.specs.Inbox.{timeOk, pickTime, timeOf}
-use Rattle.inbox.proofs.Times.{is-nan, no-nan, nan-out}
+use Rattle.timestamp.proofs.Patterns.{is-nan, no-nan}
+use Rattle.inbox.proofs.Times.{nan-out}
 use Rattle.inbox.proofs.time_of.Statement.{statement}
 use Rattle.inbox.proofs.time_of.Tie as tie
 

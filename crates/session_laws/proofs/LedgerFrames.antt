@@ -15,20 +15,20 @@ use Rattle.command.specs.declared.CommandBuffer.{CommandBuffer}
 use Rattle.command.specs.Buffer.{held, movedOf, restOf}
 use Rattle.command.proofs.Ledger.{moved-ledger, drained-ledger, emptied-held}
 use Rattle.simulation.specs.World.{stepOf, resetOf, loadOf}
 use Rattle.client.specs.declared.FastforwardingHealth.the-variants.{Healthy, Obsolete, Overshot}
 use Rattle.client.specs.declared.ReconciliationStatus.{ReconciliationStatus}
 use Rattle.client.specs.declared.ReconciliationStatus.the-variants.{AwaitingSnapshot, Fastforwarding, Blending}
 use Rattle.client.specs.declared.Queued.{Queued}
 use Rattle.client.specs.declared.Queued.the-variants.{Nothing, Held}
 use Rattle.client.specs.declared.ClientWorldSimulations.{ClientWorldSimulations}
 use Rattle.client.specs.declared.Scene.{Scene}
 use Rattle.client.specs.Sides.{newSideOf, oldSideOf, worldOf, withWorld, withWorlds, ledgerOf, withLedger, oldStampOf, newStampOf, Played, still, andThen, doneAt}
 use Rattle.client.specs.Status.{statusOf}
 use Rattle.client.specs.Publish.{publishedNone, publishedSide, publishedMix, publishedOld, publishedBoth, publishedBlended, nearOne}
 use Rattle.client.specs.Frame.{loadedAt, loadedOf, loadedQueued, readiedWith, blendedOn, resetNew, openedOf, openOf, snapshotOf, steppedSide, withStep, steppedNew, unless, caughtUpOf, caughtOf, simulatedOf, publishedBy, shownOf, blendedBy, frameOf}
 use Rattle.client.specs.Skip.{resetSide, resetAlong, skipsBack, emptiedBase, resetBoth, skippedOf, postUpdateOf}
-use Rattle.client.proofs.LedgerBooks.{books-as, books-more, books-loads}
-use Rattle.client.proofs.LedgerSides.{entriesOf, heldAt, Kept, kept-as, kept-more, none-on, step-spends, reset-spends, new-below, old-below, done-kept}
+use Rattle.session_laws.proofs.LedgerBooks.{books-as, books-more, books-loads}
+use Rattle.session_laws.proofs.LedgerSides.{entriesOf, heldAt, Kept, kept-as, kept-more, none-on, step-spends, reset-spends, new-below, old-below, done-kept}
 
 -- ---- one thing and then another
 
@@ -70,17 +70,17 @@ loaded-kept (suc (suc x)) side s t i p q z c = absurd (omega arith)
 -- ---- other worlds with the same buffers
 
 -- the buffers of v and w are the same
-pub record Alike (v w : ClientWorldSimulations) : Type 0 where
+pub record SameBuffers (v w : ClientWorldSimulations) : Type 0 where
   pub left : v .left ≡ w .left
   pub right : v .right ≡ w .right
   pub base : v .base ≡ w .base
 
-pub alike-then : {u v w : ClientWorldSimulations} → Alike u v → Alike v w → Alike u w
-alike-then e d = record { left = e .left ∙ d .left; right = e .right ∙ d .right; base = e .base ∙ d .base }
+pub same-buffers-then : {u v w : ClientWorldSimulations} → SameBuffers u v → SameBuffers v w → SameBuffers u w
+same-buffers-then e d = record { left = e .left ∙ d .left; right = e .right ∙ d .right; base = e .base ∙ d .base }
 
-pub alike-kept : {x h n k : ℕ} (s : Scene) (w : ClientWorldSimulations) → Alike (s .worlds) w → Kept x h n k s → Kept x h n k (withWorlds s w)
+pub same-buffers-kept : {x h n k : ℕ} (s : Scene) (w : ClientWorldSimulations) → SameBuffers (s .worlds) w → Kept x h n k s → Kept x h n k (withWorlds s w)
 unfolding ledgerOf worldOf
-alike-kept {x} s w e c =
+same-buffers-kept {x} s w e c =
     let d : heldAt x (s .worlds) ≡ heldAt x w = λ i. entriesOf (cond (eqb x 0) (e .left i) (e .right i)) in
     record { books = books-as refl d (c .books); base = omega (arith, c .base, ap (λ (b : CommandBuffer). length (held b)) (e .base)) }
 
@@ -93,17 +93,17 @@ record Shows (s : Scene) (p : Played) : Type 0 where
 shows-none : (s : Scene) → Shows s (publishedNone s)
 unfolding publishedNone
 shows-none s =
-    record { kept = λ x h n k c. kept-as (omega (arith, commands-on-none x [], none-on x)) (alike-kept s _ (record { left = refl; right = refl; base = refl }) c) }
+    record { kept = λ x h n k c. kept-as (omega (arith, commands-on-none x [], none-on x)) (same-buffers-kept s _ (record { left = refl; right = refl; base = refl }) c) }
 
 shows-side : (s : Scene) (side : ℕ) → Shows s (publishedSide s side)
 unfolding publishedSide
 shows-side s side =
-    record { kept = λ x h n k c. kept-as (omega (arith, commands-on-publish x [] side, none-on x)) (alike-kept s _ (record { left = refl; right = refl; base = refl }) c) }
+    record { kept = λ x h n k c. kept-as (omega (arith, commands-on-publish x [] side, none-on x)) (same-buffers-kept s _ (record { left = refl; right = refl; base = refl }) c) }
 
 shows-mix : (s : Scene) (t : Float) → Shows s (publishedMix s t)
 unfolding publishedMix
 shows-mix s t =
-    record { kept = λ x h n k c. kept-as (omega (arith, commands-on-mix x t)) (alike-kept s _ (record { left = refl; right = refl; base = refl }) c) }
+    record { kept = λ x h n k c. kept-as (omega (arith, commands-on-mix x t)) (same-buffers-kept s _ (record { left = refl; right = refl; base = refl }) c) }
 
 shows-pick : (b : Bool) (s : Scene) (p q : Played) → Shows s p → Shows s q → Shows s (cond b p q)
 shows-pick true s p q h k = h
@@ -152,7 +152,7 @@ module _ (x h : ℕ) (below : x < 2) where
 
   blended-kept : {n k : ℕ} (s : Scene) (p : Float) → Kept x h n k s → Kept x h n k (blendedOn s p)
   unfolding blendedOn
-  blended-kept s p c = alike-kept s _ (record { left = refl; right = refl; base = refl }) c
+  blended-kept s p c = same-buffers-kept s _ (record { left = refl; right = refl; base = refl }) c
 
   -- what a frame begins with
   pub opened-kept : {n k : ℕ} (r : ReconciliationStatus) (q : Queued) (p : Float) (s : Scene) → n + 64 < 2 ^ 64 → Kept x h n k s → Kept x h (n + 64) (k + commandsOn x (openedOf r q p s .words)) (openedOf r q p s .scene)

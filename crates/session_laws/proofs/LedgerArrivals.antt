@@ -11,13 +11,13 @@ use Rattle.command.specs.declared.Outcome.the-variants.{Taken, OutOfRange, Full
 use Rattle.command.specs.Buffer.{held, insertedOf, takenBy}
 use Rattle.command.proofs.Ledger.{inserted-ledger, inserted-few}
 use Rattle.simulation.specs.World.{scheduledOf}
 use Rattle.client.specs.declared.ClientWorldSimulations.{ClientWorldSimulations}
 use Rattle.client.specs.declared.Scene.{Scene}
 use Rattle.client.specs.Sides.{newSideOf, oldSideOf, worldOf, withWorld, ledgerOf, withLedger}
 use Rattle.client.specs.Receive.{offeredBase, offeredSide, receivedOf, notesOf}
-use Rattle.client.proofs.LedgerBooks.{books-more, books-takes}
-use Rattle.client.proofs.LedgerSides.{Kept, kept-more, new-below, old-below}
-use Rattle.client.proofs.LedgerFrames.{Alike}
+use Rattle.session_laws.proofs.LedgerBooks.{books-more, books-takes}
+use Rattle.session_laws.proofs.LedgerSides.{Kept, kept-more, new-below, old-below}
+use Rattle.session_laws.proofs.LedgerFrames.{SameBuffers}
 
 -- an insertion takes one or none
 taken-one : (o : Outcome) → takenBy o ≤ 1
@@ -55,6 +55,6 @@ received-kept x s e p z c =
     (offered-kept x (newSideOf (s .worlds)) t e p (new-below (s .worlds)) (omega arith) (offered-kept x (oldSideOf (s .worlds)) r e p (old-below (s .worlds)) (omega arith) (base-kept s e c)))
 
 -- a snapshot arrives: the buffers stay
-pub notes-alike : (w : ClientWorldSimulations) (t : Timestamp) (i : ℕ) → Alike w (notesOf w t i)
+pub notes-alike : (w : ClientWorldSimulations) (t : Timestamp) (i : ℕ) → SameBuffers w (notesOf w t i)
 unfolding notesOf
 notes-alike w t i = record { left = refl; right = refl; base = refl }

@@ -20,16 +20,16 @@ use Rattle.client.specs.declared.ClientWorldSimulations.{ClientWorldSimulations
 use Rattle.client.specs.declared.Scene.{Scene}
 use Rattle.client.specs.declared.Received.{Received}
 use Rattle.client.specs.Receive.{receivedOf}
-use Rattle.client.proofs.TraceFrames.{QueuedFits, Fitting}
-use Rattle.client.proofs.TraceArrivals.{Alike, alike-self, alike-then, alike-fitting, Offers, offers-self, offers-then, offers, notes-alike, notes-fit}
+use Rattle.session_laws.proofs.TraceFrames.{QueuedFits, Fitting}
+use Rattle.session_laws.proofs.TraceArrivals.{Alike, alike-self, alike-then, alike-fitting, Offers, offers-self, offers-then, offers, notes-alike, notes-fit}
 use Rattle.session.specs.declared.Stage.{Stage}
 use Rattle.session.specs.declared.Stage.the-variants.{SyncingClock, SyncingInitialState, Ready}
 use Rattle.session.specs.declared.Session.{Session}
 use Rattle.session.specs.declared.IssueAnswer.{IssueAnswer}
 use Rattle.session.specs.Sound.{soundOf, connectedOf, worldsSound, overshootSound}
 use Rattle.session.specs.Passes.{receiveOne, receivedIn, noteOne, notedIn}
 use Rattle.session.specs.Calls.{sceneOf, sceneAfter}
 use Rattle.session.specs.Issue.{unissued, entryOf, issuedBy, issuedOf, issueBy, issueOf}
 
 -- ---- the settings of a sound session
 

@@ -14,10 +14,10 @@ use Rattle.command.proofs.Ledger.{moved-ledger, drained-ledger, emptied-held}
 use Rattle.command.proofs.Applying.{words-counted, words-other-side}
 use Rattle.simulation.specs.declared.Simulation.{Simulation}
 use Rattle.simulation.specs.World.{Done, nextStamp, stepOf, resetOf, flushedOf, keptOf, resetsBack}
 use Rattle.client.specs.declared.ClientWorldSimulations.{ClientWorldSimulations}
 use Rattle.client.specs.declared.Scene.{Scene}
 use Rattle.client.specs.Sides.{newSideOf, oldSideOf, worldOf, withWorld, ledgerOf, withLedger, still, doneAt, putOf}
-use Rattle.client.proofs.LedgerBooks.{Books, books-as, books-applies, books-more}
+use Rattle.session_laws.proofs.LedgerBooks.{Books, books-as, books-applies, books-more}
 
 -- how many entries a world holds
 abbrev pub entriesOf : Simulation → ℕ

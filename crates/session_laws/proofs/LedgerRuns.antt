@@ -13,11 +13,11 @@ use Rattle.client.specs.declared.Scene.{Scene}
 use Rattle.client.specs.Sides.{oldStampOf, Played}
 use Rattle.client.specs.Frame.{frameOf, frameStops}
 use Rattle.client.specs.Skip.{skippedOf, tweenOf, weightOk}
-use Rattle.client.proofs.LedgerSides.{Kept, kept-as, kept-more}
-use Rattle.client.proofs.LedgerFrames.{still-kept, then-kept, frame-kept, skipped-kept, post-kept}
+use Rattle.session_laws.proofs.LedgerSides.{Kept, kept-as, kept-more}
+use Rattle.session_laws.proofs.LedgerFrames.{still-kept, then-kept, frame-kept, skipped-kept, post-kept}
 use Rattle.fixed_timestepper.specs.declared.Stop.{Stop}
 use Rattle.fixed_timestepper.specs.declared.Stop.the-variants.{Done, TooManyFrames, StatusStops, WeightStops}
 use Rattle.fixed_timestepper.specs.TimeKeeper.{nought, Run, ended, framed, goesOn, whileBelow, runOf, correctedOf, skipsOf, skipped, maybeSkipped, finishedOf, concluded, compensatedOf, advancedOf, updatedOf}
 
 -- the books of the side x after a run, with k command words of x before it
 abbrev pub KeptBy : (x h n k : ℕ) → Run → Type 0

@@ -12,16 +12,17 @@ use Rattle.command.specs.Buffer.{takenBy}
 use Rattle.command.proofs.Ledger.{inserted-stamp}
 use Rattle.simulation.specs.declared.Simulation.{Simulation}
 use Rattle.simulation.specs.World.{Done, scheduledOf, resetOf}
 use Rattle.client.specs.declared.Snapshots.{Snapshots}
 use Rattle.client.specs.declared.ClientWorldSimulations.{ClientWorldSimulations}
 use Rattle.client.specs.declared.Ledger.{Ledger}
 use Rattle.client.specs.declared.Scene.{Scene}
 use Rattle.client.specs.Sides.{newSideOf, oldSideOf, worldOf, withWorld, withWorlds, withLedger, ledgerOf, takes, stampOf, oldStampOf, newStampOf, Played, still, andThen, doneAt}
 use Rattle.client.specs.Receive.{offeredBase, offeredSide, receivedOf, fromFutureOf, freshOf, snapshotsBy, snapshotsOf, notesOf}
 use Rattle.client.specs.Skip.{resetSide, resetAlong, skipsBack, emptiedBase, resetBoth, skippedOf, postUpdateOf}
-use Rattle.client.proofs.TraceStamps.{lagOf, Restamped, put-at-old, put-at-new, ledger-keeps, done-worlds, done-steps, done-words, reset-stamp, reset-marks}
-use Rattle.client.proofs.TraceSteps.{lagIn, then-scene, then-marks}
-use Rattle.client.proofs.TraceFrames.{QueuedFits, Fitting}
+use Rattle.session_laws.proofs.SoundWorlds.{done-worlds, reset-stamp}
+use Rattle.session_laws.proofs.TraceStamps.{lagOf, Restamped, put-at-old, put-at-new, ledger-keeps, done-steps, done-words, reset-marks}
+use Rattle.session_laws.proofs.TraceSteps.{lagIn, then-scene, then-marks}
+use Rattle.session_laws.proofs.TraceFrames.{QueuedFits, Fitting}
 
 -- two pairs of worlds with the same sides, stamps and weight
 pub record Alike (v w : ClientWorldSimulations) : Type 0 where

@@ -16,18 +16,19 @@ use Rattle.command.specs.Buffer.{restOf}
 use Rattle.command.proofs.Ledger.{moved-stamp}
 use Rattle.simulation.specs.declared.Simulation.{Simulation}
 use Rattle.simulation.specs.World.{resetOf, loadOf}
 use Rattle.client.specs.declared.FastforwardingHealth.the-variants.{Healthy, Obsolete, Overshot}
 use Rattle.client.specs.declared.ReconciliationStatus.{ReconciliationStatus}
 use Rattle.client.specs.declared.ReconciliationStatus.the-variants.{AwaitingSnapshot, Fastforwarding, Blending}
 use Rattle.client.specs.declared.Queued.{Queued}
 use Rattle.client.specs.declared.Queued.the-variants.{Nothing, Held}
 use Rattle.client.specs.declared.ClientWorldSimulations.{ClientWorldSimulations}
 use Rattle.client.specs.declared.Scene.{Scene}
 use Rattle.client.specs.Sides.{newSideOf, oldSideOf, worldOf, withWorld, withWorlds, stampOf, oldStampOf, newStampOf, Played, still, andThen, doneAt}
 use Rattle.client.specs.Status.{statusBy, statusOf, overshotOf, newerOf}
 use Rattle.client.specs.Frame.{loadsOf, readiedWith, loadedAt, loadedOf, loadedQueued, blendedOn, resetNew, openedOf, snapshotOf, openOf, shownOf, blendedBy, frameOf}
-use Rattle.client.proofs.TraceStamps.{lagOf, nextOf, next-is, next-below, lag-far, later-tells, Restamped, put-at-new, ledger-keeps, done-worlds, done-steps, done-words, reset-stamp, reset-marks}
-use Rattle.client.proofs.TraceSteps.{lagIn, then-scene, then-marks, Simulates, shown}
+use Rattle.session_laws.proofs.SoundWorlds.{done-worlds, reset-stamp}
+use Rattle.session_laws.proofs.TraceStamps.{lagOf, nextOf, next-is, next-below, lag-far, later-tells, Restamped, put-at-new, ledger-keeps, done-steps, done-words, reset-marks}
+use Rattle.session_laws.proofs.TraceSteps.{lagIn, then-scene, then-marks, Simulates, shown}
 
 -- a queued snapshot's stamp has 16 bits
 abbrev pub QueuedFits : Queued → Type 0

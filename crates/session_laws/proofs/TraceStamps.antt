@@ -11,17 +11,16 @@ use Rattle.timestamp.specs.declared.Timestamp.{Timestamp}
 use Rattle.timestamp.specs.Timestamps.{sumOf, differenceOf, signedOf, signOf, orderOf}
 use Rattle.tape.specs.Words.{stepWord, countIf, stepsOn}
 use Rattle.tape.proofs.Counting.{steps-on-append, steps-on-step}
-use Rattle.command.specs.Buffer.{held, movedOf, takenOf, restOf, commandWords}
-use Rattle.command.proofs.Ledger.{moved-stamp, emptied-stamp}
+use Rattle.command.specs.Buffer.{held, movedOf, takenOf, commandWords}
 use Rattle.command.proofs.Applying.{words-no-step-on}
 use Rattle.simulation.specs.declared.Simulation.{Simulation}
 use Rattle.simulation.specs.World.{Done, nextStamp, stepOf, resetOf, resetsBack, flushedOf, keptOf, isLess}
 use Rattle.client.specs.declared.ClientWorldSimulations.{ClientWorldSimulations}
 use Rattle.client.specs.declared.Ledger.{Ledger}
 use Rattle.client.specs.declared.Scene.{Scene}
 use Rattle.client.specs.Sides.{newSideOf, oldSideOf, worldOf, withWorld, stampOf, oldStampOf, newStampOf, withLedger, withWorlds, putOf, doneAt}
 use Rattle.client.specs.Status.{laterOf, isGreater}
 use Rattle.client.specs.Frame.{caughtUpOf}
 
 -- ---- how far one stamp is behind another
 
@@ -157,11 +156,7 @@ ledger-by false s x l e = (simp e, simp e)
 pub ledger-keeps : (s : Scene) (x : ℕ) (l : Ledger) → (withLedger s x l .worlds ≡ s .worlds) × (withLedger s x l .steps ≡ s .steps)
 ledger-keeps s x l = ledger-by (eqb x 0) s x l refl
 
--- what is done to the world of a side
-pub done-worlds : (s : Scene) (x : ℕ) (d : Done) → doneAt s x d .scene .worlds ≡ withWorld (s .worlds) x (d .world)
-unfolding doneAt putOf
-done-worlds s x d = ledger-keeps (withWorlds s (withWorld (s .worlds) x (d .world))) x _ .0
-
+-- what is done to the world of a side leaves the steps
 pub done-steps : (s : Scene) (x : ℕ) (d : Done) → doneAt s x d .scene .steps ≡ s .steps
 unfolding doneAt putOf
 done-steps s x d = ledger-keeps (withWorlds s (withWorld (s .worlds) x (d .world))) x _ .1
@@ -172,11 +167,6 @@ done-words s x d = refl
 
 -- ---- one world
 
--- a step moves the stamp on by one
-pub step-stamp : (w : Simulation) (x : ℕ) → stampOf (stepOf w x .world) ≡ nextStamp (stampOf w)
-unfolding stepOf
-step-stamp w x = moved-stamp (restOf (w .commands) (nextStamp (w .commands .timestamp))) (nextStamp (w .commands .timestamp))
-
 -- a step has one step word, of its side
 pub step-marks : (y : ℕ) (w : Simulation) (x : ℕ) → stepsOn y (stepOf w x .words) ≡ countIf (eqb (x % 2) y)
 unfolding stepOf stepsOn
@@ -184,16 +174,7 @@ step-marks y w x =
     let t = takenOf (w .commands) (nextStamp (w .commands .timestamp)) in
     omega (arith, steps-on-append y (commandWords x t) (stepWord x ∷ []), words-no-step-on x y t, steps-on-step y [] x)
 
--- a reset sets the stamp
-pub reset-stamp : (w : Simulation) (t : Timestamp) (x : ℕ) → stampOf (resetOf w t x .world) ≡ t
-unfolding resetOf
-reset-stamp w t x = go (resetsBack t (w .commands .timestamp))
-  where
-    go : (b : Bool) → stampOf (cond b (flushedOf w t x) (keptOf w t) .world) ≡ t
-    go true = emptied-stamp (movedOf (w .commands) t .buffer) ∙ moved-stamp (w .commands) t
-    go false = moved-stamp (w .commands) t
-
--- and has no step word
+-- a reset has no step word
 pub reset-marks : (y : ℕ) (w : Simulation) (t : Timestamp) (x : ℕ) → stepsOn y (resetOf w t x .words) ≡ 0
 unfolding resetOf stepsOn
 reset-marks y w t x = go (resetsBack t (w .commands .timestamp))

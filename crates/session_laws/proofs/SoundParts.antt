@@ -41,13 +41,13 @@ use Rattle.client.specs.declared.Queued.the-variants.{Nothing, Held}
 use Rattle.client.specs.declared.ClientWorldSimulations.{ClientWorldSimulations}
 use Rattle.client.specs.declared.Received.{Received}
 use Rattle.client.specs.Sides.{newSideOf, oldSideOf, worldOf, oldStampOf, newStampOf}
-use Rattle.client.proofs.SoundWorlds.{SmallQueued, InitOrder, Kept, Weighed, is-nought, is-even, received-kept, received-weighed, noted-kept, noted-weighed}
-use Rattle.client.proofs.SoundFrames.{weighed-unit}
-use Rattle.fixed_timestepper.proofs.SoundRuns.{InStep}
+use Rattle.session_laws.proofs.SoundWorlds.{SmallQueued, InitOrder, Kept, Weighed, is-nought, is-even, received-kept, received-weighed, noted-kept, noted-weighed}
+use Rattle.session_laws.proofs.SoundFrames.{weighed-unit}
+use Rattle.session_laws.proofs.SoundRuns.{InStep}
 use Rattle.session.specs.declared.Session.{Session}
 use Rattle.session.specs.Sound.{queuedSound, weightSound, initSound, buffersSound, worldsSound, overshootSound, connectedOf, soundOf}
 use Rattle.session.specs.Passes.{hearOne, heardIn, receiveOne, receivedIn, noteOne, notedIn}
 use Rattle.session.specs.Calls.{timesOk, clockAfter, serverTimeBy, sceneAfter, sceneOf}
 
 both : {a b : Bool} → a ≡ true → b ≡ true → a && b ≡ true
 both p q = rw (p, q)

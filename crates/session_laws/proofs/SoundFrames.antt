@@ -20,20 +20,20 @@ use Rattle.timestamp.proofs.Order.{order-equal, order-less}
 use Rattle.command.specs.Buffer.{emptiedOf}
 use Rattle.command.proofs.Soundness.{moved-sound, emptied-sound}
 use Rattle.simulation.specs.World.{nextStamp, stepOf, resetOf, isLess}
 use Rattle.client.specs.declared.FastforwardingHealth.the-variants.{Healthy, Obsolete, Overshot}
 use Rattle.client.specs.declared.ReconciliationStatus.{ReconciliationStatus}
 use Rattle.client.specs.declared.ReconciliationStatus.the-variants.{AwaitingSnapshot, Fastforwarding, Blending}
 use Rattle.client.specs.declared.Queued.{Queued}
 use Rattle.client.specs.declared.Queued.the-variants.{Nothing, Held}
 use Rattle.client.specs.declared.Published.{Published}
 use Rattle.client.specs.declared.ClientWorldSimulations.{ClientWorldSimulations}
 use Rattle.client.specs.declared.Scene.{Scene}
 use Rattle.client.specs.Sides.{newSideOf, oldSideOf, worldOf, withPublished, oldStampOf, newStampOf, Played, still, andThen, doneAt}
 use Rattle.client.specs.Status.{statusBy, statusOf, overshotOf, newerOf}
 use Rattle.client.specs.Publish.{publishedNone, publishedSide, publishedMix, publishedOld, nearOne, publishedBoth, publishedBlended}
 use Rattle.client.specs.Frame.{loadedQueued, clamped, blendedOn, resetNew, openedOf, steppedSide, caughtUpOf, steppedNew, unless, caughtOf, simulatedOf, blendedBy, publishedBy, shownOf, snapshotOf, openOf, frameOf}
 use Rattle.client.specs.Skip.{resetSide, resetAlong, skipsBack, emptiedBase, resetBoth, skippedOf, postUpdateOf}
-use Rattle.client.proofs.SoundWorlds.{Kept, Weighed, is-nought, is-even, side-sound, old-at-old, new-at-old, new-at-new, old-at-new, put-old-side, weighed-as, base-kept, base-weighed, published-kept, published-weighed, weight-kept, weight-weighed, done-worlds, done-kept, done-weight, step-init, step-sound, step-stamp, reset-init, reset-sound, reset-stamp, loaded-kept, loaded-weighed}
+use Rattle.session_laws.proofs.SoundWorlds.{Kept, Weighed, is-nought, is-even, side-sound, old-at-old, new-at-old, new-at-new, old-at-new, put-old-side, weighed-as, base-kept, base-weighed, published-kept, published-weighed, weight-kept, weight-weighed, done-worlds, done-kept, done-weight, step-init, step-sound, step-stamp, reset-init, reset-sound, reset-stamp, loaded-kept, loaded-weighed}
 
 -- ---- the buffers, the queued snapshot and the initialisation
 

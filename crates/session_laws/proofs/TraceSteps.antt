@@ -12,14 +12,15 @@ use Rattle.timestamp.specs.declared.Timestamp.{Timestamp}
 use Rattle.tape.specs.Words.{countIf, stepsOn, publishWord, noneWord, mixWords}
 use Rattle.tape.proofs.Counting.{steps-on-append, steps-on-publish, steps-on-none, steps-on-mix}
 use Rattle.simulation.specs.World.{nextStamp, stepOf}
 use Rattle.client.specs.declared.ClientWorldSimulations.{ClientWorldSimulations}
 use Rattle.client.specs.declared.LastStamp.{LastStamp}
 use Rattle.client.specs.declared.LastStamp.the-variants.{Never, Last}
 use Rattle.client.specs.declared.Scene.{Scene}
 use Rattle.client.specs.Sides.{newSideOf, oldSideOf, worldOf, withWorld, stampOf, oldStampOf, newStampOf, Played, still, andThen}
 use Rattle.client.specs.Publish.{withState, publishedNone, publishedSide, publishedMix, publishedOld, publishedBoth, publishedBlended, nearOne}
 use Rattle.client.specs.Frame.{caughtUpOf, steppedSide, steppedNew, unless, caughtOf, simulatedOf, publishedBy, shownOf}
-use Rattle.client.proofs.TraceStamps.{lagOf, nextOf, next-is, next-below, lag-none, lag-step, lag-next, reached-is, sides-apart, Restamped, put-at-old, put-at-new, done-worlds, done-steps, done-words, step-stamp, step-marks}
+use Rattle.session_laws.proofs.SoundWorlds.{done-worlds, step-stamp}
+use Rattle.session_laws.proofs.TraceStamps.{lagOf, nextOf, next-is, next-below, lag-none, lag-step, lag-next, reached-is, sides-apart, Restamped, put-at-old, put-at-new, done-steps, done-words, step-marks}
 
 -- how far the new world of a pair is behind
 abbrev pub lagIn : ClientWorldSimulations → ℕ

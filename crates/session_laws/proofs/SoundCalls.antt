@@ -27,20 +27,20 @@ use Rattle.clocksync.proofs.Ready.{hasOffset}
 use Rattle.client.specs.declared.DisplayTime.{DisplayTime}
 use Rattle.client.specs.declared.DisplayTime.the-variants.{NotDisplayed, DisplayedAt}
 use Rattle.client.specs.Receive.{receivedOf}
-use Rattle.client.proofs.SoundWorlds.{new-kept, new-weighed, received-kept, received-weighed}
+use Rattle.session_laws.proofs.SoundWorlds.{new-kept, new-weighed, received-kept, received-weighed}
 use Rattle.fixed_timestepper.specs.declared.Stop.{Stop}
 use Rattle.fixed_timestepper.specs.declared.Stop.the-variants.{Done, TooManyFrames, StatusStops, WeightStops}
 use Rattle.fixed_timestepper.specs.TimeKeeper.{Run, updatedOf}
-use Rattle.fixed_timestepper.proofs.SoundRuns.{InStep, updated-kept, updated-weighed, updated-overshoot}
+use Rattle.session_laws.proofs.SoundRuns.{InStep, updated-kept, updated-weighed, updated-overshoot}
 use Rattle.session.specs.declared.Stage.{Stage}
 use Rattle.session.specs.declared.Stage.the-variants.{SyncingClock, SyncingInitialState, Ready}
 use Rattle.session.specs.declared.Session.{Session}
 use Rattle.session.specs.declared.IssueAnswer.{IssueAnswer}
 use Rattle.session.specs.Sound.{noOffset, connectedOf, soundOf}
 use Rattle.session.specs.Passes.{hasForWorlds, heardIn, receivedIn}
 use Rattle.session.specs.Calls.{startOf, openOf, timesOk, refusedAtOnce, Answer, refusedWith, withClock, startedAt, syncedOf, clockAfter, clockUpdateOf, sceneOf, stageAfter, acceptedOf, concludedOf, serverTimeBy, sceneAfter, playedOf, worldsUpdateOf, updateBy, updateOf}
 use Rattle.session.specs.Issue.{unissued, withWorldsOf, entryOf, issuedBy, issuedOf, issueBy, issueOf}
-use Rattle.session.proofs.SoundParts.{sound-facts, facts-sound, FloatsFit, times-within, clock-after-sound, clock-after-timer, clock-after-slots, clock-after-ready, clock-after-first, server-within, scene-after-kept, scene-after-weighed}
+use Rattle.session_laws.proofs.SoundParts.{sound-facts, facts-sound, FloatsFit, times-within, clock-after-sound, clock-after-timer, clock-after-slots, clock-after-ready, clock-after-first, server-within, scene-after-kept, scene-after-weighed}
 
 -- ---- open
 

@@ -23,12 +23,12 @@ use Rattle.client.specs.declared.Scene.{Scene}
 use Rattle.client.specs.Sides.{oldStampOf, withWorlds, Played, andThen}
 use Rattle.client.specs.Frame.{frameOf, frameStops}
 use Rattle.client.specs.Skip.{skippedOf, tweenOf, weightOk, postUpdateOf}
-use Rattle.client.proofs.SoundWorlds.{Kept, Weighed}
-use Rattle.client.proofs.SoundFrames.{frame-kept, frame-weighed, skip-kept, skip-weighed, post-kept, post-weighed}
+use Rattle.session_laws.proofs.SoundWorlds.{Kept, Weighed}
+use Rattle.session_laws.proofs.SoundFrames.{frame-kept, frame-weighed, skip-kept, skip-weighed, post-kept, post-weighed}
 use Rattle.fixed_timestepper.specs.declared.Stop.{Stop}
 use Rattle.fixed_timestepper.specs.declared.Stop.the-variants.{Done, TooManyFrames, StatusStops, WeightStops}
 use Rattle.fixed_timestepper.specs.TimeKeeper.{nought, atLeastZero, driftOf, beyondDeadband, uncappedOf, compensatedOf, Run, ended, framed, goesOn, whileBelow, runOf, correctedOf, skipsOf, skipped, maybeSkipped, endsWith, finishedOf, concluded, advancedOf, updatedOf}
-use Rattle.fixed_timestepper.proofs.SoundSkips.{corrected-in}
+use Rattle.session_laws.proofs.SoundSkips.{corrected-in}
 
 -- ---- what settings that pass give
 

@@ -31,22 +31,22 @@ use Rattle.client.specs.declared.Scene.{Scene}
 use Rattle.client.specs.declared.Received.{Received}
 use Rattle.client.specs.Sides.{worldOf, ledgerOf, emptyLedger}
 use Rattle.client.specs.Receive.{receivedOf}
-use Rattle.client.proofs.LedgerBooks.{Books}
-use Rattle.client.proofs.LedgerSides.{heldAt, Kept, kept-more}
-use Rattle.client.proofs.LedgerFrames.{Alike, alike-then, alike-kept}
-use Rattle.client.proofs.LedgerArrivals.{received-kept, notes-alike}
+use Rattle.session_laws.proofs.LedgerBooks.{Books}
+use Rattle.session_laws.proofs.LedgerSides.{heldAt, Kept, kept-more}
+use Rattle.session_laws.proofs.LedgerFrames.{SameBuffers, same-buffers-then, same-buffers-kept}
+use Rattle.session_laws.proofs.LedgerArrivals.{received-kept, notes-alike}
 use Rattle.fixed_timestepper.specs.declared.Stop.{Stop}
 use Rattle.fixed_timestepper.specs.declared.Stop.the-variants.{Done, TooManyFrames, StatusStops, WeightStops}
 use Rattle.fixed_timestepper.specs.TimeKeeper.{Run, stopNumber}
-use Rattle.fixed_timestepper.proofs.LedgerRuns.{KeptBy, updated-kept}
+use Rattle.session_laws.proofs.LedgerRuns.{KeptBy, updated-kept}
 use Rattle.session.specs.declared.Stage.{Stage}
 use Rattle.session.specs.declared.Stage.the-variants.{SyncingClock, SyncingInitialState, Ready}
 use Rattle.session.specs.declared.Session.{Session}
 use Rattle.session.specs.declared.IssueAnswer.{IssueAnswer}
 use Rattle.session.specs.Sound.{soundOf, worldsSound, buffersSound, queuedSound, weightSound, initSound, connectedOf, overshootSound}
 use Rattle.session.specs.Passes.{receiveOne, receivedIn, noteOne, notedIn, heardIn}
 use Rattle.session.specs.Calls.{timesOk, refusedAtOnce, Reply, Answer, refusedWith, sceneOf, closedOf, stageAfter, acceptedOf, concludedOf, serverTimeBy, sceneAfter, clockAfter, playedOf, worldsUpdateOf, updateBy, updateOf}
 use Rattle.session.specs.Issue.{unissued, withWorldsOf, entryOf, issuedBy, issuedOf, issueBy, issueOf}
 
 -- ---- what a sound session holds
 
@@ -107,7 +107,7 @@ all-kept : {h n k : ℕ} (x : ℕ) (ms : List Message) (r : Received) → x < 2 
 all-kept x [] r p z c = kept-more (omega arith) c
 all-kept x (m ∷ ms) r p z c = kept-more (omega arith) (all-kept x ms (receiveOne r m) p (omega arith) (one-kept x r m p (omega arith) c))
 
-one-alike : (w : ClientWorldSimulations) (m : Message) → Alike w (noteOne w m)
+one-alike : (w : ClientWorldSimulations) (m : Message) → SameBuffers w (noteOne w m)
 one-alike w (Command t i) = record { left = refl; right = refl; base = refl }
 one-alike w (Snapshot t i) = notes-alike w t i
 one-alike w (Timed i t u) = record { left = refl; right = refl; base = refl }
@@ -115,11 +115,11 @@ one-alike w BadTime = record { left = refl; right = refl; base = refl }
 one-alike w WrongWord = record { left = refl; right = refl; base = refl }
 one-alike w CutShort = record { left = refl; right = refl; base = refl }
 
-all-alike : (ms : List Message) (w : ClientWorldSimulations) → Alike w (over noteOne w ms)
+all-alike : (ms : List Message) (w : ClientWorldSimulations) → SameBuffers w (over noteOne w ms)
 all-alike [] w = record { left = refl; right = refl; base = refl }
-all-alike (m ∷ ms) w = alike-then (one-alike w m) (all-alike ms (noteOne w m))
+all-alike (m ∷ ms) w = same-buffers-then (one-alike w m) (all-alike ms (noteOne w m))
 
-noted-alike : (inbox : List ℕ) (w : ClientWorldSimulations) → Alike w (notedIn inbox w)
+noted-alike : (inbox : List ℕ) (w : ClientWorldSimulations) → SameBuffers w (notedIn inbox w)
 unfolding notedIn
 noted-alike inbox w = all-alike (messagesOf inbox) w
 
@@ -133,7 +133,7 @@ commands-kept x inbox r p e c =
 after-kept : (x : ℕ) (s : Session) (inbox : List ℕ) → x < 2 → refusalOf inbox ≡ 0 → Filled (s .worlds) → Kept x (heldAt x (s .worlds)) 8256 0 (sceneAfter s inbox)
 after-kept x s inbox p e f =
     let r : Scene = receivedIn inbox (record { scene = sceneOf s; full = false }) .scene in
-    alike-kept r (notedIn inbox (r .worlds)) (noted-alike inbox (r .worlds)) (commands-kept x inbox (record { scene = sceneOf s; full = false }) p e (start-kept x s f))
+    same-buffers-kept r (notedIn inbox (r .worlds)) (noted-alike inbox (r .worlds)) (commands-kept x inbox (record { scene = sceneOf s; full = false }) p e (start-kept x s f))
 
 -- the frames of an update
 played-kept : (x : ℕ) (s : Session) (c : Clock) (delta seconds : Float) (inbox : List ℕ) → x < 2 → refusalOf inbox ≡ 0 → Filled (s .worlds) → KeptBy x (heldAt x (s .worlds)) 12416 0 (playedOf s c delta seconds inbox)

@@ -1,0 +1,17 @@
+pub mod SoundWorlds
+pub mod SoundFrames
+pub mod TraceStamps
+pub mod TraceSteps
+pub mod TraceFrames
+pub mod TraceArrivals
+pub mod LedgerBooks
+pub mod LedgerSides
+pub mod LedgerFrames
+pub mod LedgerArrivals
+pub mod SoundSkips
+pub mod SoundRuns
+pub mod LedgerRuns
+pub mod SoundParts
+pub mod SoundCalls
+pub mod TraceReading
+pub mod LedgerCalls
