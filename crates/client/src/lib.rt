@@ -1,13 +1,10 @@
-// The two worlds of a client and how they are reconciled with the server's snapshots: `ClientWorldSimulations` of src/client.rs of
-// crystalorb, and the publishing of src/world/display_state.rs. Everything goes in by value and comes back.
+// The two worlds of a client, their sides and ledgers, and the status of their reconciliation with the server's snapshots: what `ClientWorldSimulations` of
+// src/client.rs of crystalorb holds. What happens to them is in crates of its own: client_receive, client_frame, client_publish and client_skip. Everything goes in by
+// value and comes back.
 ghost use mathlib.Core.Path.{_≡_};
 ghost use Rattle.client.specs.Sides.{newWorldsOf};
 
-pub mod frame;
-pub mod publish;
-pub mod receive;
 pub mod sides;
-pub mod skip;
 pub mod status;
 
 use command::CommandBuffer;

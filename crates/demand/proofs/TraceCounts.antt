@@ -11,7 +11,7 @@ use Rattle.tape.proofs.Counting.{steps-on-append}
 use Rattle.settings.specs.declared.Settings.{Settings}
 use Rattle.settings.specs.Settings.{blendProgressOf}
 use Rattle.client.specs.declared.Scene.{Scene}
-use Rattle.client.specs.Skip.{skippedOf}
+use Rattle.client_skip.specs.Skip.{skippedOf}
 use Rattle.session_laws.proofs.TraceStamps.{sides-apart}
 use Rattle.session_laws.proofs.TraceFrames.{OneFrame, one-frame}
 use Rattle.session_laws.proofs.TraceArrivals.{one-skip}

@@ -10,8 +10,8 @@ use Rattle.client.specs.declared.Queued.{Queued}
 use Rattle.client.specs.declared.Queued.the-variants.{Nothing, Held}
 use Rattle.client.specs.declared.Scene.{Scene}
 use Rattle.client.specs.Sides.{oldStampOf, newStampOf}
-use Rattle.client.specs.Frame.{snapshotOf}
-use Rattle.client.specs.Skip.{skippedOf}
+use Rattle.client_frame.specs.Frame.{snapshotOf}
+use Rattle.client_skip.specs.Skip.{skippedOf}
 use Rattle.session_laws.proofs.TraceStamps.{lag-is}
 use Rattle.session_laws.proofs.TraceSteps.{lagIn}
 use Rattle.session_laws.proofs.TraceFrames.{gapBy}

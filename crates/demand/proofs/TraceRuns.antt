@@ -21,8 +21,8 @@ use Rattle.settings.specs.Tweening.{shapedOf}
 use Rattle.client.specs.declared.ClientWorldSimulations.{ClientWorldSimulations}
 use Rattle.client.specs.declared.Scene.{Scene}
 use Rattle.client.specs.Sides.{oldStampOf, withWorlds, Played, andThen}
-use Rattle.client.specs.Frame.{frameStops}
-use Rattle.client.specs.Skip.{skippedOf, tweenOf, weightOk, postUpdateOf}
+use Rattle.client_frame.specs.Frame.{frameStops}
+use Rattle.client_skip.specs.Skip.{skippedOf, tweenOf, weightOk, postUpdateOf}
 use Rattle.session_laws.proofs.TraceStamps.{lagOf, lag-is, lag-there, next-sum}
 use Rattle.session_laws.proofs.TraceSteps.{lagIn}
 use Rattle.session_laws.proofs.TraceFrames.{QueuedFits, Fitting, OneFrame}

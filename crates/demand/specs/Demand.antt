@@ -19,8 +19,8 @@ use Rattle.client.specs.declared.Queued.{Queued}
 use Rattle.client.specs.declared.Queued.the-variants.{Nothing, Held}
 use Rattle.client.specs.declared.Scene.{Scene}
 use Rattle.client.specs.Sides.{oldSideOf, newSideOf, worldOf, oldStampOf, newStampOf, Played}
-use Rattle.client.specs.Frame.{frameOf, openOf, snapshotOf}
-use Rattle.client.specs.Skip.{skippedOf}
+use Rattle.client_frame.specs.Frame.{frameOf, openOf, snapshotOf}
+use Rattle.client_skip.specs.Skip.{skippedOf}
 use Rattle.fixed_timestepper.specs.TimeKeeper.{Event, FrameFrom, SkipFrom}
 use Rattle.session.specs.declared.Session.{Session}
 use Rattle.session.specs.declared.Stage.{Stage}

@@ -15,7 +15,7 @@ use Rattle.settings.specs.Tweening.{shapedOf}
 use Rattle.client.specs.declared.Shown.{Shown}
 use Rattle.client.specs.declared.ClientWorldSimulations.{ClientWorldSimulations}
 use Rattle.client.specs.Sides.{oldStampOf, withWorlds, andThen, Plays}
-use Rattle.client.specs.Skip.{skippedOf, tweenOf, weightOk, postUpdateOf}
+use Rattle.client_skip.specs.Skip.{skippedOf, tweenOf, weightOk, postUpdateOf}
 use Rattle.fixed_timestepper.specs.declared.Stop.{Stop}
 use Rattle.fixed_timestepper.specs.declared.Stop.the-variants.{Done, WeightStops}
 use Rattle.fixed_timestepper.specs.declared.Advanced.{Advanced}

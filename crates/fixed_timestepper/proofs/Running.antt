@@ -13,8 +13,8 @@ use Rattle.settings.specs.Settings.{blendProgressOf}
 use Rattle.client.specs.declared.Scene.{Scene}
 use Rattle.client.specs.declared.Framed.{Framed}
 use Rattle.client.specs.Sides.{Played}
-use Rattle.client.specs.Frame.{frameOf, frameStops, Frames}
-use Rattle.client.proofs.Bounds.{Few, Short, frame-short}
+use Rattle.client_frame.specs.Frame.{frameOf, frameStops, Frames}
+use Rattle.client_frame.proofs.Bounds.{Few, Short, frame-short}
 use Rattle.fixed_timestepper.specs.declared.Stop.{Stop}
 use Rattle.fixed_timestepper.specs.declared.Stop.the-variants.{Done, TooManyFrames, StatusStops}
 use Rattle.fixed_timestepper.specs.declared.Advanced.{Advanced}

@@ -15,8 +15,8 @@ use Rattle.settings.specs.Settings.{blendProgressOf, lagFrameCountOf}
 use Rattle.settings.specs.Tweening.{shapedOf}
 use Rattle.client.specs.declared.Scene.{Scene}
 use Rattle.client.specs.Sides.{oldStampOf, withWorlds, Played, still, andThen}
-use Rattle.client.specs.Frame.{frameOf, frameStops}
-use Rattle.client.specs.Skip.{skippedOf, tweenOf, weightOk, postUpdateOf}
+use Rattle.client_frame.specs.Frame.{frameOf, frameStops}
+use Rattle.client_skip.specs.Skip.{skippedOf, tweenOf, weightOk, postUpdateOf}
 use Rattle.fixed_timestepper.specs.declared.Stop.{Stop}
 use Rattle.fixed_timestepper.specs.declared.Stop.the-variants.{Done, TooManyFrames, StatusStops, WeightStops}
 use Rattle.fixed_timestepper.specs.declared.Advanced.{Advanced}

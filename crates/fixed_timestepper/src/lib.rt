@@ -5,9 +5,7 @@ ghost use Prim.Native.Nat.{_≤_, _<_};
 ghost use Rattle.fixed_timestepper.specs.TimeKeeper.{absOf, atLeastZero, logicalOf, driftOf, beyondDeadband, compensatedOf, runOf, updatedOf, Advances};
 ghost use Rattle.fixed_timestepper.specs.Inner.{Skips, finishedBy};
 use client::Scene;
-use client::frame;
 use client::sides;
-use client::skip;
 use settings::Settings;
 use timestamp::FloatTimestamp;
 use timestamp::Timestamp;
@@ -118,7 +116,7 @@ pub fn advance(scene: Scene, overshoot: f64, settings: Settings, tape: &mut [u32
                 stop: Stop::TooManyFrames,
             };
         }
-        let f = frame::step(s, settings.m, progress, tape, p);
+        let f = client_frame::step(s, settings.m, progress, tape, p);
         let next = f.scene;
         s = next;
         p = f.at;
@@ -157,7 +155,7 @@ pub fn timeskip(a: Advanced, server: f64, settings: Settings, tape: &mut [u32]) 
         let overshoot = FloatTimestamp::from_timestamp(corrected)
             .sub(target)
             .as_seconds(t);
-        let r = skip::reset_last_completed_timestamp(scene, corrected, tape, a.at);
+        let r = client_skip::reset_last_completed_timestamp(scene, corrected, tape, a.at);
         let after = r.scene;
         let done = Stop::Done;
         return Advanced {
@@ -175,11 +173,11 @@ pub fn timeskip(a: Advanced, server: f64, settings: Settings, tape: &mut [u32]) 
 pub fn finished(a: Advanced, settings: Settings) -> Advanced
     ensures { λ r. ⌜ r ≡ finishedBy a settings ⌝ }
 {
-    let w = skip::tween_weight(a.overshoot, settings.timestep);
+    let w = client_skip::tween_weight(a.overshoot, settings.timestep);
     let scene = a.scene;
-    if skip::is_weight(w) {
+    if client_skip::is_weight(w) {
         let method = settings.method;
-        let v = skip::post_update(
+        let v = client_skip::post_update(
             scene.worlds,
             method.shape_interpolation_t(w),
             settings.lag_compensation_frame_count(),

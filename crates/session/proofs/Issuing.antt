@@ -9,7 +9,7 @@ use Rattle.timestamp.specs.Timestamps.{sumOf}
 use Rattle.client.specs.declared.Received.{Received}
 use Rattle.client.specs.declared.Scene.{Scene}
 use Rattle.client.specs.Sides.{oldStampOf}
-use Rattle.client.specs.Receive.{receivedOf}
+use Rattle.client_receive.specs.Receive.{receivedOf}
 use Rattle.session.specs.declared.Stage.{Stage}
 use Rattle.session.specs.declared.Session.{Session}
 use Rattle.session.specs.declared.IssueAnswer.{IssueAnswer}

@@ -13,7 +13,7 @@ use Rattle.inbox.proofs.Passes.{Passes, pass-end}
 use Rattle.clocksync.specs.declared.Heard.{Heard}
 use Rattle.client.specs.declared.Received.{Received}
 use Rattle.client.specs.declared.ClientWorldSimulations.{ClientWorldSimulations}
-use Rattle.client.specs.Receive.{alsoFull}
+use Rattle.client_receive.specs.Receive.{alsoFull}
 use Rattle.session.specs.Passes.{isForWorlds, metOne, hasForWorlds, hearOne, heardIn, receiveOne, receivedIn, noteOne, notedIn}
 
 -- a message that is no clock message is passed over

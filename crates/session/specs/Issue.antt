@@ -9,7 +9,7 @@ use Rattle.command.specs.declared.Entry.{Entry}
 use Rattle.client.specs.declared.ClientWorldSimulations.{ClientWorldSimulations}
 use Rattle.client.specs.declared.Received.{Received}
 use Rattle.client.specs.Sides.{emptyLedger, oldStampOf}
-use Rattle.client.specs.Receive.{receivedOf}
+use Rattle.client_receive.specs.Receive.{receivedOf}
 use Rattle.session.specs.declared.Stage.{Stage}
 use Rattle.session.specs.declared.Stage.the-variants.{SyncingClock, SyncingInitialState, Ready}
 use Rattle.session.specs.declared.Session.{Session}

@@ -12,7 +12,7 @@ use Rattle.clocksync.specs.declared.Heard.{Heard}
 use Rattle.clocksync.specs.Clock.{heardOf}
 use Rattle.client.specs.declared.Received.{Received}
 use Rattle.client.specs.declared.ClientWorldSimulations.{ClientWorldSimulations}
-use Rattle.client.specs.Receive.{receivedOf, alsoFull, notesOf}
+use Rattle.client_receive.specs.Receive.{receivedOf, alsoFull, notesOf}
 
 -- a message is a command or a snapshot
 abbrev pub isForWorlds : Message → Bool

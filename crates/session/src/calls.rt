@@ -21,7 +21,6 @@ use client::Ledger;
 use client::Received;
 use client::ReconciliationStatus;
 use client::Scene;
-use client::receive;
 use client::sides;
 use client::status;
 use clocksync::Clock;
@@ -393,7 +392,7 @@ pub fn issue_command(session: Session, handle: u32) -> IssueAnswer
 {
     let scene = scene_of(session);
     let stamp = sides::last_completed_timestamp(session.worlds).add(1);
-    let r = receive::receive_command(scene, Entry { stamp, handle });
+    let r = client_receive::receive_command(scene, Entry { stamp, handle });
     if r.full {
         return refuse_issue(23, session);
     }

@@ -3,7 +3,6 @@ ghost use mathlib.Core.Path.{_≡_};
 ghost use Rattle.session.specs.Passes.{metOne, hasForWorlds, hearOne, heardIn, receiveOne, receivedIn, noteOne, notedIn};
 use client::ClientWorldSimulations;
 use client::Received;
-use client::receive;
 use clocksync::Heard;
 use command::Entry;
 use inbox::Message;
@@ -79,7 +78,7 @@ pub fn receive_one(a: Received, m: Message) -> Received
     match m {
         Message::Command { stamp, handle } => {
             let was = a.scene;
-            let next = receive::receive_command(was, Entry { stamp, handle });
+            let next = client_receive::receive_command(was, Entry { stamp, handle });
             if a.full {
                 let scene = next.scene;
                 return Received { scene, full: true };
@@ -110,7 +109,7 @@ pub fn note_one(w: ClientWorldSimulations, m: Message) -> ClientWorldSimulations
     ensures { λ r. ⌜ r ≡ noteOne w m ⌝ }
 {
     match m {
-        Message::Snapshot { stamp, handle } => receive::receive_snapshot(w, stamp, handle),
+        Message::Snapshot { stamp, handle } => client_receive::receive_snapshot(w, stamp, handle),
         _ => w,
     }
 }

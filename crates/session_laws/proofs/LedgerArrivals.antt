@@ -14,7 +14,7 @@ use Rattle.simulation.specs.World.{scheduledOf}
 use Rattle.client.specs.declared.ClientWorldSimulations.{ClientWorldSimulations}
 use Rattle.client.specs.declared.Scene.{Scene}
 use Rattle.client.specs.Sides.{newSideOf, oldSideOf, worldOf, withWorld, ledgerOf, withLedger}
-use Rattle.client.specs.Receive.{offeredBase, offeredSide, receivedOf, notesOf}
+use Rattle.client_receive.specs.Receive.{offeredBase, offeredSide, receivedOf, notesOf}
 use Rattle.session_laws.proofs.LedgerBooks.{books-more, books-takes}
 use Rattle.session_laws.proofs.LedgerSides.{Kept, kept-more, new-below, old-below}
 use Rattle.session_laws.proofs.LedgerFrames.{SameBuffers}

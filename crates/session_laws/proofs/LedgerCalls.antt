@@ -30,7 +30,7 @@ use Rattle.client.specs.declared.Ledger.{Ledger}
 use Rattle.client.specs.declared.Scene.{Scene}
 use Rattle.client.specs.declared.Received.{Received}
 use Rattle.client.specs.Sides.{worldOf, ledgerOf, emptyLedger}
-use Rattle.client.specs.Receive.{receivedOf}
+use Rattle.client_receive.specs.Receive.{receivedOf}
 use Rattle.session_laws.proofs.LedgerBooks.{Books}
 use Rattle.session_laws.proofs.LedgerSides.{heldAt, Kept, kept-more}
 use Rattle.session_laws.proofs.LedgerFrames.{SameBuffers, same-buffers-then, same-buffers-kept}

@@ -24,9 +24,9 @@ use Rattle.client.specs.declared.ClientWorldSimulations.{ClientWorldSimulations
 use Rattle.client.specs.declared.Scene.{Scene}
 use Rattle.client.specs.Sides.{newSideOf, oldSideOf, worldOf, withWorld, withWorlds, ledgerOf, withLedger, oldStampOf, newStampOf, Played, still, andThen, doneAt}
 use Rattle.client.specs.Status.{statusOf}
-use Rattle.client.specs.Publish.{publishedNone, publishedSide, publishedMix, publishedOld, publishedBoth, publishedBlended, nearOne}
-use Rattle.client.specs.Frame.{loadedAt, loadedOf, loadedQueued, readiedWith, blendedOn, resetNew, openedOf, openOf, snapshotOf, steppedSide, withStep, steppedNew, unless, caughtUpOf, caughtOf, simulatedOf, publishedBy, shownOf, blendedBy, frameOf}
-use Rattle.client.specs.Skip.{resetSide, resetAlong, skipsBack, emptiedBase, resetBoth, skippedOf, postUpdateOf}
+use Rattle.client_publish.specs.Publish.{publishedNone, publishedSide, publishedMix, publishedOld, publishedBoth, publishedBlended, nearOne}
+use Rattle.client_frame.specs.Frame.{loadedAt, loadedOf, loadedQueued, readiedWith, blendedOn, resetNew, openedOf, openOf, snapshotOf, steppedSide, withStep, steppedNew, unless, caughtUpOf, caughtOf, simulatedOf, publishedBy, shownOf, blendedBy, frameOf}
+use Rattle.client_skip.specs.Skip.{resetSide, resetAlong, skipsBack, emptiedBase, resetBoth, skippedOf, postUpdateOf}
 use Rattle.session_laws.proofs.LedgerBooks.{books-as, books-more, books-loads}
 use Rattle.session_laws.proofs.LedgerSides.{entriesOf, heldAt, Kept, kept-as, kept-more, none-on, step-spends, reset-spends, new-below, old-below, done-kept}
 

@@ -11,8 +11,8 @@ use Rattle.settings.specs.Settings.{blendProgressOf, lagFrameCountOf}
 use Rattle.settings.specs.Tweening.{shapedOf}
 use Rattle.client.specs.declared.Scene.{Scene}
 use Rattle.client.specs.Sides.{oldStampOf, Played}
-use Rattle.client.specs.Frame.{frameOf, frameStops}
-use Rattle.client.specs.Skip.{skippedOf, tweenOf, weightOk}
+use Rattle.client_frame.specs.Frame.{frameOf, frameStops}
+use Rattle.client_skip.specs.Skip.{skippedOf, tweenOf, weightOk}
 use Rattle.session_laws.proofs.LedgerSides.{Kept, kept-as, kept-more}
 use Rattle.session_laws.proofs.LedgerFrames.{still-kept, then-kept, frame-kept, skipped-kept, post-kept}
 use Rattle.fixed_timestepper.specs.declared.Stop.{Stop}

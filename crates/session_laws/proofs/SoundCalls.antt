@@ -26,7 +26,7 @@ use Rattle.clocksync.proofs.Sound.{parts-of, new-sound}
 use Rattle.clocksync.proofs.Ready.{hasOffset}
 use Rattle.client.specs.declared.DisplayTime.{DisplayTime}
 use Rattle.client.specs.declared.DisplayTime.the-variants.{NotDisplayed, DisplayedAt}
-use Rattle.client.specs.Receive.{receivedOf}
+use Rattle.client_receive.specs.Receive.{receivedOf}
 use Rattle.session_laws.proofs.SoundWorlds.{new-kept, new-weighed, received-kept, received-weighed}
 use Rattle.fixed_timestepper.specs.declared.Stop.{Stop}
 use Rattle.fixed_timestepper.specs.declared.Stop.the-variants.{Done, TooManyFrames, StatusStops, WeightStops}

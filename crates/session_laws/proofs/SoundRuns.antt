@@ -21,8 +21,8 @@ use Rattle.settings.proofs.Limits.{timestep-within, blend-within, max-tests, st
 use Rattle.client.specs.declared.ClientWorldSimulations.{ClientWorldSimulations}
 use Rattle.client.specs.declared.Scene.{Scene}
 use Rattle.client.specs.Sides.{oldStampOf, withWorlds, Played, andThen}
-use Rattle.client.specs.Frame.{frameOf, frameStops}
-use Rattle.client.specs.Skip.{skippedOf, tweenOf, weightOk, postUpdateOf}
+use Rattle.client_frame.specs.Frame.{frameOf, frameStops}
+use Rattle.client_skip.specs.Skip.{skippedOf, tweenOf, weightOk, postUpdateOf}
 use Rattle.session_laws.proofs.SoundWorlds.{Kept, Weighed}
 use Rattle.session_laws.proofs.SoundFrames.{frame-kept, frame-weighed, skip-kept, skip-weighed, post-kept, post-weighed}
 use Rattle.fixed_timestepper.specs.declared.Stop.{Stop}

@@ -22,8 +22,8 @@ use Rattle.client.specs.declared.ClientWorldSimulations.{ClientWorldSimulations
 use Rattle.client.specs.declared.Ledger.{Ledger}
 use Rattle.client.specs.declared.Scene.{Scene}
 use Rattle.client.specs.Sides.{newSideOf, oldSideOf, worldOf, withWorld, withBase, withSnapshots, withWeight, withPublished, withWorlds, withLedger, stampOf, oldStampOf, newStampOf, newWorldsOf, putOf, doneAt}
-use Rattle.client.specs.Frame.{readiedWith, loadedAt, loadedOf}
-use Rattle.client.specs.Receive.{offeredBase, offeredSide, receivedOf, fromFutureOf, freshOf, snapshotsBy, snapshotsOf, notesOf}
+use Rattle.client_frame.specs.Frame.{readiedWith, loadedAt, loadedOf}
+use Rattle.client_receive.specs.Receive.{offeredBase, offeredSide, receivedOf, fromFutureOf, freshOf, snapshotsBy, snapshotsOf, notesOf}
 
 -- ---- what stays sound
 

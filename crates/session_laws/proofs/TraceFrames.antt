@@ -25,7 +25,7 @@ use Rattle.client.specs.declared.ClientWorldSimulations.{ClientWorldSimulations
 use Rattle.client.specs.declared.Scene.{Scene}
 use Rattle.client.specs.Sides.{newSideOf, oldSideOf, worldOf, withWorld, withWorlds, stampOf, oldStampOf, newStampOf, Played, still, andThen, doneAt}
 use Rattle.client.specs.Status.{statusBy, statusOf, overshotOf, newerOf}
-use Rattle.client.specs.Frame.{loadsOf, readiedWith, loadedAt, loadedOf, loadedQueued, blendedOn, resetNew, openedOf, snapshotOf, openOf, shownOf, blendedBy, frameOf}
+use Rattle.client_frame.specs.Frame.{loadsOf, readiedWith, loadedAt, loadedOf, loadedQueued, blendedOn, resetNew, openedOf, snapshotOf, openOf, shownOf, blendedBy, frameOf}
 use Rattle.session_laws.proofs.SoundWorlds.{done-worlds, reset-stamp}
 use Rattle.session_laws.proofs.TraceStamps.{lagOf, nextOf, next-is, next-below, lag-far, later-tells, Restamped, put-at-new, ledger-keeps, done-steps, done-words, reset-marks}
 use Rattle.session_laws.proofs.TraceSteps.{lagIn, then-scene, then-marks, Simulates, shown}

@@ -19,7 +19,7 @@ use Rattle.clocksync.specs.Clock.{soundClock}
 use Rattle.client.specs.declared.ClientWorldSimulations.{ClientWorldSimulations}
 use Rattle.client.specs.declared.Scene.{Scene}
 use Rattle.client.specs.declared.Received.{Received}
-use Rattle.client.specs.Receive.{receivedOf}
+use Rattle.client_receive.specs.Receive.{receivedOf}
 use Rattle.session_laws.proofs.TraceFrames.{QueuedFits, Fitting}
 use Rattle.session_laws.proofs.TraceArrivals.{Alike, alike-self, alike-then, alike-fitting, Offers, offers-self, offers-then, offers, notes-alike, notes-fit}
 use Rattle.session.specs.declared.Stage.{Stage}

@@ -20,7 +20,7 @@ use Rattle.client.specs.declared.Ledger.{Ledger}
 use Rattle.client.specs.declared.Scene.{Scene}
 use Rattle.client.specs.Sides.{newSideOf, oldSideOf, worldOf, withWorld, stampOf, oldStampOf, newStampOf, withLedger, withWorlds, putOf, doneAt}
 use Rattle.client.specs.Status.{laterOf, isGreater}
-use Rattle.client.specs.Frame.{caughtUpOf}
+use Rattle.client_frame.specs.Frame.{caughtUpOf}
 
 -- ---- how far one stamp is behind another
 

@@ -17,8 +17,8 @@ use Rattle.client.specs.declared.LastStamp.{LastStamp}
 use Rattle.client.specs.declared.LastStamp.the-variants.{Never, Last}
 use Rattle.client.specs.declared.Scene.{Scene}
 use Rattle.client.specs.Sides.{newSideOf, oldSideOf, worldOf, withWorld, stampOf, oldStampOf, newStampOf, Played, still, andThen}
-use Rattle.client.specs.Publish.{withState, publishedNone, publishedSide, publishedMix, publishedOld, publishedBoth, publishedBlended, nearOne}
-use Rattle.client.specs.Frame.{caughtUpOf, steppedSide, steppedNew, unless, caughtOf, simulatedOf, publishedBy, shownOf}
+use Rattle.client_publish.specs.Publish.{withState, publishedNone, publishedSide, publishedMix, publishedOld, publishedBoth, publishedBlended, nearOne}
+use Rattle.client_frame.specs.Frame.{caughtUpOf, steppedSide, steppedNew, unless, caughtOf, simulatedOf, publishedBy, shownOf}
 use Rattle.session_laws.proofs.SoundWorlds.{done-worlds, step-stamp}
 use Rattle.session_laws.proofs.TraceStamps.{lagOf, nextOf, next-is, next-below, lag-none, lag-step, lag-next, reached-is, sides-apart, Restamped, put-at-old, put-at-new, done-steps, done-words, step-marks}
 

@@ -1,7 +1,7 @@
 -- `new` meets its contract. Assumes nothing.
 use borrow.Author.Needs.{needs}
 use lib.Ieee.{ofBits}
-use Rattle.client.proofs.Arrivals.{new-is}
+use Rattle.client.proofs.Judging.{new-is}
 use Rattle.client.proofs.new.Statement.{statement}
 use Rattle.client.proofs.new.Tie as tie
 

@@ -5,7 +5,7 @@ use Prim.Native.Nat.{_-_}
 use mathlib.Core.Path.{refl}
 use lib.Ieee.{ofBits}
 use Rattle.command.proofs.Lists.{mapped-length}
-use Rattle.client.proofs.Bounds.{Few, few-slots}
+use Rattle.client_frame.proofs.Bounds.{Few, few-slots}
 use Rattle.fixed_timestepper.proofs.Running.{Running, running-start, running-full, running-done, running-stops, running-on, few-left, framed-as}
 use Rattle.fixed_timestepper.proofs.advance.Statement.{statement}
 use Rattle.fixed_timestepper.proofs.advance.Tie as tie

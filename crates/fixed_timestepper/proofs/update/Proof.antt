@@ -4,7 +4,7 @@ use native.Mathlib.Omega.{arith}
 use mathlib.Core.Path.{refl}
 use lib.Ieee.{binary64, sub}
 use Rattle.command.proofs.Lists.{mapped-length}
-use Rattle.client.proofs.Bounds.{Few, few-slots}
+use Rattle.client_frame.proofs.Bounds.{Few, few-slots}
 use Rattle.fixed_timestepper.specs.declared.Stop.the-variants.{TooManyFrames, StatusStops, WeightStops}
 use Rattle.fixed_timestepper.proofs.Running.{run-few}
 use Rattle.fixed_timestepper.proofs.Updating.{update-done, update-stopped}

@@ -3,7 +3,7 @@ use borrow.Author.Needs.{needs}
 use mathlib.Core.Path.{refl, sym, _∙_}
 use borrow.Author.Tests.{eq-eqb, ne-eqb}
 use lib.Ieee.{ofBits}
-use Rattle.client.proofs.Arrivals.{status-is}
+use Rattle.client.proofs.Judging.{status-is}
 use Rattle.client.proofs.status.infer_current_reconciliation_status.Statement.{statement}
 use Rattle.client.proofs.status.infer_current_reconciliation_status.Tie as tie
 

@@ -1,6 +1,6 @@
 -- `is_later` meets its contract: the order decides. Assumes nothing.
 use borrow.Author.Needs.{needs}
-use Rattle.client.proofs.Arrivals.{later-is}
+use Rattle.client.proofs.Judging.{later-is}
 use Rattle.client.proofs.status.is_later.Statement.{statement}
 use Rattle.client.proofs.status.is_later.Tie as tie
 

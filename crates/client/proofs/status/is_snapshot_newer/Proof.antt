@@ -1,6 +1,6 @@
 -- `is_snapshot_newer` meets its contract: a queued snapshot is compared. Assumes nothing.
 use borrow.Author.Needs.{needs}
-use Rattle.client.proofs.Arrivals.{newer-none, newer-held}
+use Rattle.client.proofs.Judging.{newer-none, newer-held}
 use Rattle.client.proofs.status.is_snapshot_newer.Statement.{statement}
 use Rattle.client.proofs.status.is_snapshot_newer.Tie as tie
 

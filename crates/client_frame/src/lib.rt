@@ -1,0 +1,379 @@
+// One frame (`step` of src/client.rs of crystalorb): what its status opens it with, a step of the old world, the catching up of the new one, and what is published.
+ghost use mathlib.Core.Path.{_≡_};
+ghost use Prim.Native.Nat.{_<_, _≤_};
+ghost use Rattle.client.specs.Sides.{Plays, oldStampOf};
+ghost use Rattle.client_frame.specs.Frame.{loadsOf, readiedWith, loadedOf, loadedQueued, clamped, blendedOn, resetNew, openedOf, steppedSide, caughtUpOf, steppedNew, caughtOf, simulatedOf, blendedBy, publishedBy, isObsolete, tooFarOf, stopsOf, shownOf, frameOf, frameStops, Frames};
+use client::ClientWorldSimulations;
+use client::FastforwardingHealth;
+use client::Framed;
+use client::Queued;
+use client::ReconciliationStatus;
+use client::Scene;
+use client::Shown;
+use client::Snapshots;
+use client::sides;
+use client::status;
+use command::CommandBuffer;
+use timestamp::Ordering;
+use timestamp::Timestamp;
+
+// The snapshot that a frame of this status loads.
+pub fn loads(t: ReconciliationStatus, q: Queued) -> Queued
+    ensures { λ r. ⌜ r ≡ loadsOf t q ⌝ }
+{
+    match t {
+        ReconciliationStatus::AwaitingSnapshot => q,
+        ReconciliationStatus::Blending(_) => Queued::Nothing,
+        ReconciliationStatus::Fastforwarding(h) => match h {
+            FastforwardingHealth::Healthy => Queued::Nothing,
+            FastforwardingHealth::Obsolete => q,
+            FastforwardingHealth::Overshot => Queued::Nothing,
+        },
+    }
+}
+
+// The worlds as a load into a side leaves them beside the world that it loads: that side new, nothing queued, the weight 0, and the
+// drained base.
+pub fn readied(w: ClientWorldSimulations, side: u32, base: CommandBuffer) -> ClientWorldSimulations
+    ensures { λ r. ⌜ r ≡ readiedWith w side base ⌝ }
+{
+    let s = w.snapshots;
+    let none = Queued::Nothing;
+    let last = s.lastqueued;
+    let received = s.lastreceived;
+    let next = Snapshots {
+        queued: none,
+        lastqueued: last,
+        lastreceived: received,
+    };
+    let mut t = w;
+    t.snapshots = next;
+    t.weight = 0.0;
+    t.new = side;
+    t.base = base;
+    t
+}
+
+// A snapshot is loaded into a side, which is the new one from then on. The base is drained up to it before it is copied.
+pub fn load_snapshot(
+    s: Scene,
+    side: u32,
+    stamp: Timestamp,
+    handle: u32,
+    tape: &mut [u32],
+    at: usize,
+) -> Shown
+    requires { ⌜ at < 3000000000 ⌝ }
+    ensures { λ r. ⌜ Plays (loadedOf s side stamp handle) (now (tape .entry)) at r (now (tape .exit)) ⌝ }
+{
+    let w = s.worlds;
+    let b = w.base;
+    let d = command::drain_up_to(b, stamp);
+    let base = d.buffer;
+    let r = simulation::apply_completed_snapshot(
+        sides::get_side(w, side),
+        base,
+        stamp,
+        handle,
+        side,
+        tape,
+        at,
+    );
+    let sim = r.world;
+    let v = readied(w, side, base);
+    let put = sides::set_side(v, side, sim);
+    let mut l = sides::get_ledger(s, side);
+    let copied = l.copied;
+    let replaced = l.replaced;
+    let leftout = l.leftout;
+    l.copied = std::num::wrapping_add_usize(copied, r.copied);
+    l.replaced = std::num::wrapping_add_usize(replaced, r.replaced);
+    l.leftout = std::num::wrapping_add_usize(leftout, r.leftout);
+    let mut t = s;
+    t.worlds = put;
+    Shown {
+        scene: sides::set_ledger(t, side, l),
+        at: r.at,
+    }
+}
+
+// The queued snapshot is loaded into a side, where there is one.
+pub fn load_queued(s: Scene, q: Queued, side: u32, tape: &mut [u32], at: usize) -> Shown
+    requires { ⌜ at < 3000000000 ⌝ }
+    ensures { λ r. ⌜ Plays (loadedQueued s q side) (now (tape .entry)) at r (now (tape .exit)) ⌝ }
+{
+    match q {
+        Queued::Nothing => Shown { scene: s, at },
+        Queued::Held { stamp, handle } => load_snapshot(s, side, stamp, handle, tape, at),
+    }
+}
+
+// A number brought into 0 to 1.
+pub fn clamp(x: f64) -> f64
+    ensures { λ r. ⌜ r ≡ clamped x ⌝ }
+{
+    if x < 0.0 {
+        return 0.0;
+    }
+    if x > 1.0 {
+        return 1.0;
+    }
+    x
+}
+
+// The weight moved on by one frame.
+pub fn blend_on(s: Scene, progress: f64) -> Scene
+    ensures { λ r. ⌜ r ≡ blendedOn s progress ⌝ }
+{
+    let w = s.worlds;
+    let t = w.weight;
+    let mut v = w;
+    v.weight = clamp(t + progress);
+    let mut r = s;
+    r.worlds = v;
+    r
+}
+
+// The new world is set to the old one's stamp.
+pub fn reset_new(s: Scene, tape: &mut [u32], at: usize) -> Shown
+    requires { ⌜ at < 3000000000 ⌝ }
+    ensures { λ r. ⌜ Plays (resetNew s) (now (tape .entry)) at r (now (tape .exit)) ⌝ }
+{
+    let w = s.worlds;
+    let side = sides::new_side(w);
+    let old = sides::last_completed_timestamp(w);
+    let r = simulation::reset_last_completed_timestamp(
+        sides::get_side(w, side),
+        old,
+        side,
+        tape,
+        at,
+    );
+    Shown {
+        scene: sides::put_stepped(s, side, r),
+        at: r.at,
+    }
+}
+
+// What a frame begins with: awaiting, the sides are swapped for the queued snapshot; obsolete, it is loaded; overshot, the new world is reset.
+pub fn open(
+    s: Scene,
+    t: ReconciliationStatus,
+    q: Queued,
+    progress: f64,
+    tape: &mut [u32],
+    at: usize,
+) -> Shown
+    requires { ⌜ at < 3000000000 ⌝ }
+    ensures { λ r. ⌜ Plays (openedOf t q progress s) (now (tape .entry)) at r (now (tape .exit)) ⌝ }
+{
+    match t {
+        ReconciliationStatus::AwaitingSnapshot => load_queued(
+            s,
+            q,
+            sides::old_side(s.worlds),
+            tape,
+            at,
+        ),
+        ReconciliationStatus::Blending(_) => Shown {
+            scene: blend_on(s, progress),
+            at,
+        },
+        ReconciliationStatus::Fastforwarding(h) => match h {
+            FastforwardingHealth::Healthy => Shown { scene: s, at },
+            FastforwardingHealth::Obsolete => load_queued(
+                s,
+                q,
+                sides::new_side(s.worlds),
+                tape,
+                at,
+            ),
+            FastforwardingHealth::Overshot => reset_new(s, tape, at),
+        },
+    }
+}
+
+// The world of a side steps.
+pub fn step_side(s: Scene, side: u32, tape: &mut [u32], at: usize) -> Shown
+    requires { ⌜ at < 3000000000 ⌝ }
+    ensures { λ r. ⌜ Plays (steppedSide s side) (now (tape .entry)) at r (now (tape .exit)) ⌝ }
+{
+    let r = simulation::step(sides::get_side(s.worlds, side), side, tape, at);
+    Shown {
+        scene: sides::put_stepped(s, side, r),
+        at: r.at,
+    }
+}
+
+// Whether the new world has reached the old one's stamp.
+pub fn has_caught_up(new: Timestamp, old: Timestamp) -> bool
+    ensures { λ r. ⌜ r ≡ caughtUpOf new old ⌝ }
+{
+    match new.cmp(old) {
+        Ordering::Less => false,
+        Ordering::Equal => true,
+        Ordering::Greater => true,
+    }
+}
+
+// A step of the new world, counted.
+pub fn step_new(s: Scene, tape: &mut [u32], at: usize) -> Shown
+    requires { ⌜ at < 3000000000 ⌝ }
+    ensures { λ r. ⌜ Plays (steppedNew s) (now (tape .entry)) at r (now (tape .exit)) ⌝ }
+{
+    let r = step_side(s, sides::new_side(s.worlds), tape, at);
+    let mut t = r.scene;
+    let n = t.steps;
+    t.steps = std::num::wrapping_add_u32(n, 1);
+    Shown { scene: t, at: r.at }
+}
+
+// The new world steps until it has reached the old one's stamp, m times at most.
+pub fn catch_up(s: Scene, m: u32, tape: &mut [u32], at: usize) -> Shown
+    requires { ⌜ (at < 2500000000) × (m ≤ 64) ⌝ }
+    ensures { λ r. ⌜ Plays (caughtOf m (oldStampOf (s .worlds)) s) (now (tape .entry)) at r (now (tape .exit)) ⌝ }
+{
+    let old = sides::last_completed_timestamp(s.worlds);
+    let mut t = s;
+    let mut p = at;
+    let mut k: u32 = 0;
+    while k < m {
+        if has_caught_up(sides::new_timestamp(t.worlds), old) {
+            return Shown { scene: t, at: p };
+        }
+        let r = step_new(t, tape, p);
+        let u = r.scene;
+        t = u;
+        p = r.at;
+        k += 1;
+    }
+    Shown { scene: t, at: p }
+}
+
+// The old world steps, and then the new one catches up.
+pub fn simulate_next_frame(s: Scene, m: u32, tape: &mut [u32], at: usize) -> Shown
+    requires { ⌜ (at < 2100000000) × (m ≤ 64) ⌝ }
+    ensures { λ r. ⌜ Plays (simulatedOf m s) (now (tape .entry)) at r (now (tape .exit)) ⌝ }
+{
+    let a = step_side(s, sides::old_side(s.worlds), tape, at);
+    catch_up(a.scene, m, tape, a.at)
+}
+
+// Whether a frame of this status, that loads q, publishes by the weight and not the old world.
+pub fn is_blended(t: ReconciliationStatus, q: Queued) -> bool
+    ensures { λ r. ⌜ r ≡ blendedBy t q ⌝ }
+{
+    match t {
+        ReconciliationStatus::AwaitingSnapshot => match q {
+            Queued::Nothing => true,
+            Queued::Held {
+                stamp: _,
+                handle: _,
+            } => false,
+        },
+        ReconciliationStatus::Blending(_) => true,
+        ReconciliationStatus::Fastforwarding(h) => match h {
+            FastforwardingHealth::Healthy => false,
+            FastforwardingHealth::Obsolete => false,
+            FastforwardingHealth::Overshot => true,
+        },
+    }
+}
+
+// What the frame publishes.
+pub fn publish(s: Scene, blended: bool, tape: &mut [u32], at: usize) -> Shown
+    requires { ⌜ at < 3000000000 ⌝ }
+    ensures { λ r. ⌜ Plays (publishedBy blended s) (now (tape .entry)) at r (now (tape .exit)) ⌝ }
+{
+    if blended {
+        return client_publish::publish_blended_state(s, tape, at);
+    }
+    client_publish::publish_old_state(s, tape, at)
+}
+
+// Whether a status is Fastforwarding with Obsolete.
+pub fn is_obsolete(t: ReconciliationStatus) -> bool
+    ensures { λ r. ⌜ r ≡ isObsolete t ⌝ }
+{
+    match t {
+        ReconciliationStatus::AwaitingSnapshot => false,
+        ReconciliationStatus::Blending(_) => false,
+        ReconciliationStatus::Fastforwarding(h) => match h {
+            FastforwardingHealth::Healthy => false,
+            FastforwardingHealth::Obsolete => true,
+            FastforwardingHealth::Overshot => false,
+        },
+    }
+}
+
+// Whether an obsolete world loads a snapshot 2 or more frames ahead of the old world, or half the space away.
+pub fn loads_too_far(q: Queued, old: Timestamp) -> bool
+    ensures { λ r. ⌜ r ≡ tooFarOf q old ⌝ }
+{
+    match q {
+        Queued::Nothing => false,
+        Queued::Held { stamp, handle: _ } => {
+            let behind = old.sub(stamp).0;
+            if behind < 32768 {
+                return false;
+            }
+            behind < 65535
+        }
+    }
+}
+
+// Whether the Rust stops in a frame of this status that loads q and takes the worlds from w to e: refusal 26.
+pub fn stops(
+    t: ReconciliationStatus,
+    q: Queued,
+    w: ClientWorldSimulations,
+    e: ClientWorldSimulations,
+) -> bool
+    ensures { λ r. ⌜ r ≡ stopsOf t q w e ⌝ }
+{
+    match t {
+        ReconciliationStatus::AwaitingSnapshot => false,
+        ReconciliationStatus::Blending(_) => false,
+        ReconciliationStatus::Fastforwarding(h) => match h {
+            FastforwardingHealth::Healthy => {
+                let old = sides::last_completed_timestamp(w);
+                if old.sub(sides::new_timestamp(w)).0 == 32768 {
+                    return true;
+                }
+                is_obsolete(status::infer_current_reconciliation_status(e))
+            }
+            FastforwardingHealth::Obsolete => loads_too_far(q, sides::last_completed_timestamp(w)),
+            FastforwardingHealth::Overshot => false,
+        },
+    }
+}
+
+// The worlds' steps and what is published.
+pub fn show(s: Scene, m: u32, blended: bool, tape: &mut [u32], at: usize) -> Shown
+    requires { ⌜ (at < 2100000000) × (m ≤ 64) ⌝ }
+    ensures { λ r. ⌜ Plays (shownOf m blended s) (now (tape .entry)) at r (now (tape .exit)) ⌝ }
+{
+    let a = simulate_next_frame(s, m, tape, at);
+    publish(a.scene, blended, tape, a.at)
+}
+
+// One frame.
+pub fn step(s: Scene, m: u32, progress: f64, tape: &mut [u32], at: usize) -> Framed
+    requires { ⌜ (at < 2000000000) × (m ≤ 64) ⌝ }
+    ensures { λ r. ⌜ Frames (frameOf m progress s) (frameStops m progress s) (now (tape .entry)) at r (now (tape .exit)) ⌝ }
+{
+    let w = s.worlds;
+    let t = status::infer_current_reconciliation_status(w);
+    let snapshots = w.snapshots;
+    let queued = snapshots.queued;
+    let q = loads(t, queued);
+    let a = open(s, t, q, progress, tape, at);
+    let b = show(a.scene, m, is_blended(t, q), tape, a.at);
+    let after = b.scene;
+    let e = after.worlds;
+    Framed {
+        scene: after,
+        at: b.at,
+        stops: stops(t, q, w, e),
+    }
+}

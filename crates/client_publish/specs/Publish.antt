@@ -1,0 +1,54 @@
+-- What a frame publishes: document 01, "Inbox and tape", out words 4 to 7.
+-- Definitions only. Assumes nothing.
+use Prim.Native.Nat.{ℕ}
+use mathlib.Core.Bool.{Bool, false, cond}
+use mathlib.Core.List.{[], _∷_}
+use lib.IntN.{pos, negsuc}
+use lib.Ieee.{Float, fin, binary64, sub, neg, lt, eq}
+use Rattle.tape.specs.Words.{publishWord, mixWords, noneWord}
+use Rattle.client.specs.declared.LastStamp.{LastStamp}
+use Rattle.client.specs.declared.LastStamp.the-variants.{Never, Last}
+use Rattle.client.specs.declared.Scene.{Scene}
+use Rattle.client.specs.Sides.{newSideOf, oldSideOf, worldOf, withPublished, withWorlds, stampOf, oldStampOf, Played}
+
+-- a state is published: the one before it is the last one, and the displayed time stays
+abbrev pub withState : Scene → LastStamp → Scene
+withState s l = withWorlds s (withPublished (s .worlds) (record { before = s .worlds .published .after; after = l; time = s .worlds .published .time }))
+
+-- nothing is published
+unfoldable pub publishedNone : Scene → Played
+publishedNone s = record { scene = withState s Never; words = noneWord ∷ [] }
+
+-- the world of a side is published
+unfoldable pub publishedSide : Scene → ℕ → Played
+publishedSide s side = record { scene = withState s (Last (stampOf (worldOf (s .worlds) side))); words = publishWord side ∷ [] }
+
+-- a mix is published, with a weight
+unfoldable pub publishedMix : Scene → Float → Played
+publishedMix s t = record { scene = withState s (Last (oldStampOf (s .worlds))); words = mixWords t }
+
+-- the old world is published, or nothing where it is not initialised
+unfoldable pub publishedOld : Scene → Played
+publishedOld s = cond (worldOf (s .worlds) (oldSideOf (s .worlds)) .init) (publishedSide s (oldSideOf (s .worlds))) (publishedNone s)
+
+-- the size of a number
+abbrev pub sizeOf : Float → Float
+sizeOf x = cond (lt x (fin false 0 (pos 0))) (neg x) x
+
+-- a weight is less than 2 ^ -52 from 1
+unfoldable pub nearOne : Float → Bool
+nearOne t = lt (sizeOf (sub binary64 t (fin false 1 (pos 0)))) (fin false 1 (negsuc 51))
+
+-- both worlds are initialised: weight 0 gives old, weight near 1 gives new, any other a mix
+unfoldable pub publishedBoth : Scene → Played
+publishedBoth s =
+    cond (eq (s .worlds .weight) (fin false 0 (pos 0)))
+    (publishedSide s (oldSideOf (s .worlds)))
+    (cond (nearOne (s .worlds .weight)) (publishedSide s (newSideOf (s .worlds))) (publishedMix s (s .worlds .weight)))
+
+-- a blended publish; with old uninitialised it gives new, or nothing if new is too
+unfoldable pub publishedBlended : Scene → Played
+publishedBlended s =
+    cond (worldOf (s .worlds) (oldSideOf (s .worlds)) .init)
+    (publishedBoth s)
+    (cond (worldOf (s .worlds) (newSideOf (s .worlds)) .init) (publishedSide s (newSideOf (s .worlds))) (publishedNone s))
