@@ -9,10 +9,10 @@
 --         }
 --         a
 --     }
---     State        what the walk asks of S: one machine value, and that what S owns is had for nothing
+--     State        what the walk asks of S: one machine value, and that what S owns is had for nothing.        of-struct    a struct of plain data as a state
 --     function     the MIR of a pass, by the MIR type of S and the key of `take`
---     Take, Pass   the contracts of `take` and of the pass: `take` gives g of the state and the message, and the pass what `whole` says of the words and of the state that it starts from
---     pass-meets   the MIR meets the contract, where `whole` is the fold of g over the messages
+--     Take         the contract of `take`: it gives g of the state and the message
+--     pass-meets   the MIR of a pass meets its contract, that it gives what `all` says of the words and of the state that it starts from, where that is the fold of g over the messages
 -- The loop's variant is what holds at its head (`Head`): the reader and the state, with their machine values. Nearer the end is less. All that the walk knows of the functions called is that each meets its contract.
 -- Assumes nothing.
 use mathlib.Core.Path.{_≡_, refl, sym, ap, _∙_, subst}
@@ -44,7 +44,7 @@ use denote.Laws.{Is, Tells, Makes, shows}
 use denote.Plain.{uint-makes, bool-lawful}
 use denote.Builtin.{u32, usize, bool}
 use denote.Ref.{RefT, NamedLft, now}
-use denote.Signature.{Signature, plain, namedLft, shrSliceOf}
+use denote.Signature.{plain, namedLft, shrSliceOf}
 use denote.Slice.{sliceTy, sliceVal, ShrSlice, slice-vals, shr-slice-tells, shr-slice-lawful, shr-slice-copy}
 use denote.Steps.{only, owned, peeks, facts, heard, nothing}
 use denote.Enum.Laws as EL
@@ -133,6 +133,7 @@ module _ {M : Type 1} {𝓤 : URA M} {H : Heap 𝓤} {A : Atoms 𝓤} {K : Type 
   tests t o held failed = first t $ branches t o (λ h. skips t $ record { prf = held h .prf }) (λ h. jumps t $ record { prf = failed h .prf })
 
 -- ---- the state, and the contracts
+-- a type of plain data that has one machine value
 pub record State {M : Type 1} (𝓤 : URA M) (H : Heap 𝓤) (A : Atoms 𝓤) : Type 2 where
   pub row : RattleType
   pub mir : Ty
@@ -141,11 +142,12 @@ pub record State {M : Type 1} (𝓤 : URA M) (H : Heap 𝓤) (A : Atoms 𝓤) : 
   pub typed : (x : row .Denot) (v : Val) → Is row x (v ∷ []) → Holds (hasTy mir v) × WT v
   pub makes : Makes 𝓤 H A row (Is row)
 
--- a struct of plain data as a state
+-- the MIR type of a row that has one
 abbrev the-one : List Ty → Ty
 the-one [] = tyBool
 the-one (τ ∷ τs) = τ
 
+-- a struct of plain data as a state
 abbrev pub of-struct : {M : Type 1} (𝓤 : URA M) (H : Heap 𝓤) (A : Atoms 𝓤) → Given 𝓤 H A → (D : Declared) → LL.Laws D → Plains (fields D) → State 𝓤 H A
 of-struct 𝓤 H A W D L pl = record {
   row = declared-row D;
@@ -160,6 +162,7 @@ of-struct 𝓤 H A W D L pl = record {
 abbrev pub still : RattleType → RattleType
 still R = record { Denot = R .Denot; mir = R .mir; written = R .written; reaches = R .reaches; own = R .own; exit = λ _. unchanged; coded = R .coded }
 
+-- the signature of `take`, and of a pass
 abbrev takes : RattleType → Ended
 takes R = record { signature = record { lifetimes = 0; outlives = []; params = plain (λ _. R) ∷ plain (λ _. Msg.the-row) ∷ []; result = plain (λ _. R) }; kept = (yes, (yes, tt)) }
 
@@ -170,6 +173,7 @@ abbrev stayed : (R : RattleType) → Stays (passes R .signature .params) (passes
 stayed R = (stay-none-slice (0 ∷ []) tt (plain (λ _. u32)) yes, (stay-none (λ _. R) yes, tt))
 
 module _ {M : Type 1} (𝓤 : URA M) (R : RattleType) where
+  -- what each ensures
   abbrev taking : (R .Denot → Message → R .Denot) → Clauses 𝓤 (takes R)
   taking g κs a = record { ghost = Unit {0}; requires = λ _. emp 𝓤; ensures = λ _ r _. fact 𝓤 (r ≡ g (a .0) (a .1 .0)) }
 
@@ -177,6 +181,7 @@ module _ {M : Type 1} (𝓤 : URA M) (R : RattleType) where
   passing f κs a = record { ghost = Unit {0}; requires = λ _. emp 𝓤; ensures = λ _ r _. fact 𝓤 (r ≡ f (now (a .0)) (a .1 .0)) }
 
 module _ {M : Type 1} (𝓤 : URA M) (H : Heap 𝓤) (A : Atoms 𝓤) where
+  -- the contracts that the walk cites
   abbrev pub Take : (R : RattleType) → (R .Denot → Message → R .Denot) → Contract 𝓤
   Take R g = tripleOf 𝓤 H A (takes R .signature) (closing 𝓤 H A (takes R) (taking 𝓤 R g))
 
