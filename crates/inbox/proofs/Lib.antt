@@ -3,6 +3,7 @@ pub mod Times
 pub mod Messages
 pub mod Refusals
 pub mod Passes
+pub mod Passing
 pub mod Bounds
 pub mod Counting
 pub mod Others

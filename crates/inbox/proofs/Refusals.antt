@@ -1,18 +1,17 @@
--- The refusal of an inbox, message by message: the lowest number so far, beside what is left of the list. Assumes nothing.
+-- The refusal of an inbox, message by message: a pass that keeps the lowest number finds it. Assumes nothing.
 use mathlib.Core.Path.{_≡_, refl, sym, ap, _∙_}
 use mathlib.Core.Bool.{Bool, true, false, cond}
-use mathlib.Core.List.{List, _∷_}
+use mathlib.Core.List.{List, [], _∷_}
 use Prim.Native.Nat.{ℕ, zero, suc, _<_, _≤_, min}
 use native.Mathlib.Nat.{min-eq-left, min-eq-right, le-of-lt}
 use native.Mathlib.Omega.{arith}
-use lib.ListN.{length, drop}
+use lib.ListN.{length}
 use lib.Dec.{ltb}
 use borrow.Author.Tests.{lt-ltb, le-ltb, ltb-true, ltb-false, eq-eqb, ne-eqb}
 use Rattle.inbox.specs.declared.Message.{Message}
 use Rattle.inbox.specs.declared.Message.the-variants.{Command, Snapshot, Clock, BadTime, WrongWord, CutShort}
-use Rattle.inbox.specs.declared.Step.{Step}
-use Rattle.inbox.specs.Inbox.{messagesOf, stepOf, numberOf, lowestOf, isRefused, some, refusalIn, refusalOf}
-use Rattle.inbox.proofs.Messages.{messages-next, messages-end}
+use Rattle.inbox.specs.Inbox.{messagesOf, numberOf, lowestOf, lowestWith, lowestIn, isRefused, some, refusalIn, refusalOf}
+use Rattle.inbox.specs.Passes.{over}
 
 -- ---- the lower of two refusals, by the tests that pick it
 module _ (a b : ℕ) where
@@ -92,30 +91,26 @@ refusal-next CutShort ms = go (some (isRefused 4) ms) (some (isRefused 5) ms) (s
     go false false true = refl
     go false false false = refl
 
--- ---- the loop over an inbox: what is found so far and what the rest holds give what the whole gives
-pub record Finds (words : List ℕ) (at found : ℕ) : Type 0 where
-  pub whole : lowestOf found (refusalIn (messagesOf (drop at words))) ≡ refusalOf words
+-- ---- a pass over an inbox finds the lowest
+-- the lower of a refusal and a message's, by the message's number
+pub lowest-with : (found : ℕ) (m : Message) {n r : ℕ} → n ≡ numberOf m → r ≡ lowestOf found n → r ≡ lowestWith found m
+lowest-with found m e f = f ∙ ap (lowestOf found) e
+
+lowest-over : (found : ℕ) (ms : List Message) → over lowestWith found ms ≡ lowestOf found (refusalIn ms)
+unfolding refusalIn
+lowest-over found [] = sym (lowest-none found)
+lowest-over found (m ∷ ms) = lowest-over (lowestWith found m) ms ∙ lowest-three found (numberOf m) (refusalIn ms) ∙ ap (lowestOf found) (sym (refusal-next m ms))
+
+pub lowest-folds : (words : List ℕ) (found : ℕ) → over lowestWith found (messagesOf words) ≡ lowestIn words found
+unfolding lowestIn
+lowest-folds words found = lowest-over found (messagesOf words)
 
 -- more than 4,096 words
 pub refusal-long : (words : List ℕ) → 4096 < length words → 3 ≡ refusalOf words
 unfolding refusalOf
 refusal-long words h = sym (ap (λ (t : Bool). cond t 3 (refusalIn (messagesOf words))) (lt-ltb 4096 (length words) h))
 
--- at the start nothing is found
-pub finds-start : (words : List ℕ) → length words ≤ 4096 → Finds words 0 0
-unfolding refusalOf
-finds-start words h = record { whole = sym (ap (λ (t : Bool). cond t 3 (refusalIn (messagesOf words))) (le-ltb 4096 (length words) h)) }
-
--- a message's number goes to what is found
-pub finds-step : {words : List ℕ} {at found : ℕ} (s : Step) (n r : ℕ) → at < length words → s ≡ stepOf words at → n ≡ numberOf (s .message) → r ≡ lowestOf found n → Finds words at found → Finds words (s .next) r
-finds-step {words} {at} {found} s n r h e p q f =
-    let rest = refusalIn (messagesOf (drop (s .next) words)) in
-    let d = sym e in
-    let turn : refusalIn (messagesOf (drop at words)) ≡ lowestOf (numberOf (s .message)) rest =
-    ap refusalIn (messages-next words at h) ∙ (λ i. refusalIn (d i .message ∷ messagesOf (drop (d i .next) words))) ∙ refusal-next (s .message) (messagesOf (drop (s .next) words)) in
-    record { whole = ap (λ (k : ℕ). lowestOf k rest) (q ∙ ap (lowestOf found) p) ∙ lowest-three found (numberOf (s .message)) rest ∙ ap (lowestOf found) (sym turn) ∙ f .whole }
-
--- at the end all is found
-pub finds-end : {words : List ℕ} {at found : ℕ} → length words ≤ at → Finds words at found → found ≡ refusalOf words
-unfolding refusalIn
-finds-end {words} {at} {found} h f = sym (lowest-none found) ∙ ap (λ (ms : List Message). lowestOf found (refusalIn ms)) (sym (messages-end words at h)) ∙ f .whole
+-- 4,096 words or fewer: the lowest of the messages'
+pub refusal-found : {r : ℕ} (words : List ℕ) → length words ≤ 4096 → r ≡ lowestIn words 0 → r ≡ refusalOf words
+unfolding refusalOf lowestIn
+refusal-found words h e = e ∙ sym (ap (λ (t : Bool). cond t 3 (refusalIn (messagesOf words))) (le-ltb 4096 (length words) h))

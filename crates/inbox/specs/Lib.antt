@@ -1,2 +1,3 @@
 pub mod Inbox
+pub mod Reader
 pub mod Passes

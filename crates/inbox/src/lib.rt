@@ -1,11 +1,13 @@
 // The inbox: words that say commands, snapshots and clock messages. It stands for what a network would hand to the client of crystalorb.
-// `refusal` reads the whole inbox and gives the lowest refusal; `message_at` reads the message at a place, so that a loop goes from
+// `refusal` reads the whole inbox and gives the lowest refusal; `message_at` reads the message at a place, and a `Reader` goes from
 // message to message.
 ghost use mathlib.Core.Path.{_≡_};
 ghost use Prim.Native.Nat.{_+_, _≤_, _<_};
 ghost use lib.ListN.{length, drop};
-ghost use Rattle.inbox.specs.Inbox.{wordOf, headOf, joinedOf, bitsOf, timeOf, clockOf, stepOf, numberOf, lowestOf, refusalOf};
+ghost use Rattle.inbox.specs.Inbox.{wordOf, headOf, joinedOf, bitsOf, timeOf, clockOf, stepOf, numberOf, lowestOf, lowestWith, lowestIn, refusalOf};
 use timestamp::Timestamp;
+
+pub mod reader;
 
 // What the words at a place say: a message, or the way in which they say none.
 pub enum Message {
@@ -61,15 +63,28 @@ pub fn refusal(words: &[u32]) -> u32
     if 4096 < words.len() {
         return 3;
     }
-    let mut at: usize = 0;
-    let mut found: u32 = 0;
-    while at < words.len() {
-        let s = message_at(words, at);
-        let m = s.message;
-        found = lowest(found, number_of(m));
-        at = s.next;
+    lowest_in(words, 0)
+}
+
+// The lowest of a refusal and those that the messages of an inbox stand for.
+fn lowest_in(words: &[u32], start: u32) -> u32
+    ensures { λ r. ⌜ r ≡ lowestIn (now (words .entry)) start ⌝ }
+{
+    let mut r = reader::new(words);
+    let mut found = start;
+    while reader::more(r) {
+        let s = reader::next(r);
+        found = lowest_with(found, s.message);
+        r = reader::moved(r, s.next);
     }
     found
+}
+
+// The lower of a refusal and the one that a message stands for.
+fn lowest_with(found: u32, m: Message) -> u32
+    ensures { λ r. ⌜ r ≡ lowestWith found m ⌝ }
+{
+    lowest(found, number_of(m))
 }
 
 // The message at a place, and the place after it.

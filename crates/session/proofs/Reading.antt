@@ -2,19 +2,19 @@
 use mathlib.Core.Path.{_≡_, refl, ap, sym, _∙_}
 use mathlib.Core.Bool.{Bool, true, false, _||_, true≢false}
 use mathlib.Core.List.{List, [], _∷_}
-use Prim.Native.Nat.{ℕ, _≤_}
-use lib.ListN.{length}
+use Prim.Native.Nat.{ℕ}
 use lib.Ieee.{Float}
 use Rattle.inbox.specs.declared.Message.{Message}
 use Rattle.inbox.specs.declared.Message.the-variants.{Command, Snapshot, Clock, BadTime, WrongWord, CutShort}
 use Rattle.inbox.specs.Inbox.{messagesOf, some}
 use Rattle.inbox.specs.Passes.{over, isClock, isCommand, isSnapshot}
-use Rattle.inbox.proofs.Passes.{Passes, pass-end}
 use Rattle.clocksync.specs.declared.Heard.{Heard}
+use Rattle.clocksync.specs.Clock.{heardOf}
 use Rattle.client.specs.declared.Received.{Received}
 use Rattle.client.specs.declared.ClientWorldSimulations.{ClientWorldSimulations}
 use Rattle.client_receive.specs.Receive.{alsoFull}
-use Rattle.session.specs.Passes.{isForWorlds, metOne, hasForWorlds, hearOne, heardIn, receiveOne, receivedIn, noteOne, notedIn}
+use Rattle.session.specs.declared.inbox_passes.Hearing.{Hearing}
+use Rattle.session.specs.Passes.{isForWorlds, metOne, metIn, hasForWorlds, hearOne, hearNext, hearIn, heardIn, receiveOne, receivedIn, noteOne, notedIn}
 
 -- a message that is no clock message is passed over
 pub hear-other : (seconds : Float) (h : Heard) (m : Message) → isClock m ≡ false → h ≡ hearOne seconds h m
@@ -25,10 +25,28 @@ hear-other seconds h BadTime e = refl
 hear-other seconds h WrongWord e = refl
 hear-other seconds h CutShort e = refl
 
--- the first pass at its end
-pub heard-end : (seconds : Float) {words : List ℕ} {start h : Heard} {at : ℕ} → length words ≤ at → Passes (hearOne seconds) start words at h → h ≡ heardIn seconds words start
-unfolding heardIn
-heard-end seconds l p = pass-end l p
+-- the same, where the client's time stands beside what was heard
+pub hear-next-other : (a : Hearing) (m : Message) → isClock m ≡ false → a ≡ hearNext a m
+hear-next-other a m e = λ i. record { heard = hear-other (a .seconds) (a .heard) m e i; seconds = a .seconds }
+
+-- a clock message is heard
+pub hear-next-clock : (a : Hearing) (m : Message) (i : ℕ) (s t : Float) {h : Heard} → m ≡ Clock i s t → h ≡ heardOf (a .seconds) (a .heard) i s t → _≡_ {A = Hearing} (record { heard = h; seconds = a .seconds }) (hearNext a m)
+hear-next-clock a m i s t em e = (λ j. record { heard = e j; seconds = a .seconds }) ∙ sym (ap (hearNext a) em)
+
+-- the client's time stays as it is
+hear-over : (a : Hearing) (ms : List Message) → over hearNext a ms ≡ record { heard = over (hearOne (a .seconds)) (a .heard) ms; seconds = a .seconds }
+hear-over a [] = refl
+hear-over a (m ∷ ms) = hear-over (hearNext a m) ms
+
+-- the first pass
+pub hear-folds : (words : List ℕ) (a : Hearing) → over hearNext a (messagesOf words) ≡ hearIn words a
+unfolding hearIn
+hear-folds words a = refl
+
+-- what it has heard at its end
+pub heard-end : (seconds : Float) (words : List ℕ) (start : Heard) {r : Hearing} → r ≡ hearIn words (record { heard = start; seconds = seconds }) → r .heard ≡ heardIn seconds words start
+unfolding hearIn heardIn
+heard-end seconds words start e = ap (λ (x : Hearing). x .heard) (e ∙ hear-over (record { heard = start; seconds = seconds }) (messagesOf words))
 
 true-or : (b : Bool) → b || true ≡ true
 true-or true = refl
@@ -48,10 +66,15 @@ met-over found (BadTime ∷ ms) = met-over found ms
 met-over found (WrongWord ∷ ms) = met-over found ms
 met-over found (CutShort ∷ ms) = met-over found ms
 
--- the search for a command or a snapshot at its end
-pub met-end : {words : List ℕ} {found : Bool} {at : ℕ} → length words ≤ at → Passes metOne false words at found → found ≡ hasForWorlds words
-unfolding hasForWorlds
-met-end {words} l p = pass-end l p ∙ met-over false (messagesOf words)
+-- the search for a command or a snapshot
+pub met-folds : (words : List ℕ) (found : Bool) → over metOne found (messagesOf words) ≡ metIn words found
+unfolding metIn
+met-folds words found = met-over found (messagesOf words)
+
+-- and from nothing met
+pub met-end : (words : List ℕ) {r : Bool} → r ≡ metIn words false → r ≡ hasForWorlds words
+unfolding metIn hasForWorlds
+met-end words e = e
 
 -- a message that is no snapshot is passed over
 pub note-other : (w : ClientWorldSimulations) (m : Message) → isSnapshot m ≡ false → w ≡ noteOne w m
@@ -79,12 +102,12 @@ also-true {f} {r} {x} h e = λ i. record { scene = e i .scene; full = sym (ap (�
 pub also-false : {f : Bool} {r x : Received} → f ≡ false → r ≡ x → r ≡ alsoFull f x
 also-false {f} {r} {x} h e = e ∙ (λ i. record { scene = x .scene; full = sym h i || x .full })
 
--- the second pass at its end
-pub received-end : {words : List ℕ} {start r : Received} {at : ℕ} → length words ≤ at → Passes receiveOne start words at r → r ≡ receivedIn words start
+-- the second pass
+pub receive-folds : (words : List ℕ) (r : Received) → over receiveOne r (messagesOf words) ≡ receivedIn words r
 unfolding receivedIn
-received-end l p = pass-end l p
+receive-folds words r = refl
 
--- the third pass at its end
-pub noted-end : {words : List ℕ} {start w : ClientWorldSimulations} {at : ℕ} → length words ≤ at → Passes noteOne start words at w → w ≡ notedIn words start
+-- the third pass
+pub note-folds : (words : List ℕ) (w : ClientWorldSimulations) → over noteOne w (messagesOf words) ≡ notedIn words w
 unfolding notedIn
-noted-end l p = pass-end l p
+note-folds words w = refl

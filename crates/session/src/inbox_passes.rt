@@ -1,11 +1,19 @@
-// The three passes over an inbox: clock messages, commands, snapshots.
+// The three passes over an inbox: clock messages, commands, snapshots. Each goes from message to message by a reader that keeps the
+// inbox's words and a position.
 ghost use mathlib.Core.Path.{_≡_};
-ghost use Rattle.session.specs.Passes.{metOne, hasForWorlds, hearOne, heardIn, receiveOne, receivedIn, noteOne, notedIn};
+ghost use Rattle.session.specs.Passes.{metOne, metIn, hasForWorlds, hearNext, hearIn, heardIn, receiveOne, receivedIn, noteOne, notedIn};
 use client::ClientWorldSimulations;
 use client::Received;
 use clocksync::Heard;
 use command::Entry;
 use inbox::Message;
+use inbox::reader;
+
+// What the clock messages told so far, and the time at which this client hears them.
+pub struct Hearing {
+    pub heard: Heard,
+    pub seconds: f64,
+}
 
 // Whether a message is a command or a snapshot, or one was met before.
 pub fn met_one(found: bool, m: Message) -> bool
@@ -35,38 +43,62 @@ pub fn met_one(found: bool, m: Message) -> bool
 pub fn has_world_message(words: &[u32]) -> bool
     ensures { λ r. ⌜ r ≡ hasForWorlds (now (words .entry)) ⌝ }
 {
-    let mut found = false;
-    let mut at: usize = 0;
-    while at < words.len() {
-        let s = inbox::message_at(words, at);
-        let m = s.message;
-        found = met_one(found, m);
-        at = s.next;
+    met_in(words, false)
+}
+
+// Whether an inbox has a command or a snapshot, or one was met before.
+pub fn met_in(words: &[u32], start: bool) -> bool
+    ensures { λ r. ⌜ r ≡ metIn (now (words .entry)) start ⌝ }
+{
+    let mut r = reader::new(words);
+    let mut found = start;
+    while reader::more(r) {
+        let s = reader::next(r);
+        found = met_one(found, s.message);
+        r = reader::moved(r, s.next);
     }
     found
 }
 
 // A clock message is heard; any other is passed over.
-pub fn hear_one(h: Heard, m: Message, seconds: f64) -> Heard
-    ensures { λ r. ⌜ r ≡ hearOne seconds h m ⌝ }
+pub fn hear_one(a: Hearing, m: Message) -> Hearing
+    ensures { λ r. ⌜ r ≡ hearNext a m ⌝ }
 {
     match m {
-        Message::Clock { id, send, server } => h.hear(id, send, server, seconds),
-        _ => h,
+        Message::Clock { id, send, server } => {
+            let h = a.heard;
+            let seconds = a.seconds;
+            let heard = h.hear(id, send, server, seconds);
+            Hearing { heard, seconds }
+        }
+        _ => a,
     }
 }
 
-// The clock messages of an inbox, in their order.
+// The clock messages of an inbox, in their order, heard at this client's time.
 pub fn hear_all(words: &[u32], start: Heard, seconds: f64) -> Heard
     ensures { λ r. ⌜ r ≡ heardIn seconds (now (words .entry)) start ⌝ }
 {
+    let r = hear_in(
+        words,
+        Hearing {
+            heard: start,
+            seconds,
+        },
+    );
+    r.heard
+}
+
+// The clock messages of an inbox, in their order.
+pub fn hear_in(words: &[u32], start: Hearing) -> Hearing
+    ensures { λ r. ⌜ r ≡ hearIn (now (words .entry)) start ⌝ }
+{
+    let mut r = reader::new(words);
     let mut h = start;
-    let mut at: usize = 0;
-    while at < words.len() {
-        let s = inbox::message_at(words, at);
-        let m = s.message;
-        h = hear_one(h, m, seconds);
-        at = s.next;
+    while reader::more(r) {
+        let s = reader::next(r);
+        h = hear_one(h, s.message);
+        r = reader::moved(r, s.next);
     }
     h
 }
@@ -93,15 +125,14 @@ pub fn receive_one(a: Received, m: Message) -> Received
 pub fn receive_commands(words: &[u32], start: Received) -> Received
     ensures { λ r. ⌜ r ≡ receivedIn (now (words .entry)) start ⌝ }
 {
-    let mut r = start;
-    let mut at: usize = 0;
-    while at < words.len() {
-        let s = inbox::message_at(words, at);
-        let m = s.message;
-        r = receive_one(r, m);
-        at = s.next;
+    let mut r = reader::new(words);
+    let mut a = start;
+    while reader::more(r) {
+        let s = reader::next(r);
+        a = receive_one(a, s.message);
+        r = reader::moved(r, s.next);
     }
-    r
+    a
 }
 
 // A snapshot is received; any other message is passed over.
@@ -118,13 +149,12 @@ pub fn note_one(w: ClientWorldSimulations, m: Message) -> ClientWorldSimulations
 pub fn receive_snapshots(words: &[u32], start: ClientWorldSimulations) -> ClientWorldSimulations
     ensures { λ r. ⌜ r ≡ notedIn (now (words .entry)) start ⌝ }
 {
+    let mut r = reader::new(words);
     let mut w = start;
-    let mut at: usize = 0;
-    while at < words.len() {
-        let s = inbox::message_at(words, at);
-        let m = s.message;
-        w = note_one(w, m);
-        at = s.next;
+    while reader::more(r) {
+        let s = reader::next(r);
+        w = note_one(w, s.message);
+        r = reader::moved(r, s.next);
     }
     w
 }

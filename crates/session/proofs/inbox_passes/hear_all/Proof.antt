@@ -1,47 +1,14 @@
--- `hear_all` meets its contract: the loop is a pass over the messages. Assumes nothing.
+-- `hear_all` meets its contract: the pass hears at the time that stands beside what was heard. Assumes nothing.
 use borrow.Author.Needs.{needs}
-use Prim.Native.Nat.{_-_}
-use lib.ListN.{length}
-use Rattle.inbox.proofs.Messages.{left-falls}
-use Rattle.inbox.proofs.Passes.{Passes, pass-start, pass-step}
-use Rattle.session.specs.Passes.{hearOne}
 use Rattle.session.proofs.Reading.{heard-end}
 use Rattle.session.proofs.inbox_passes.hear_all.Statement.{statement}
 use Rattle.session.proofs.inbox_passes.hear_all.Tie as tie
 
-abbrev Inv-loop : tie.InvT-loop
-Inv-loop words seconds h₀ at₀ h at = Passes (hearOne seconds) h₀ words at h
+hear-in-requires : tie.Need-hear-in-requires
+hear-in-requires c κs = search needs
 
-abbrev μ-loop : tie.MeasureT-loop
-μ-loop words seconds h₀ at₀ h at = length words - at
-
-loop-holds : tie.Need-loop-holds Inv-loop μ-loop
-loop-holds c = pass-start _ _ _
-
-message-at-requires : tie.Need-message-at-requires Inv-loop μ-loop
-message-at-requires c κs = search needs
-
-hear-one-requires : tie.Need-hear-one-requires Inv-loop μ-loop
-hear-one-requires c κs = search needs
-
-loop-less : tie.Need-loop-less Inv-loop μ-loop
-loop-less c = left-falls _ _ _ (c .before .before .loop-test .taken) (c .before .message-at .ensures)
-
-loop-again : tie.Need-loop-again Inv-loop μ-loop
-loop-again c = pass-step _ _ (c .before .before .loop-test .taken) (c .before .message-at .ensures) (c .hear-one .ensures) (c .before .before .before .loop .inv)
-
-returns : tie.Need-returns Inv-loop μ-loop
-returns c = heard-end _ (c .loop-test .left) (c .before .loop .inv)
+returns : tie.Need-returns
+returns c = heard-end _ _ _ (c .before .hear-in .ensures)
 
 pub hear-all-spec : {M : Type 1} → statement M
-hear-all-spec =
-    tie.close
-    (tie.spec
-    Inv-loop
-    μ-loop
-    loop-holds
-    message-at-requires
-    hear-one-requires
-    loop-less
-    loop-again
-    returns)
+hear-all-spec = tie.close (tie.spec hear-in-requires returns)

@@ -1,9 +1,7 @@
 -- `hear_one` meets its contract: a clock message is heard, any other passed over. Assumes nothing.
 use borrow.Author.Needs.{needs}
-use mathlib.Core.Path.{ap, sym, _∙_}
 use Rattle.inbox.proofs.Others.{not-clock}
-use Rattle.session.specs.Passes.{hearOne}
-use Rattle.session.proofs.Reading.{hear-other}
+use Rattle.session.proofs.Reading.{hear-next-clock, hear-next-other}
 use Rattle.session.proofs.inbox_passes.hear_one.Statement.{statement}
 use Rattle.session.proofs.inbox_passes.hear_one.Tie as tie
 
@@ -15,11 +13,11 @@ hear-requires c κs = search needs
 
 returns : tie.Need-returns
 returns c =
-    let s = c .before .before .before .before in
-    c .hear .ensures ∙ sym (ap (hearOne (s .args .seconds) (s .args .h)) (c .before .before .m .given .1))
+    let m = c .before .before .before in
+    hear-next-clock (m .before .before .args .a) (m .before .before .args .m) _ _ _ (m .m .given .1) (c .hear .ensures)
 
 returns-2 : tie.Need-returns-2
-returns-2 c = hear-other (c .before .args .seconds) (c .before .args .h) (c .before .args .m) (not-clock (c .before .args .m) (c .match .keys2))
+returns-2 c = hear-next-other (c .before .args .a) (c .before .args .m) (not-clock (c .before .args .m) (c .match .keys2))
 
 pub hear-one-spec : {M : Type 1} → statement M
 hear-one-spec = tie.close (tie.spec enum-known-m hear-requires returns returns-2)

@@ -1,47 +1,38 @@
--- `receive_snapshots` meets its contract: the loop is a pass over the messages. Assumes nothing.
-use borrow.Author.Needs.{needs}
-use Prim.Native.Nat.{_-_}
-use lib.ListN.{length}
-use Rattle.inbox.proofs.Messages.{left-falls}
-use Rattle.inbox.proofs.Passes.{Passes, pass-start, pass-step}
-use Rattle.session.specs.Passes.{noteOne}
-use Rattle.session.proofs.Reading.{noted-end}
-use Rattle.session.proofs.inbox_passes.receive_snapshots.Statement.{statement}
-use Rattle.session.proofs.inbox_passes.receive_snapshots.Tie as tie
+-- `receive_snapshots` meets its contract: it is a pass by a reader. Assumes nothing.
+use Rattle.client.proofs.ClientWorldSimulations as K
+use Rattle.client.proofs.ClientWorldSimulations.Laws as K′
+use contract.Running.{givenOf, tables, tablesOf}
+use denote.Triple.Spec.{tripleOf}
+use denote.Triple.Table.{entered, cited}
+use Rattle.inbox.proofs.Passing.{New, More, Next, Take, Moved, of-struct, still, pass-meets}
+use Rattle.inbox.proofs.reader.new.Symbol as new-def
+use Rattle.inbox.proofs.reader.new.Met as new-thm
+use Rattle.inbox.proofs.reader.more.Symbol as more-def
+use Rattle.inbox.proofs.reader.more.Met as more-thm
+use Rattle.inbox.proofs.reader.next.Symbol as next-def
+use Rattle.inbox.proofs.reader.next.Met as next-thm
+use Rattle.inbox.proofs.reader.moved.Symbol as moved-def
+use Rattle.inbox.proofs.reader.moved.Met as moved-thm
+use Rattle.session.specs.Passes.{noteOne, notedIn}
+use Rattle.session.proofs.Reading.{note-folds}
+use Rattle.session.proofs.inbox_passes.note_one.Symbol as take-def
+use Rattle.session.proofs.inbox_passes.note_one.Met as take-thm
+use Rattle.session.proofs.inbox_passes.receive_snapshots.Key.{name as #session·inbox-passes·receive-snapshots}
+use Rattle.session.proofs.inbox_passes.receive_snapshots as this
+use Rattle.session.proofs.inbox_passes.receive_snapshots.Statement as stated
+use Rattle.session.proofs.inbox_passes.receive_snapshots.Code as code
 
-abbrev Inv-loop : tie.InvT-loop
-Inv-loop words w₀ at₀ w at = Passes noteOne w₀ words at w
-
-abbrev μ-loop : tie.MeasureT-loop
-μ-loop words w₀ at₀ w at = length words - at
-
-loop-holds : tie.Need-loop-holds Inv-loop μ-loop
-loop-holds c = pass-start _ _ _
-
-message-at-requires : tie.Need-message-at-requires Inv-loop μ-loop
-message-at-requires c κs = search needs
-
-note-one-requires : tie.Need-note-one-requires Inv-loop μ-loop
-note-one-requires c κs = search needs
-
-loop-less : tie.Need-loop-less Inv-loop μ-loop
-loop-less c = left-falls _ _ _ (c .before .before .loop-test .taken) (c .before .message-at .ensures)
-
-loop-again : tie.Need-loop-again Inv-loop μ-loop
-loop-again c = pass-step _ _ (c .before .before .loop-test .taken) (c .before .message-at .ensures) (c .note-one .ensures) (c .before .before .before .loop .inv)
-
-returns : tie.Need-returns Inv-loop μ-loop
-returns c = noted-end (c .loop-test .left) (c .before .loop .inv)
-
-pub receive-snapshots-spec : {M : Type 1} → statement M
-receive-snapshots-spec =
-    tie.close
-    (tie.spec
-    Inv-loop
-    μ-loop
-    loop-holds
-    message-at-requires
-    note-one-requires
-    loop-less
-    loop-again
-    returns)
+pub receive-snapshots-spec : {M : Type 1} → stated.statement M
+unfolding code.routine tablesOf
+receive-snapshots-spec 𝓤 H 𝓜 𝓖 𝓡 =
+    entered 𝓤 H (tripleOf 𝓤 H (𝓖 .A) this.signature (this.spec 𝓤 H (𝓖 .A) (𝓜 .mem) (𝓡 .run)))
+    (tables 𝓤 H 𝓜 𝓡 code.env .C) (tables 𝓤 H 𝓜 𝓡 code.env .Λ) #session·inbox-passes·receive-snapshots code.function (code.unfolded 𝓤 H 𝓜 𝓡)
+    (pass-meets 𝓤 H (𝓖 .A) (givenOf 𝓤 H 𝓜 𝓖) (𝓜 .mem) (𝓡 .run)
+    (of-struct 𝓤 H (𝓖 .A) (givenOf 𝓤 H 𝓜 𝓖) K.the-type K′.the-laws K′.the-plain)
+    noteOne notedIn note-folds
+    (tablesOf 𝓤 H 𝓜 (tables 𝓤 H 𝓜 𝓡 code.env)) take-def.name
+    (cited 𝓤 H (New 𝓤 H (𝓖 .A) (𝓜 .mem) (𝓡 .run)) 𝓜 𝓡 code.env new-def.name new-def.routine code.calls-inbox·reader·new (new-thm.met 𝓤 H 𝓜 𝓖 𝓡))
+    (cited 𝓤 H (More 𝓤 H (𝓖 .A) (𝓜 .mem) (𝓡 .run)) 𝓜 𝓡 code.env more-def.name more-def.routine code.calls-inbox·reader·more (more-thm.met 𝓤 H 𝓜 𝓖 𝓡))
+    (cited 𝓤 H (Next 𝓤 H (𝓖 .A) (𝓜 .mem) (𝓡 .run)) 𝓜 𝓡 code.env next-def.name next-def.routine code.calls-inbox·reader·next (next-thm.met 𝓤 H 𝓜 𝓖 𝓡))
+    (cited 𝓤 H (Take 𝓤 H (𝓖 .A) (still K.the-row) noteOne) 𝓜 𝓡 code.env take-def.name take-def.routine code.calls-session·inbox-passes·note-one (take-thm.met 𝓤 H 𝓜 𝓖 𝓡))
+    (cited 𝓤 H (Moved 𝓤 H (𝓖 .A) (𝓜 .mem) (𝓡 .run)) 𝓜 𝓡 code.env moved-def.name moved-def.routine code.calls-inbox·reader·moved (moved-thm.met 𝓤 H 𝓜 𝓖 𝓡)))
