@@ -24,7 +24,7 @@ use Rattle.session.specs.declared.Stage.{Stage}
 use Rattle.session.specs.declared.Stage.the-variants.{SyncingClock, SyncingInitialState, Ready}
 use Rattle.session.specs.declared.Session.{Session}
 use Rattle.session.specs.Sound.{soundOf}
-use Rattle.session.specs.Passes.{heardIn, receivedIn}
+use Rattle.inbox_passes.specs.Passes.{heardIn, receivedIn}
 use Rattle.session.specs.Calls.{Answer, refusedAtOnce, refusedWith, sceneOf, clockAfter, stageAfter, acceptedOf, concludedOf, serverTimeBy, sceneAfter, playedOf, worldsUpdateOf, updateBy, updateOf}
 use Rattle.session_laws.proofs.TraceReading.{sound-m, Read, read-in}
 use Rattle.demand.specs.Demand.{framesIn, distancesIn, wordsIn, newSteps, Walk, worldsExist}

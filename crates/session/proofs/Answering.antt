@@ -39,7 +39,7 @@ use Rattle.session.specs.declared.Session.{Session}
 use Rattle.session.specs.declared.UpdateAnswer.{UpdateAnswer}
 use Rattle.session.specs.declared.ReportAnswer.{ReportAnswer}
 use Rattle.session.specs.Sound.{soundOf}
-use Rattle.session.specs.Passes.{hasForWorlds, heardIn, receivedIn, notedIn}
+use Rattle.inbox_passes.specs.Passes.{hasForWorlds, heardIn, receivedIn, notedIn}
 use Rattle.session.specs.Calls.{timesOk, refusedAtOnce, Reply, Answer, refusedWith, withClock, startedAt, syncedOf, clockAfter, clockUpdateOf, sceneOf, closedOf, stageAfter, acceptedOf, concludedOf, serverTimeBy, unreceived, playedWith, playedOf, worldsUpdateOf, updateBy, updateOf, Updates, unreported, reportBy, reportOf}
 use Rattle.session.specs.Inner.{acceptedBy, concludedBy}
 use Rattle.session.proofs.Judging.{was-false, was-true}

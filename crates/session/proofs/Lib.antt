@@ -1,4 +1,3 @@
-pub mod Reading
 pub mod Judging
 pub mod Answering
 pub mod Issuing

@@ -37,7 +37,7 @@ use Rattle.session.specs.declared.OpenAnswer.{OpenAnswer}
 use Rattle.session.specs.declared.UpdateAnswer.{UpdateAnswer}
 use Rattle.session.specs.declared.ReportAnswer.{ReportAnswer}
 use Rattle.session.specs.Sound.{soundOf}
-use Rattle.session.specs.Passes.{hasForWorlds, heardIn, receivedIn, notedIn}
+use Rattle.inbox_passes.specs.Passes.{hasForWorlds, heardIn, receivedIn, notedIn}
 
 -- ---- open
 

@@ -14,7 +14,6 @@ use super::ReportAnswer;
 use super::Session;
 use super::Stage;
 use super::UpdateAnswer;
-use super::inbox_passes;
 use super::sound;
 use client::DisplayTime;
 use client::Ledger;

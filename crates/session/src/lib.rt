@@ -1,7 +1,6 @@
 // The session of a client, and its calls: open, update, issue and report. It answers to `Client` and src/client/stage*.rs of crystalorb.
 // A call takes the session by value and returns it; a refused call returns it unchanged.
 pub mod calls;
-pub mod inbox_passes;
 pub mod sound;
 
 use client::ClientWorldSimulations;

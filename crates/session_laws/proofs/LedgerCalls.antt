@@ -44,7 +44,7 @@ use Rattle.session.specs.declared.Stage.the-variants.{SyncingClock, SyncingInit
 use Rattle.session.specs.declared.Session.{Session}
 use Rattle.session.specs.declared.IssueAnswer.{IssueAnswer}
 use Rattle.session.specs.Sound.{soundOf, worldsSound, buffersSound, queuedSound, weightSound, initSound, connectedOf, overshootSound}
-use Rattle.session.specs.Passes.{receiveOne, receivedIn, noteOne, notedIn, heardIn}
+use Rattle.inbox_passes.specs.Passes.{receiveOne, receivedIn, noteOne, notedIn, heardIn}
 use Rattle.session.specs.Calls.{timesOk, refusedAtOnce, Reply, Answer, refusedWith, sceneOf, closedOf, stageAfter, acceptedOf, concludedOf, serverTimeBy, sceneAfter, clockAfter, playedOf, worldsUpdateOf, updateBy, updateOf}
 use Rattle.session.specs.Issue.{unissued, withWorldsOf, entryOf, issuedBy, issuedOf, issueBy, issueOf}
 

@@ -37,7 +37,7 @@ use Rattle.session.specs.declared.Stage.the-variants.{SyncingClock, SyncingInit
 use Rattle.session.specs.declared.Session.{Session}
 use Rattle.session.specs.declared.IssueAnswer.{IssueAnswer}
 use Rattle.session.specs.Sound.{noOffset, connectedOf, soundOf}
-use Rattle.session.specs.Passes.{hasForWorlds, heardIn, receivedIn}
+use Rattle.inbox_passes.specs.Passes.{hasForWorlds, heardIn, receivedIn}
 use Rattle.session.specs.Calls.{startOf, openOf, timesOk, refusedAtOnce, Answer, refusedWith, withClock, startedAt, syncedOf, clockAfter, clockUpdateOf, sceneOf, stageAfter, acceptedOf, concludedOf, serverTimeBy, sceneAfter, playedOf, worldsUpdateOf, updateBy, updateOf}
 use Rattle.session.specs.Issue.{unissued, withWorldsOf, entryOf, issuedBy, issuedOf, issueBy, issueOf}
 use Rattle.session_laws.proofs.SoundParts.{sound-facts, facts-sound, FloatsFit, times-within, clock-after-sound, clock-after-timer, clock-after-slots, clock-after-ready, clock-after-first, server-within, scene-after-kept, scene-after-weighed}

@@ -46,7 +46,7 @@ use Rattle.session_laws.proofs.SoundFrames.{weighed-unit}
 use Rattle.session_laws.proofs.SoundRuns.{InStep}
 use Rattle.session.specs.declared.Session.{Session}
 use Rattle.session.specs.Sound.{queuedSound, weightSound, initSound, buffersSound, worldsSound, overshootSound, connectedOf, soundOf}
-use Rattle.session.specs.Passes.{hearOne, heardIn, receiveOne, receivedIn, noteOne, notedIn}
+use Rattle.inbox_passes.specs.Passes.{hearOne, heardIn, receiveOne, receivedIn, noteOne, notedIn}
 use Rattle.session.specs.Calls.{timesOk, clockAfter, serverTimeBy, sceneAfter, sceneOf}
 
 both : {a b : Bool} → a ≡ true → b ≡ true → a && b ≡ true

@@ -27,7 +27,7 @@ use Rattle.session.specs.declared.Stage.the-variants.{SyncingClock, SyncingInit
 use Rattle.session.specs.declared.Session.{Session}
 use Rattle.session.specs.declared.IssueAnswer.{IssueAnswer}
 use Rattle.session.specs.Sound.{soundOf, connectedOf, worldsSound, overshootSound}
-use Rattle.session.specs.Passes.{receiveOne, receivedIn, noteOne, notedIn}
+use Rattle.inbox_passes.specs.Passes.{receiveOne, receivedIn, noteOne, notedIn}
 use Rattle.session.specs.Calls.{sceneOf, sceneAfter}
 use Rattle.session.specs.Issue.{unissued, entryOf, issuedBy, issuedOf, issueBy, issueOf}
 

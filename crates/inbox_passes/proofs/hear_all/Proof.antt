@@ -1,8 +1,8 @@
 -- `hear_all` meets its contract: the pass hears at the time that stands beside what was heard. Assumes nothing.
 use borrow.Author.Needs.{needs}
-use Rattle.session.proofs.Reading.{heard-end}
-use Rattle.session.proofs.inbox_passes.hear_all.Statement.{statement}
-use Rattle.session.proofs.inbox_passes.hear_all.Tie as tie
+use Rattle.inbox_passes.proofs.Reading.{heard-end}
+use Rattle.inbox_passes.proofs.hear_all.Statement.{statement}
+use Rattle.inbox_passes.proofs.hear_all.Tie as tie
 
 hear-in-requires : tie.Need-hear-in-requires
 hear-in-requires c κs = search needs

@@ -1,8 +1,8 @@
 -- `has_world_message` meets its contract: nothing was met before the pass. Assumes nothing.
 use borrow.Author.Needs.{needs}
-use Rattle.session.proofs.Reading.{met-end}
-use Rattle.session.proofs.inbox_passes.has_world_message.Statement.{statement}
-use Rattle.session.proofs.inbox_passes.has_world_message.Tie as tie
+use Rattle.inbox_passes.proofs.Reading.{met-end}
+use Rattle.inbox_passes.proofs.has_world_message.Statement.{statement}
+use Rattle.inbox_passes.proofs.has_world_message.Tie as tie
 
 met-in-requires : tie.Need-met-in-requires
 met-in-requires c κs = search needs

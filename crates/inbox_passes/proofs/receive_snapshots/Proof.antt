@@ -13,14 +13,14 @@ use Rattle.inbox.proofs.reader.next.Symbol as next-def
 use Rattle.inbox.proofs.reader.next.Met as next-thm
 use Rattle.inbox.proofs.reader.moved.Symbol as moved-def
 use Rattle.inbox.proofs.reader.moved.Met as moved-thm
-use Rattle.session.specs.Passes.{noteOne, notedIn}
-use Rattle.session.proofs.Reading.{note-folds}
-use Rattle.session.proofs.inbox_passes.note_one.Symbol as take-def
-use Rattle.session.proofs.inbox_passes.note_one.Met as take-thm
-use Rattle.session.proofs.inbox_passes.receive_snapshots.Key.{name as #session·inbox-passes·receive-snapshots}
-use Rattle.session.proofs.inbox_passes.receive_snapshots as this
-use Rattle.session.proofs.inbox_passes.receive_snapshots.Statement as stated
-use Rattle.session.proofs.inbox_passes.receive_snapshots.Code as code
+use Rattle.inbox_passes.specs.Passes.{noteOne, notedIn}
+use Rattle.inbox_passes.proofs.Reading.{note-folds}
+use Rattle.inbox_passes.proofs.note_one.Symbol as take-def
+use Rattle.inbox_passes.proofs.note_one.Met as take-thm
+use Rattle.inbox_passes.proofs.receive_snapshots.Key.{name as #session·inbox-passes·receive-snapshots}
+use Rattle.inbox_passes.proofs.receive_snapshots as this
+use Rattle.inbox_passes.proofs.receive_snapshots.Statement as stated
+use Rattle.inbox_passes.proofs.receive_snapshots.Code as code
 
 pub receive-snapshots-spec : {M : Type 1} → stated.statement M
 unfolding code.routine tablesOf
@@ -34,5 +34,5 @@ receive-snapshots-spec 𝓤 H 𝓜 𝓖 𝓡 =
     (cited 𝓤 H (New 𝓤 H (𝓖 .A) (𝓜 .mem) (𝓡 .run)) 𝓜 𝓡 code.env new-def.name new-def.routine code.calls-inbox·reader·new (new-thm.met 𝓤 H 𝓜 𝓖 𝓡))
     (cited 𝓤 H (More 𝓤 H (𝓖 .A) (𝓜 .mem) (𝓡 .run)) 𝓜 𝓡 code.env more-def.name more-def.routine code.calls-inbox·reader·more (more-thm.met 𝓤 H 𝓜 𝓖 𝓡))
     (cited 𝓤 H (Next 𝓤 H (𝓖 .A) (𝓜 .mem) (𝓡 .run)) 𝓜 𝓡 code.env next-def.name next-def.routine code.calls-inbox·reader·next (next-thm.met 𝓤 H 𝓜 𝓖 𝓡))
-    (cited 𝓤 H (Take 𝓤 H (𝓖 .A) (still K.the-row) noteOne) 𝓜 𝓡 code.env take-def.name take-def.routine code.calls-session·inbox-passes·note-one (take-thm.met 𝓤 H 𝓜 𝓖 𝓡))
+    (cited 𝓤 H (Take 𝓤 H (𝓖 .A) (still K.the-row) noteOne) 𝓜 𝓡 code.env take-def.name take-def.routine code.calls-inbox-passes·note-one (take-thm.met 𝓤 H 𝓜 𝓖 𝓡))
     (cited 𝓤 H (Moved 𝓤 H (𝓖 .A) (𝓜 .mem) (𝓡 .run)) 𝓜 𝓡 code.env moved-def.name moved-def.routine code.calls-inbox·reader·moved (moved-thm.met 𝓤 H 𝓜 𝓖 𝓡)))

@@ -13,7 +13,7 @@ use Rattle.clocksync.specs.Clock.{heardOf}
 use Rattle.client.specs.declared.Received.{Received}
 use Rattle.client.specs.declared.ClientWorldSimulations.{ClientWorldSimulations}
 use Rattle.client_receive.specs.Receive.{receivedOf, alsoFull, notesOf}
-use Rattle.session.specs.declared.inbox_passes.Hearing.{Hearing}
+use Rattle.inbox_passes.specs.declared.Hearing.{Hearing}
 
 -- a message is a command or a snapshot
 abbrev pub isForWorlds : Message → Bool

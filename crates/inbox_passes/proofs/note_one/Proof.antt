@@ -2,10 +2,10 @@
 use borrow.Author.Needs.{needs}
 use mathlib.Core.Path.{ap, sym, _∙_}
 use Rattle.inbox.proofs.Others.{not-snapshot}
-use Rattle.session.specs.Passes.{noteOne}
-use Rattle.session.proofs.Reading.{note-other}
-use Rattle.session.proofs.inbox_passes.note_one.Statement.{statement}
-use Rattle.session.proofs.inbox_passes.note_one.Tie as tie
+use Rattle.inbox_passes.specs.Passes.{noteOne}
+use Rattle.inbox_passes.proofs.Reading.{note-other}
+use Rattle.inbox_passes.proofs.note_one.Statement.{statement}
+use Rattle.inbox_passes.proofs.note_one.Tie as tie
 
 enum-known-m : tie.Need-enum-known-m
 enum-known-m c = search needs

@@ -16,14 +16,14 @@ use Rattle.inbox.proofs.reader.next.Symbol as next-def
 use Rattle.inbox.proofs.reader.next.Met as next-thm
 use Rattle.inbox.proofs.reader.moved.Symbol as moved-def
 use Rattle.inbox.proofs.reader.moved.Met as moved-thm
-use Rattle.session.specs.Passes.{metOne, metIn}
-use Rattle.session.proofs.Reading.{met-folds}
-use Rattle.session.proofs.inbox_passes.met_one.Symbol as take-def
-use Rattle.session.proofs.inbox_passes.met_one.Met as take-thm
-use Rattle.session.proofs.inbox_passes.met_in.Key.{name as #session·inbox-passes·met-in}
-use Rattle.session.proofs.inbox_passes.met_in as this
-use Rattle.session.proofs.inbox_passes.met_in.Statement as stated
-use Rattle.session.proofs.inbox_passes.met_in.Code as code
+use Rattle.inbox_passes.specs.Passes.{metOne, metIn}
+use Rattle.inbox_passes.proofs.Reading.{met-folds}
+use Rattle.inbox_passes.proofs.met_one.Symbol as take-def
+use Rattle.inbox_passes.proofs.met_one.Met as take-thm
+use Rattle.inbox_passes.proofs.met_in.Key.{name as #session·inbox-passes·met-in}
+use Rattle.inbox_passes.proofs.met_in as this
+use Rattle.inbox_passes.proofs.met_in.Statement as stated
+use Rattle.inbox_passes.proofs.met_in.Code as code
 
 pub met-in-spec : {M : Type 1} → stated.statement M
 unfolding code.routine tablesOf
@@ -37,5 +37,5 @@ met-in-spec 𝓤 H 𝓜 𝓖 𝓡 =
     (cited 𝓤 H (New 𝓤 H (𝓖 .A) (𝓜 .mem) (𝓡 .run)) 𝓜 𝓡 code.env new-def.name new-def.routine code.calls-inbox·reader·new (new-thm.met 𝓤 H 𝓜 𝓖 𝓡))
     (cited 𝓤 H (More 𝓤 H (𝓖 .A) (𝓜 .mem) (𝓡 .run)) 𝓜 𝓡 code.env more-def.name more-def.routine code.calls-inbox·reader·more (more-thm.met 𝓤 H 𝓜 𝓖 𝓡))
     (cited 𝓤 H (Next 𝓤 H (𝓖 .A) (𝓜 .mem) (𝓡 .run)) 𝓜 𝓡 code.env next-def.name next-def.routine code.calls-inbox·reader·next (next-thm.met 𝓤 H 𝓜 𝓖 𝓡))
-    (cited 𝓤 H (Take 𝓤 H (𝓖 .A) (still bool) metOne) 𝓜 𝓡 code.env take-def.name take-def.routine code.calls-session·inbox-passes·met-one (take-thm.met 𝓤 H 𝓜 𝓖 𝓡))
+    (cited 𝓤 H (Take 𝓤 H (𝓖 .A) (still bool) metOne) 𝓜 𝓡 code.env take-def.name take-def.routine code.calls-inbox-passes·met-one (take-thm.met 𝓤 H 𝓜 𝓖 𝓡))
     (cited 𝓤 H (Moved 𝓤 H (𝓖 .A) (𝓜 .mem) (𝓡 .run)) 𝓜 𝓡 code.env moved-def.name moved-def.routine code.calls-inbox·reader·moved (moved-thm.met 𝓤 H 𝓜 𝓖 𝓡)))

@@ -2,10 +2,10 @@
 use borrow.Author.Needs.{needs}
 use mathlib.Core.Path.{ap, sym, _∙_}
 use Rattle.inbox.proofs.Others.{not-command}
-use Rattle.session.specs.Passes.{receiveOne}
-use Rattle.session.proofs.Reading.{receive-other, also-true, also-false}
-use Rattle.session.proofs.inbox_passes.receive_one.Statement.{statement}
-use Rattle.session.proofs.inbox_passes.receive_one.Tie as tie
+use Rattle.inbox_passes.specs.Passes.{receiveOne}
+use Rattle.inbox_passes.proofs.Reading.{receive-other, also-true, also-false}
+use Rattle.inbox_passes.proofs.receive_one.Statement.{statement}
+use Rattle.inbox_passes.proofs.receive_one.Tie as tie
 
 enum-known-m : tie.Need-enum-known-m
 enum-known-m c = search needs

@@ -1,9 +1,9 @@
 -- `hear_one` meets its contract: a clock message is heard, any other passed over. Assumes nothing.
 use borrow.Author.Needs.{needs}
 use Rattle.inbox.proofs.Others.{not-clock}
-use Rattle.session.proofs.Reading.{hear-next-clock, hear-next-other}
-use Rattle.session.proofs.inbox_passes.hear_one.Statement.{statement}
-use Rattle.session.proofs.inbox_passes.hear_one.Tie as tie
+use Rattle.inbox_passes.proofs.Reading.{hear-next-clock, hear-next-other}
+use Rattle.inbox_passes.proofs.hear_one.Statement.{statement}
+use Rattle.inbox_passes.proofs.hear_one.Tie as tie
 
 enum-known-m : tie.Need-enum-known-m
 enum-known-m c = search needs

@@ -1,9 +1,9 @@
 -- `met_one` meets its contract, by the kind of the message. Assumes nothing.
 use borrow.Author.Needs.{needs}
 use mathlib.Core.Path.{ap, sym}
-use Rattle.session.specs.Passes.{metOne}
-use Rattle.session.proofs.inbox_passes.met_one.Statement.{statement}
-use Rattle.session.proofs.inbox_passes.met_one.Tie as tie
+use Rattle.inbox_passes.specs.Passes.{metOne}
+use Rattle.inbox_passes.proofs.met_one.Statement.{statement}
+use Rattle.inbox_passes.proofs.met_one.Tie as tie
 
 enum-told : tie.Need-enum-told
 enum-told c = search needs
