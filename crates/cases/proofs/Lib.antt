@@ -1,1 +1,5 @@
+pub mod Computing
+pub mod Sessions
+pub mod Run
+pub mod CatchUp
 pub mod Table

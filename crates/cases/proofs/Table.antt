@@ -7,6 +7,9 @@ use Rattle.timestamp.specs.FloatTimestamps.{fromUnwrapped, stampOf, ceilStampOf
 use Rattle.settings.specs.Settings.{discardOf}
 use Rattle.clocksync.specs.Mean.{insertedOf, sortedOnto, sortedOf, sumFrom, averageOf, meanOf}
 use Rattle.cases.specs.Table.{Marked}
+use Rattle.cases.proofs.Sessions.{shown}
+use Rattle.cases.proofs.CatchUp.{loads, behind, left-behind}
+use Rattle.cases.proofs.Run.{run-opened, once, twice, thrice, at-four, at-five, at-six, report-three, report-six}
 
 -- the cases that document 01 marks P
 pub marked : Marked
@@ -24,4 +27,14 @@ marked =
       toward-zero = (refl, refl);
       mean = (refl, refl);
       tween = refl;
+      loads = loads;
+      behind = behind;
+      left-behind = left-behind;
+      run-opened = run-opened;
+      run-syncs = (shown once, shown twice, shown thrice);
+      run-starts = report-three;
+      run-four = shown at-four;
+      run-five = shown at-five;
+      run-six = shown at-six;
+      run-ready = report-six;
     }
