@@ -1,5 +1,1 @@
-pub mod Computing
-pub mod Sessions
-pub mod Run
-pub mod CatchUp
 pub mod Table

@@ -55,13 +55,13 @@ four = fin false 1 (pos 2)
 abbrev pub nine : Float
 nine = fin false 9 (pos 0)
 
--- ---- two runs of calls, each from open on: the run of document 01, and one in which m is 3 and g is 7
+-- ---- two runs of calls, each from open on: the run of document 01, and one with m = 3 and g = 7. Each call is handed the session that the call before it returned
 
 -- the float of n seconds
 abbrev pub secondsOf : ℕ → Float
 secondsOf n = ofInt binary64 (pos n)
 
--- the settings of both runs, which differ in m alone
+-- the settings of the run of 01, which has m = 2; the other run differs in m alone
 unfoldable pub settingsWith : ℕ → Settings
 settingsWith m =
     record {
@@ -90,37 +90,25 @@ clockAt n = wordOf 3 7 ∷ (timeWords (toBits binary64 (secondsOf n)) ++ timeWor
 abbrev pub updateAt : Session → ℕ → List ℕ → Answer
 updateAt s n inbox = updateOf s (secondsOf 1) (secondsOf n) inbox 8
 
--- open, and three updates at n, n + 1 and n + 2 seconds, each with a clock message and each from the session that the call before it returned
+-- the session that open gives
 unfoldable pub opened : ℕ → Session
 opened m = openOf (settingsWith m) .session
 
--- the first of the three
+-- the first update, at n seconds, with a clock message
 unfoldable pub heardOnce : ℕ → ℕ → Reply
 heardOnce m n = updateAt (opened m) n (clockAt n) .reply
 
--- the second
+-- the second, a second later, with a clock message
 unfoldable pub heardTwice : ℕ → ℕ → Reply
 heardTwice m n = updateAt (heardOnce m n .session) (n + 1) (clockAt (n + 1)) .reply
 
--- the third
+-- the third, again a second later, with a clock message
 unfoldable pub heardThrice : ℕ → ℕ → Reply
 heardThrice m n = updateAt (heardTwice m n .session) (n + 2) (clockAt (n + 2)) .reply
 
--- the inbox of the run of 01 at 4 s: a command for the stamp 4, and a snapshot of the stamp 3
-abbrev pub inboxAtFour : List ℕ
-inboxAtFour = 0x10000004 ∷ 0x40000009 ∷ 0x20000003 ∷ 0x40000005 ∷ []
-
--- the tape at 4 s
-abbrev pub tapeAtFour : List ℕ
-tapeAtFour = 0x38000005 ∷ 0x20000009 ∷ 0x10000000 ∷ 0x28000009 ∷ 0x18000000 ∷ 0x70000000 ∷ 0 ∷ 0 ∷ []
-
--- the tape at 5 s, and at 6 s
-abbrev pub tapeAfter : List ℕ
-tapeAfter = 0x10000000 ∷ 0x18000000 ∷ 0x48000000 ∷ 0 ∷ 0 ∷ 0 ∷ 0 ∷ 0 ∷ []
-
--- the update of the run at 4 s
+-- the update of the run of 01 at 4 s, with a command for the stamp 4 and a snapshot of the stamp 3
 unfoldable pub atFour : Reply
-atFour = updateAt (heardThrice 2 1 .session) 4 inboxAtFour .reply
+atFour = updateAt (heardThrice 2 1 .session) 4 (0x10000004 ∷ 0x40000009 ∷ 0x20000003 ∷ 0x40000005 ∷ []) .reply
 
 -- the update at 5 s, with an empty inbox
 unfoldable pub atFive : Reply
@@ -130,27 +118,19 @@ atFive = updateAt (atFour .session) 5 [] .reply
 unfoldable pub atSix : Reply
 atSix = updateAt (atFive .session) 6 [] .reply
 
--- m = 3: the old stamp is 100, and a snapshot of the stamp 93 comes, so g = 7
-abbrev pub inboxBehind : List ℕ
-inboxBehind = 0x2000005d ∷ 0x40000005 ∷ []
-
--- how far behind the new world is after each of four frames
-abbrev pub behinds : List ℕ
-behinds = 5 ∷ 3 ∷ 1 ∷ 0 ∷ []
-
--- the update that plays the first frame, that of the load; each of the next plays one more
+-- m = 3: the update that plays the first frame, with a snapshot of the stamp 93 where the old stamp is 100, so g = 7
 unfoldable pub frameOne : Answer
-frameOne = updateAt (heardThrice 3 98 .session) 101 inboxBehind
+frameOne = updateAt (heardThrice 3 98 .session) 101 (0x2000005d ∷ 0x40000005 ∷ [])
 
--- the second frame
+-- the update that plays the second frame
 unfoldable pub frameTwo : Answer
 frameTwo = updateAt (frameOne .reply .session) 102 []
 
--- the third frame
+-- the update that plays the third frame
 unfoldable pub frameThree : Answer
 frameThree = updateAt (frameTwo .reply .session) 103 []
 
--- the fourth frame
+-- the update that plays the fourth frame
 unfoldable pub frameFour : Answer
 frameFour = updateAt (frameThree .reply .session) 104 []
 
@@ -164,13 +144,13 @@ loadsIn [] = []
 loadsIn (FrameFrom s ∷ es) = loadIn s ∷ loadsIn es
 loadsIn (SkipFrom s t ∷ es) = loadsIn es
 
--- how far behind the new world is after each frame of a trace
+-- how far behind the new world is after each frame of a trace, by the definition of a frame
 abbrev pub behindsIn : Settings → List Event → List ℕ
 behindsIn c [] = []
 behindsIn c (FrameFrom s ∷ es) = behindAfter c s ∷ behindsIn c es
 behindsIn c (SkipFrom s t ∷ es) = behindsIn c es
 
--- how far behind it is in the sessions of answers
+-- how far behind it is in the session of each answer
 abbrev pub behindsAfter : List Answer → List ℕ
 behindsAfter [] = []
 behindsAfter (a ∷ rest) = behindOf (a .reply .session .worlds) ∷ behindsAfter rest
@@ -182,7 +162,7 @@ pub record Shows (r : Reply) (f c : ℕ) (words : List ℕ) : Type 0 where
   pub steps : r .steps ≡ c
   pub tape : r .tape ≡ words
 
--- a report of a session with worlds and both stamps at n
+-- the report of a session in this stage that awaits a snapshot, with both stamps at n and this display time
 abbrev pub reportAt : Stage → ℕ → DisplayTime → ReportAnswer
 reportAt stage n t = record { refusal = 0; stage = stage; status = AwaitingSnapshot; old = record { 0 = n }; new = record { 0 = n }; time = t }
 
@@ -215,9 +195,9 @@ pub record Marked : Type 0 where
   -- m = 3, g = 7: the first of four frames loads 7 behind, and the others load nothing
   pub loads : loadsIn caught ≡ Loaded 7 ∷ NoLoad ∷ NoLoad ∷ NoLoad ∷ []
   -- behind 5, 3, 1, 0 after them
-  pub behind : behindsIn (settingsWith 3) caught ≡ behinds
+  pub behind : behindsIn (settingsWith 3) caught ≡ 5 ∷ 3 ∷ 1 ∷ 0 ∷ []
   -- and so in the sessions that the four updates return
-  pub left-behind : behindsAfter (frameOne ∷ frameTwo ∷ frameThree ∷ frameFour ∷ []) ≡ behinds
+  pub left-behind : behindsAfter (frameOne ∷ frameTwo ∷ frameThree ∷ frameFour ∷ []) ≡ 5 ∷ 3 ∷ 1 ∷ 0 ∷ []
   -- the run: it is opened, and the clock message at 1 s is of these words
   pub run-opened : (openOf (settingsWith 2) .refusal ≡ 0) × (clockAt 1 ≡ 0x30000007 ∷ 0x5000003f ∷ 0x5f000000 ∷ 0x50000000 ∷ 0x5000003f ∷ 0x5f000000 ∷ 0x50000000 ∷ [])
   -- the updates at 1, 2 and 3 s are accepted and play nothing
@@ -225,10 +205,10 @@ pub record Marked : Type 0 where
   -- stamps start at 3
   pub run-starts : reportOf (heardThrice 2 1 .session) ≡ reportAt SyncingInitialState 3 NotDisplayed
   -- the tape at 4 s
-  pub run-four : Shows atFour 1 1 tapeAtFour
+  pub run-four : Shows atFour 1 1 (0x38000005 ∷ 0x20000009 ∷ 0x10000000 ∷ 0x28000009 ∷ 0x18000000 ∷ 0x70000000 ∷ 0 ∷ 0 ∷ [])
   -- the tape at 5 s
-  pub run-five : Shows atFive 1 1 tapeAfter
+  pub run-five : Shows atFive 1 1 (0x10000000 ∷ 0x18000000 ∷ 0x48000000 ∷ replicate 5 0)
   -- the tape at 6 s
-  pub run-six : Shows atSix 1 1 tapeAfter
+  pub run-six : Shows atSix 1 1 (0x10000000 ∷ 0x18000000 ∷ 0x48000000 ∷ replicate 5 0)
   -- then Ready, display time 6.0
   pub run-ready : reportOf (atSix .session) ≡ reportAt Ready 6 (DisplayedAt (secondsOf 6))
