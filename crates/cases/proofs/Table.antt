@@ -1,16 +1,33 @@
--- The table of cases holds: each is computed. Assumes nothing.
+-- The table of cases holds: each row is computed. Assumes nothing.
 use mathlib.Core.Path.{refl}
-use lib.Ieee.{add, sub, mul, div, rem, round, lt, ofInt, toSigned, toUnsigned}
+use lib.Ieee.{add, sub, mul, div, rem, round, lt, le, eq, ofInt, toSigned, toUnsigned, ofBits, toBits}
 use Rattle.timestamp.specs.Timestamps.{signedOf, orderOf, inRange}
 use Rattle.timestamp.specs.Whole.{ceilOf, roundOf}
-use Rattle.timestamp.specs.FloatTimestamps.{fromUnwrapped, stampOf, ceilStampOf}
-use Rattle.settings.specs.Settings.{discardOf}
-use Rattle.clocksync.specs.Mean.{insertedOf, sortedOnto, sortedOf, sumFrom, averageOf, meanOf}
-use Rattle.cases.specs.Table.{Marked}
+use Rattle.timestamp.specs.FloatTimestamps.{fromUnwrapped, fromSeconds, stampOf, ceilStampOf}
+use Rattle.settings.specs.Settings.{lagFramesOf, discardOf, secondsPass, thresholdsPass, samplesPass, countsPass, passesOf}
+use Rattle.clocksync.specs.Offset.{offsetOf}
+use Rattle.clocksync.specs.Mean.{insertedOf as sampleInserted, sortedOnto, sortedOf, sumFrom, averageOf, meanOf}
+use Rattle.clocksync.specs.Clock.{heldOf, newOf, tickedOf, heardOf, filledOf, settledOf, samplesOk, timerOk, soundClock}
+use Rattle.inbox.specs.Inbox.{bitsOf, timeOf as inboxTime, clockOf, frontOf, messagesAfter, refusalIn, refusalOf}
+use Rattle.command.specs.Buffer.{laid, inRangeOf, dueOf, laterThan, placedOf, insertedOf, leaving, droppedOf, movedOf, takenOf, restOf, commandWords}
+use Rattle.command.specs.Soundness.{inOrderAfter, inOrder, soundBuffer}
+use Rattle.tape.specs.Words.{stepWord, commandWord, snapshotWord, publishWord, noneWord}
+use Rattle.simulation.specs.World.{scheduledOf, stepOf, loadOf}
+use Rattle.client.specs.Sides.{newSideOf, oldSideOf, worldOf, withWorld, oldStampOf, newStampOf, newWorldsOf, ledgerOf, withLedger, putOf, andThen, doneAt}
+use Rattle.client.specs.Status.{laterOf, overshotOf, newerOf, statusOf}
+use Rattle.client_receive.specs.Receive.{offeredBase, offeredSide, receivedOf, fromFutureOf, freshOf, notedOf, snapshotsBy, snapshotsOf, notesOf}
+use Rattle.client_publish.specs.Publish.{publishedNone, publishedSide, publishedOld, publishedBlended}
+use Rattle.client_frame.specs.Frame.{loadsOf, readiedWith, loadedAt, loadedOf, loadedQueued, blendedOn, openedOf, steppedSide, caughtUpOf, steppedNew, caughtOf, simulatedOf, blendedBy, shownOf, isObsolete, stopsOf, snapshotOf, openOf as frameOpened, frameOf, frameStops}
+use Rattle.client_skip.specs.Skip.{tweenOf, weightOk, timeOf, displayedOf, revisedOf, postUpdateOf}
+use Rattle.fixed_timestepper.specs.TimeKeeper.{logicalOf, driftOf, uncappedOf, compensatedOf, framed, runOf, skipsOf, maybeSkipped, finishedOf, advancedOf, updatedOf}
+use Rattle.session.specs.Sound.{queuedSound, weightSound, initSound, buffersSound, worldsSound, overshootSound, connectedOf, soundOf}
+use Rattle.inbox_passes.specs.Passes.{hasForWorlds, heardIn, receivedIn, notedIn}
+use Rattle.session.specs.Calls.{startOf, openOf, timesOk, refusedAtOnce, syncedOf, clockUpdateOf, acceptedOf, playedOf, worldsUpdateOf, updateOf, reportOf}
+use Rattle.cases.specs.Table.{Marked, settingsWith, clockAt, opened, heardOnce, heardTwice, heardThrice, atFour, atFive, atSix, frameOne, frameTwo, frameThree, frameFour, caught}
 
--- the cases that document 01 marks P
+-- the cases that document 01 marks P. The line below the signature opens what the rows compute with: the definitions of the calls, and the two runs
 pub marked : Marked
-unfolding signedOf orderOf inRange ceilOf roundOf fromUnwrapped stampOf ceilStampOf discardOf insertedOf sortedOnto sortedOf sumFrom averageOf meanOf add sub mul div rem round lt ofInt toSigned toUnsigned
+unfolding add sub mul div rem round lt le eq ofInt toSigned toUnsigned ofBits toBits signedOf orderOf inRange ceilOf roundOf fromUnwrapped fromSeconds stampOf ceilStampOf lagFramesOf discardOf secondsPass thresholdsPass samplesPass countsPass passesOf offsetOf sampleInserted sortedOnto sortedOf sumFrom averageOf meanOf heldOf newOf tickedOf heardOf filledOf settledOf samplesOk timerOk soundClock bitsOf inboxTime clockOf frontOf messagesAfter refusalIn refusalOf laid inRangeOf dueOf laterThan placedOf insertedOf leaving droppedOf movedOf takenOf restOf commandWords inOrderAfter inOrder soundBuffer stepWord commandWord snapshotWord publishWord noneWord scheduledOf stepOf loadOf newSideOf oldSideOf worldOf withWorld oldStampOf newStampOf newWorldsOf ledgerOf withLedger putOf andThen doneAt laterOf overshotOf newerOf statusOf offeredBase offeredSide receivedOf fromFutureOf freshOf notedOf snapshotsBy snapshotsOf notesOf publishedNone publishedSide publishedOld publishedBlended loadsOf readiedWith loadedAt loadedOf loadedQueued blendedOn openedOf steppedSide caughtUpOf steppedNew caughtOf simulatedOf blendedBy shownOf isObsolete stopsOf snapshotOf frameOpened frameOf frameStops tweenOf weightOk timeOf displayedOf revisedOf postUpdateOf logicalOf driftOf uncappedOf compensatedOf framed runOf skipsOf maybeSkipped finishedOf advancedOf updatedOf queuedSound weightSound initSound buffersSound worldsSound overshootSound connectedOf soundOf hasForWorlds heardIn receivedIn notedIn startOf openOf timesOk refusedAtOnce syncedOf clockUpdateOf acceptedOf playedOf worldsUpdateOf updateOf reportOf settingsWith clockAt opened heardOnce heardTwice heardThrice atFour atFive atSix frameOne frameTwo frameThree frameFour caught
 marked =
     record {
       wrap-less = refl;
@@ -24,4 +41,18 @@ marked =
       toward-zero = (refl, refl);
       mean = (refl, refl);
       tween = refl;
+      loads = refl;
+      behind = refl;
+      left-behind = refl;
+      run-opened = (refl, refl);
+      run-syncs = (
+        record { refusal = refl; frames = refl; steps = refl; tape = refl },
+        record { refusal = refl; frames = refl; steps = refl; tape = refl },
+        record { refusal = refl; frames = refl; steps = refl; tape = refl },
+      );
+      run-starts = refl;
+      run-four = record { refusal = refl; frames = refl; steps = refl; tape = refl };
+      run-five = record { refusal = refl; frames = refl; steps = refl; tape = refl };
+      run-six = record { refusal = refl; frames = refl; steps = refl; tape = refl };
+      run-ready = refl;
     }

@@ -1,17 +1,31 @@
 -- The cases that document 01 marks P, in its order, as one table about the definitions. proofs/Table proves it.
 -- A stamp is given by its signed number; `pos n` is n, and `negsuc n` is -(n + 1). A float `fin s m e` is m * 2 ^ e, negative where s is true.
+use Prim.Native.Nat.{ℕ, _+_, _/_, _%_, _^_}
 use mathlib.Core.Path.{_≡_}
 use mathlib.Core.Bool.{true, false}
-use mathlib.Core.List.{[], _∷_}
+use mathlib.Core.List.{List, [], _∷_, _++_}
 use lib.IntN.{pos, negsuc}
-use lib.Ieee.{Float, fin}
+use lib.ListN.{replicate}
+use lib.Ieee.{Float, fin, binary64, ofInt, toBits}
 use Rattle.timestamp.specs.declared.Ordering.the-variants.{Less}
 use Rattle.timestamp.specs.Timestamps.{bitsOf, orderOf, inRange}
 use Rattle.timestamp.specs.FloatTimestamps.{fromUnwrapped, stampOf, ceilStampOf}
-use Rattle.settings.specs.declared.TweeningMethod.the-variants.{Nearest}
+use Rattle.settings.specs.declared.TweeningMethod.the-variants.{Nearest, Interpolated}
+use Rattle.settings.specs.declared.Settings.{Settings}
 use Rattle.settings.specs.Settings.{discardOf, storeOf}
 use Rattle.settings.specs.Tweening.{shapedOf}
 use Rattle.clocksync.specs.Mean.{meanOf}
+use Rattle.tape.specs.Words.{wordOf}
+use Rattle.client.specs.declared.DisplayTime.{DisplayTime}
+use Rattle.client.specs.declared.DisplayTime.the-variants.{NotDisplayed, DisplayedAt}
+use Rattle.client.specs.declared.ReconciliationStatus.the-variants.{AwaitingSnapshot}
+use Rattle.fixed_timestepper.specs.TimeKeeper.{Event, FrameFrom, SkipFrom}
+use Rattle.session.specs.declared.Stage.{Stage}
+use Rattle.session.specs.declared.Stage.the-variants.{SyncingInitialState, Ready}
+use Rattle.session.specs.declared.Session.{Session}
+use Rattle.session.specs.declared.ReportAnswer.{ReportAnswer}
+use Rattle.session.specs.Calls.{Reply, Answer, openOf, updateOf, reportOf}
+use Rattle.demand.specs.Demand.{Load, NoLoad, Loaded, loadIn, behindOf, behindAfter}
 
 -- the float 32,768.0
 abbrev pub at-half : Float
@@ -41,7 +55,120 @@ four = fin false 1 (pos 2)
 abbrev pub nine : Float
 nine = fin false 9 (pos 0)
 
--- the table: the nine facts on stamps and frame counts, the mean, and the 0.5 tween
+-- ---- two runs of calls, each from open on: the run of document 01, and one with m = 3 and g = 7. Each call is handed the session that the call before it returned
+
+-- the float of n seconds
+abbrev pub secondsOf : ℕ → Float
+secondsOf n = ofInt binary64 (pos n)
+
+-- the settings of the run of 01, which has m = 2; the other run differs in m alone
+unfoldable pub settingsWith : ℕ → Settings
+settingsWith m =
+    record {
+      timestep = secondsOf 1;
+      blend = secondsOf 2;
+      lag = secondsOf 0;
+      period = secondsOf 100;
+      deviation = secondsOf 1;
+      skip = secondsOf 10;
+      max = secondsOf 4;
+      needed = 1;
+      rate = nought;
+      m = m;
+      method = Interpolated;
+    }
+
+-- the bits of a time as three words of kind 5: 8, 28 and 28 bits, high first
+abbrev pub timeWords : ℕ → List ℕ
+timeWords bits = wordOf 5 (bits / 2 ^ 56) ∷ wordOf 5 (bits / 2 ^ 28 % 2 ^ 28) ∷ wordOf 5 (bits % 2 ^ 28) ∷ []
+
+-- a clock message of client 7, whose send time and server time are n seconds
+unfoldable pub clockAt : ℕ → List ℕ
+clockAt n = wordOf 3 7 ∷ (timeWords (toBits binary64 (secondsOf n)) ++ timeWords (toBits binary64 (secondsOf n)))
+
+-- an update of delta 1 at n seconds, with a tape of 8 words
+abbrev pub updateAt : Session → ℕ → List ℕ → Answer
+updateAt s n inbox = updateOf s (secondsOf 1) (secondsOf n) inbox 8
+
+-- the session that open gives
+unfoldable pub opened : ℕ → Session
+opened m = openOf (settingsWith m) .session
+
+-- the first update, at n seconds, with a clock message
+unfoldable pub heardOnce : ℕ → ℕ → Reply
+heardOnce m n = updateAt (opened m) n (clockAt n) .reply
+
+-- the second, a second later, with a clock message
+unfoldable pub heardTwice : ℕ → ℕ → Reply
+heardTwice m n = updateAt (heardOnce m n .session) (n + 1) (clockAt (n + 1)) .reply
+
+-- the third, again a second later, with a clock message
+unfoldable pub heardThrice : ℕ → ℕ → Reply
+heardThrice m n = updateAt (heardTwice m n .session) (n + 2) (clockAt (n + 2)) .reply
+
+-- the update of the run of 01 at 4 s, with a command for the stamp 4 and a snapshot of the stamp 3
+unfoldable pub atFour : Reply
+atFour = updateAt (heardThrice 2 1 .session) 4 (0x10000004 ∷ 0x40000009 ∷ 0x20000003 ∷ 0x40000005 ∷ []) .reply
+
+-- the update at 5 s, with an empty inbox
+unfoldable pub atFive : Reply
+atFive = updateAt (atFour .session) 5 [] .reply
+
+-- the update at 6 s, with an empty inbox
+unfoldable pub atSix : Reply
+atSix = updateAt (atFive .session) 6 [] .reply
+
+-- m = 3: the update that plays the first frame, with a snapshot of the stamp 93 where the old stamp is 100, so g = 7
+unfoldable pub frameOne : Answer
+frameOne = updateAt (heardThrice 3 98 .session) 101 (0x2000005d ∷ 0x40000005 ∷ [])
+
+-- the update that plays the second frame
+unfoldable pub frameTwo : Answer
+frameTwo = updateAt (frameOne .reply .session) 102 []
+
+-- the update that plays the third frame
+unfoldable pub frameThree : Answer
+frameThree = updateAt (frameTwo .reply .session) 103 []
+
+-- the update that plays the fourth frame
+unfoldable pub frameFour : Answer
+frameFour = updateAt (frameThree .reply .session) 104 []
+
+-- what happened in the four updates
+unfoldable pub caught : List Event
+caught = frameOne .trace ++ (frameTwo .trace ++ (frameThree .trace ++ frameFour .trace))
+
+-- the loads of the frames of a trace
+abbrev pub loadsIn : List Event → List Load
+loadsIn [] = []
+loadsIn (FrameFrom s ∷ es) = loadIn s ∷ loadsIn es
+loadsIn (SkipFrom s t ∷ es) = loadsIn es
+
+-- how far behind the new world is after each frame of a trace, by the definition of a frame
+abbrev pub behindsIn : Settings → List Event → List ℕ
+behindsIn c [] = []
+behindsIn c (FrameFrom s ∷ es) = behindAfter c s ∷ behindsIn c es
+behindsIn c (SkipFrom s t ∷ es) = behindsIn c es
+
+-- how far behind it is in the session of each answer
+abbrev pub behindsAfter : List Answer → List ℕ
+behindsAfter [] = []
+behindsAfter (a ∷ rest) = behindOf (a .reply .session .worlds) ∷ behindsAfter rest
+
+-- an update was accepted, with F, C and this tape
+pub record Shows (r : Reply) (f c : ℕ) (words : List ℕ) : Type 0 where
+  pub refusal : r .refusal ≡ 0
+  pub frames : r .frames ≡ f
+  pub steps : r .steps ≡ c
+  pub tape : r .tape ≡ words
+
+-- the report of a session in this stage that awaits a snapshot, with both stamps at n and this display time
+abbrev pub reportAt : Stage → ℕ → DisplayTime → ReportAnswer
+reportAt stage n t = record { refusal = 0; stage = stage; status = AwaitingSnapshot; old = record { 0 = n }; new = record { 0 = n }; time = t }
+
+-- ---- the table
+
+-- the table: the nine facts on stamps and frame counts, the mean, the 0.5 tween, the catching up with m = 3 and g = 7, and the run
 pub record Marked : Type 0 where
   -- 32,767 is less than -32,768
   pub wrap-less : orderOf (bitsOf (pos 32767)) (bitsOf (negsuc 32767)) ≡ Less
@@ -65,3 +192,23 @@ pub record Marked : Type 0 where
   pub mean : (storeOf 1 nought ≡ 3) × (meanOf (discardOf 1 nought) (nine ∷ one ∷ four ∷ []) ≡ four)
   -- a tween weight of 0.5, shaped by rounding half away from zero, is 1
   pub tween : shapedOf Nearest (fin false 1 (negsuc 0)) ≡ one
+  -- m = 3, g = 7: the first of four frames loads 7 behind, and the others load nothing
+  pub loads : loadsIn caught ≡ Loaded 7 ∷ NoLoad ∷ NoLoad ∷ NoLoad ∷ []
+  -- behind 5, 3, 1, 0 after them
+  pub behind : behindsIn (settingsWith 3) caught ≡ 5 ∷ 3 ∷ 1 ∷ 0 ∷ []
+  -- and so in the sessions that the four updates return
+  pub left-behind : behindsAfter (frameOne ∷ frameTwo ∷ frameThree ∷ frameFour ∷ []) ≡ 5 ∷ 3 ∷ 1 ∷ 0 ∷ []
+  -- the run: it is opened, and the clock message at 1 s is of these words
+  pub run-opened : (openOf (settingsWith 2) .refusal ≡ 0) × (clockAt 1 ≡ 0x30000007 ∷ 0x5000003f ∷ 0x5f000000 ∷ 0x50000000 ∷ 0x5000003f ∷ 0x5f000000 ∷ 0x50000000 ∷ [])
+  -- the updates at 1, 2 and 3 s are accepted and play nothing
+  pub run-syncs : Shows (heardOnce 2 1) 0 0 (replicate 8 0) × Shows (heardTwice 2 1) 0 0 (replicate 8 0) × Shows (heardThrice 2 1) 0 0 (replicate 8 0)
+  -- stamps start at 3
+  pub run-starts : reportOf (heardThrice 2 1 .session) ≡ reportAt SyncingInitialState 3 NotDisplayed
+  -- the tape at 4 s
+  pub run-four : Shows atFour 1 1 (0x38000005 ∷ 0x20000009 ∷ 0x10000000 ∷ 0x28000009 ∷ 0x18000000 ∷ 0x70000000 ∷ 0 ∷ 0 ∷ [])
+  -- the tape at 5 s
+  pub run-five : Shows atFive 1 1 (0x10000000 ∷ 0x18000000 ∷ 0x48000000 ∷ replicate 5 0)
+  -- the tape at 6 s
+  pub run-six : Shows atSix 1 1 (0x10000000 ∷ 0x18000000 ∷ 0x48000000 ∷ replicate 5 0)
+  -- then Ready, display time 6.0
+  pub run-ready : reportOf (atSix .session) ≡ reportAt Ready 6 (DisplayedAt (secondsOf 6))
