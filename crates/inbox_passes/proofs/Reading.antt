@@ -14,7 +14,8 @@ use Rattle.client.specs.declared.Received.{Received}
 use Rattle.client.specs.declared.ClientWorldSimulations.{ClientWorldSimulations}
 use Rattle.client_receive.specs.Receive.{alsoFull}
 use Rattle.inbox_passes.specs.declared.Hearing.{Hearing}
-use Rattle.inbox_passes.specs.Passes.{isForWorlds, metOne, metIn, hasForWorlds, hearOne, hearNext, hearIn, heardIn, receiveOne, receivedIn, noteOne, notedIn}
+use Rattle.inbox_passes.specs.Passes.{isForWorlds, metOne, hasForWorlds, hearOne, heardIn, receiveOne, receivedIn, noteOne, notedIn}
+use Rattle.inbox_passes.specs.Inner.{metIn, hearNext, hearIn}
 
 -- a message that is no clock message is passed over
 pub hear-other : (seconds : Float) (h : Heard) (m : Message) → isClock m ≡ false → h ≡ hearOne seconds h m

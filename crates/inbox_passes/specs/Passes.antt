@@ -1,7 +1,7 @@
 -- The reading of an inbox: document 01, "Inbox and tape". Clock messages are read first, then commands, then snapshots: three passes, each a fold over the messages.
 -- Definitions only. Assumes nothing.
 use Prim.Native.Nat.{ℕ}
-use mathlib.Core.Bool.{Bool, true, false, _||_}
+use mathlib.Core.Bool.{Bool, true, false}
 use mathlib.Core.List.{List}
 use lib.Ieee.{Float}
 use Rattle.inbox.specs.declared.Message.{Message}
@@ -13,7 +13,6 @@ use Rattle.clocksync.specs.Clock.{heardOf}
 use Rattle.client.specs.declared.Received.{Received}
 use Rattle.client.specs.declared.ClientWorldSimulations.{ClientWorldSimulations}
 use Rattle.client_receive.specs.Receive.{receivedOf, alsoFull, notesOf}
-use Rattle.inbox_passes.specs.declared.Hearing.{Hearing}
 
 -- a message is a command or a snapshot
 abbrev pub isForWorlds : Message → Bool
@@ -33,10 +32,6 @@ metOne found BadTime = found
 metOne found WrongWord = found
 metOne found CutShort = found
 
--- an inbox has one of those, or one was met before
-unfoldable pub metIn : List ℕ → Bool → Bool
-metIn words found = found || some isForWorlds (messagesOf words)
-
 -- an inbox has a command or a snapshot
 unfoldable pub hasForWorlds : List ℕ → Bool
 hasForWorlds words = some isForWorlds (messagesOf words)
@@ -49,14 +44,6 @@ hearOne seconds h (Clock i s t) = heardOf seconds h i s t
 hearOne seconds h BadTime = h
 hearOne seconds h WrongWord = h
 hearOne seconds h CutShort = h
-
--- the same, where the client's time stands beside what was heard
-abbrev pub hearNext : Hearing → Message → Hearing
-hearNext a m = record { heard = hearOne (a .seconds) (a .heard) m; seconds = a .seconds }
-
--- the first pass, where the client's time stands beside what was heard
-unfoldable pub hearIn : List ℕ → Hearing → Hearing
-hearIn words a = over hearNext a (messagesOf words)
 
 -- the first pass: clock messages
 unfoldable pub heardIn : Float → List ℕ → Heard → Heard

@@ -1,7 +1,8 @@
 // The three passes over an inbox: clock messages, commands, snapshots. Each goes from message to message by a reader that keeps the
 // inbox's words and a position.
 ghost use mathlib.Core.Path.{_≡_};
-ghost use Rattle.inbox_passes.specs.Passes.{metOne, metIn, hasForWorlds, hearNext, hearIn, heardIn, receiveOne, receivedIn, noteOne, notedIn};
+ghost use Rattle.inbox_passes.specs.Passes.{metOne, hasForWorlds, heardIn, receiveOne, receivedIn, noteOne, notedIn};
+ghost use Rattle.inbox_passes.specs.Inner.{metIn, hearNext, hearIn};
 use client::ClientWorldSimulations;
 use client::Received;
 use clocksync::Heard;

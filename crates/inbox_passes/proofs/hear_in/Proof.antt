@@ -13,7 +13,7 @@ use Rattle.inbox.proofs.reader.next.Symbol as next-def
 use Rattle.inbox.proofs.reader.next.Met as next-thm
 use Rattle.inbox.proofs.reader.moved.Symbol as moved-def
 use Rattle.inbox.proofs.reader.moved.Met as moved-thm
-use Rattle.inbox_passes.specs.Passes.{hearNext, hearIn}
+use Rattle.inbox_passes.specs.Inner.{hearNext, hearIn}
 use Rattle.inbox_passes.proofs.Reading.{hear-folds}
 use Rattle.inbox_passes.proofs.hear_one.Symbol as take-def
 use Rattle.inbox_passes.proofs.hear_one.Met as take-thm

@@ -16,7 +16,8 @@ use Rattle.inbox.proofs.reader.next.Symbol as next-def
 use Rattle.inbox.proofs.reader.next.Met as next-thm
 use Rattle.inbox.proofs.reader.moved.Symbol as moved-def
 use Rattle.inbox.proofs.reader.moved.Met as moved-thm
-use Rattle.inbox_passes.specs.Passes.{metOne, metIn}
+use Rattle.inbox_passes.specs.Passes.{metOne}
+use Rattle.inbox_passes.specs.Inner.{metIn}
 use Rattle.inbox_passes.proofs.Reading.{met-folds}
 use Rattle.inbox_passes.proofs.met_one.Symbol as take-def
 use Rattle.inbox_passes.proofs.met_one.Met as take-thm
