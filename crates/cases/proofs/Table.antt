@@ -31,7 +31,7 @@ unfolding add sub mul div rem round lt le eq ofInt toSigned toUnsigned ofBits to
 marked =
     record {
       wrap-less = refl;
-      half-lap = (refl, refl);
+      half-cycle = (refl, refl);
       low-in = refl;
       high-in = refl;
       low-out = refl;

@@ -173,7 +173,7 @@ pub record Marked : Type 0 where
   -- 32,767 is less than -32,768
   pub wrap-less : orderOf (bitsOf (pos 32767)) (bitsOf (negsuc 32767)) ≡ Less
   -- 0 and -32,768 are each Less than the other
-  pub half-lap : (orderOf (bitsOf (pos 0)) (bitsOf (negsuc 32767)) ≡ Less) × (orderOf (bitsOf (negsuc 32767)) (bitsOf (pos 0)) ≡ Less)
+  pub half-cycle : (orderOf (bitsOf (pos 0)) (bitsOf (negsuc 32767)) ≡ Less) × (orderOf (bitsOf (negsuc 32767)) (bitsOf (pos 0)) ≡ Less)
   -- around 100, -16,283 is in the accepted range
   pub low-in : inRange (bitsOf (pos 100)) (bitsOf (negsuc 16282)) ≡ true
   -- and so is 16,482

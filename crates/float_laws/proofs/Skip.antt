@@ -18,7 +18,7 @@ use Rattle.float_laws.proofs.Bounds.{held-eqv, diffQ, held-diff, Betwee
 use Rattle.float_laws.proofs.Within.{wholeQ, InUnit, held-whole}
 use Rattle.float_laws.proofs.Timestep.{Step, least-unsigned, step-positive, step-nonneg, mul-step-low, div-least-low, unitsOf, units-least, units-most, units-under, units-over}
 use Rattle.float_laws.proofs.Overshoot.{tweenWeight, mul-unit}
-use Rattle.float_laws.proofs.Wrap.{halfLap, wrap, wrap-near, wrap-unit, wrap-lap}
+use Rattle.float_laws.proofs.Wrap.{halfCycle, wrap, wrap-near, wrap-unit, wrap-cycle}
 
 -- Where c - x is from 0 to 1, the overshoot is from 0 to the timestep.
 pub skip-in : (z t : Float) → Step t → InUnit z → Between (val zeroF) (mul binary64 (wrap z) t) (val t)
@@ -26,7 +26,7 @@ skip-in z t s w = mul-unit (wrap z) t (s .fits-t) (s .finite-t) (step-nonneg t s
 
 -- ---- a target above the last stamp
 
--- The float 32,767, the last stamp of a lap.
+-- The float 32,767, the last stamp of a cycle.
 abbrev pub lastStamp : Float
 lastStamp = fin false 32767 (pos 0)
 
@@ -35,12 +35,12 @@ abbrev pub firstStamp : Float
 firstStamp = fin true 1 (pos 15)
 
 -- Where x is above 32,767 and c is -32,768, the overshoot is from 0 to the timestep.
-pub skip-lap : (x t : Float) → T (finite x) → T (lt lastStamp x) → T (le x halfLap) → Step t → Between (val zeroF) (mul binary64 (wrap (sub binary64 firstStamp x)) t) (val t)
-skip-lap x t p h k s =
+pub skip-cycle : (x t : Float) → T (finite x) → T (lt lastStamp x) → T (le x halfCycle) → Step t → Between (val zeroF) (mul binary64 (wrap (sub binary64 firstStamp x)) t) (val t)
+skip-cycle x t p h k s =
     let z = sub binary64 firstStamp x in
     let w = sub-between binary64 (wholeQ true (2 ^ 16)) (wholeQ true (2 ^ 16 - 1)) firstStamp x (held-whole true (2 ^ 16) (lit< tt)) (held-whole true (2 ^ 16 - 1) (lit< tt)) tt p
-    (omega (arith, le-to-val x halfLap p tt k)) (omega (arith, lt-to-val lastStamp x tt p h)) in
-    mul-unit (wrap z) t (s .fits-t) (s .finite-t) (step-nonneg t s) (wrap-lap z w)
+    (omega (arith, le-to-val x halfCycle p tt k)) (omega (arith, lt-to-val lastStamp x tt p h)) in
+    mul-unit (wrap z) t (s .fits-t) (s .finite-t) (step-nonneg t s) (wrap-cycle z w)
 
 -- A value above 32,767 has at most 38 digits below the point.
 small-exp : (m k : ℕ) → m < 2 ^ 53 → 32767 * 2 ^ k < m → k ≤ 38
@@ -77,7 +77,7 @@ above-last x t p h = go x t p (lt-to-val lastStamp x tt p h)
         omega (arith, up-one (suc m) (2 ^ j) (2 ^ suc k) P (pow-pos j) i)
 
 -- 32,767 - x is from -1 to -2 ^ -38, and wrapping leaves it there.
-past : (x : Float) → T (fits binary64 x) → T (finite x) → T (lt lastStamp x) → T (le x halfLap) → Between (diffQ 0 (2 ^ 38) 38) (wrap (sub binary64 lastStamp x)) (diffQ 0 1 38)
+past : (x : Float) → T (fits binary64 x) → T (finite x) → T (lt lastStamp x) → T (le x halfCycle) → Between (diffQ 0 (2 ^ 38) 38) (wrap (sub binary64 lastStamp x)) (diffQ 0 1 38)
 past x t p h k =
     let L = held-diff binary64 0 (2 ^ 38) 38 (lit≤ tt) (lit< tt) (lit< tt) in
     let H = held-diff binary64 0 1 38 (lit≤ tt) (lit< tt) (lit< tt) in
@@ -85,7 +85,7 @@ past x t p h k =
     (held-eqv binary64 (wholeQ false 32767) (diffQ (0 + 2 ^ 53) (2 ^ 38) 38) (held-whole false 32767 (lit< tt)) (lit≤ tt, lit≤ tt))
     (held-eqv binary64 (diffQ (2 ^ 53 - 1) 0 38) (diffQ (0 + 2 ^ 53) 1 38) (held-diff binary64 (2 ^ 53 - 1) 0 38 (lit≤ tt) (lit< tt) (lit< tt)) (lit≤ tt, lit≤ tt))
     (lit≤ tt) (lit< tt)
-    (sub-between binary64 (diffQ 0 (2 ^ 38) 38) (diffQ 0 1 38) lastStamp x L H tt p (omega (arith, le-to-val x halfLap p tt k)) (omega (arith, above-last x t p h)))
+    (sub-between binary64 (diffQ 0 (2 ^ 38) 38) (diffQ 0 1 38) lastStamp x L H tt p (omega (arith, le-to-val x halfCycle p tt k)) (omega (arith, above-last x t p h)))
 
 -- In seconds: at most -u / 2 ^ 55, where u is the units of t.
 past-seconds : (y t : Float) → Step t → Between (diffQ 0 (2 ^ 38) 38) y (diffQ 0 1 38) → Between (wholeQ true 1) (mul binary64 y t) (diffQ 0 (unitsOf t) 55)
@@ -117,7 +117,7 @@ past-share o t s b =
         omega arith
 
 -- Where x is above 32,767 and c is 32,767, the tween weight of the overshoot is above 1.
-pub skip-out : (x t : Float) → T (fits binary64 x) → T (finite x) → T (lt lastStamp x) → T (le x halfLap) → Step t → T (lt oneF (tweenWeight (mul binary64 (wrap (sub binary64 lastStamp x)) t) t))
+pub skip-out : (x t : Float) → T (fits binary64 x) → T (finite x) → T (lt lastStamp x) → T (le x halfCycle) → Step t → T (lt oneF (tweenWeight (mul binary64 (wrap (sub binary64 lastStamp x)) t) t))
 skip-out x t f p h k s =
     let y = wrap (sub binary64 lastStamp x) in
     let o = mul binary64 y t in

@@ -1,4 +1,4 @@
--- A frame count wrapped to half a lap either side of 0, a lap being 65,536 frames.
+-- A frame count wrapped to half a cycle either side of 0, a cycle being 65,536 frames.
 use mathlib.Core.Path.{_≡_, refl, sym, subst}
 use Prim.Native.Nat.{ℕ, _+_, _-_, _*_, _≤_, _<_, _^_}
 use native.Mathlib.Nat.{mul-le-mul-right, mul-lt-mul-of-pos-right}
@@ -17,44 +17,44 @@ use Rattle.float_laws.proofs.Within.{wholeQ, Within, InUnit, held-whole
 use Rattle.float_laws.proofs.Remainder.{rem-within, rem-keeps}
 
 -- The float 32,768.
-abbrev pub halfLap : Float
-halfLap = fin false 1 (pos 15)
+abbrev pub halfCycle : Float
+halfCycle = fin false 1 (pos 15)
 
 -- The float 65,536.
-abbrev lap : Float
-lap = fin false 1 (pos 16)
+abbrev cycle : Float
+cycle = fin false 1 (pos 16)
 
--- A lap is added to a remainder below 0.
+-- A cycle is added to a remainder below 0.
 abbrev upward : Float → Float
-upward r = cond (lt r zeroF) (add binary64 r lap) r
+upward r = cond (lt r zeroF) (add binary64 r cycle) r
 
 -- The frame count x wrapped: (x + 32,768) rem 65,536 - 32,768, the remainder never negative.
 abbrev pub wrap : Float → Float
-wrap x = sub binary64 (upward (rem binary64 (add binary64 x halfLap) lap)) halfLap
+wrap x = sub binary64 (upward (rem binary64 (add binary64 x halfCycle) cycle)) halfCycle
 
-fits-lap : T (fits binary64 lap)
+fits-cycle : T (fits binary64 cycle)
 unfolding fits
-fits-lap = tt
+fits-cycle = tt
 
--- A remainder within a lap is moved to 0 to a lap.
+-- A remainder within a cycle is moved to 0 to a cycle.
 upward-in : (r : Float) → Within r (2 ^ 16) → Between (wholeQ false 0) (upward r) (wholeQ false (2 ^ 16))
 upward-in r w = go (lt r zeroF) (λ (t : T (lt r zeroF)). float-le-of-lt r zeroF (w .0) tt t) (λ (t : T (not (lt r zeroF))). float-le-of-not-lt r zeroF (w .0) tt t)
   where
-    go : (b : Bool) → (T b → T (le r zeroF)) → (T (not b) → T (le zeroF r)) → Between (wholeQ false 0) (cond b (add binary64 r lap) r) (wholeQ false (2 ^ 16))
+    go : (b : Bool) → (T b → T (le r zeroF)) → (T (not b) → T (le zeroF r)) → Between (wholeQ false 0) (cond b (add binary64 r cycle) r) (wholeQ false (2 ^ 16))
     go true h k =
-        add-between binary64 (wholeQ false 0) (wholeQ false (2 ^ 16)) r lap (held-whole false 0 (lit< tt)) (held-whole false (2 ^ 16) (lit< tt)) (w .0) tt
+        add-between binary64 (wholeQ false 0) (wholeQ false (2 ^ 16)) r cycle (held-whole false 0 (lit< tt)) (held-whole false (2 ^ 16) (lit< tt)) (w .0) tt
         (omega (arith, w .1)) (omega (arith, le-to-val r zeroF (w .0) tt (h tt)))
     go false h k = (w .0, omega (arith, le-to-val zeroF r tt (w .0) (k tt)), w .2)
 
 -- A frame count within 2 ^ 52 is wrapped to one within 32,768.
 pub wrap-within : (x : Float) → Within x (2 ^ 52) → Within (wrap x) (2 ^ 15)
 wrap-within x h =
-    let g = add binary64 x halfLap in
-    let G = add-within x halfLap (2 ^ 52) (2 ^ 15) (lit< tt) h (tt, lit≤ tt, lit≤ tt) in
-    let r = rem binary64 g lap in
-    let R = rem-within g lap fits-lap (G .0) tt in
+    let g = add binary64 x halfCycle in
+    let G = add-within x halfCycle (2 ^ 52) (2 ^ 15) (lit< tt) h (tt, lit≤ tt, lit≤ tt) in
+    let r = rem binary64 g cycle in
+    let R = rem-within g cycle fits-cycle (G .0) tt in
     let U = upward-in r (R .0, R .1, R .2) in
-    sub-between binary64 _ _ (upward r) halfLap (held-whole true _ (lit< tt)) (held-whole false _ (lit< tt)) (U .0) tt
+    sub-between binary64 _ _ (upward r) halfCycle (held-whole true _ (lit< tt)) (held-whole false _ (lit< tt)) (U .0) tt
     (omega (arith, U .1)) (omega (arith, U .2))
 
 -- ---- what is near 0 stays where it is
@@ -63,23 +63,23 @@ wrap-within x h =
 upward-is : (r : Float) → T (finite r) → T (le zeroF r) → upward r ≡ r
 upward-is r p h = go (lt r zeroF) (λ (k : T (lt r zeroF)). omega (arith, le-to-val zeroF r tt p h, lt-to-val r zeroF p tt k))
   where
-    go : (b : Bool) → (T b → ⊥) → cond b (add binary64 r lap) r ≡ r
+    go : (b : Bool) → (T b → ⊥) → cond b (add binary64 r cycle) r ≡ r
     go true k = absurd (k tt)
     go false k = refl
 
--- What lies between two numbers nearer to 0 than half a lap stays between them, where the format holds them and what lies half a lap above them.
--- The numbers are (pl - nl) / 2 ^ 38 and (ph - nh) / 2 ^ 38; half a lap is 2 ^ 53 of these units.
+-- What lies between two numbers nearer to 0 than half a cycle stays between them, where the format holds them and what lies half a cycle above them.
+-- The numbers are (pl - nl) / 2 ^ 38 and (ph - nh) / 2 ^ 38; half a cycle is 2 ^ 53 of these units.
 pub wrap-near : (pl nl ph nh : ℕ) (z : Float) → Held binary64 (diffQ pl nl 38) → Held binary64 (diffQ ph nh 38) → Held binary64 (diffQ (pl + 2 ^ 53) nl 38) → Held binary64 (diffQ (ph + 2 ^ 53) nh 38)
     → nl ≤ pl + 2 ^ 53 → ph < 2 ^ 53 + nh → Between (diffQ pl nl 38) z (diffQ ph nh 38) → Between (diffQ pl nl 38) (wrap z) (diffQ ph nh 38)
 wrap-near pl nl ph nh z L H L' H' a b w =
-    let g = add binary64 z halfLap in
-    let G = add-between binary64 (diffQ (pl + 2 ^ 53) nl 38) (diffQ (ph + 2 ^ 53) nh 38) z halfLap L' H' (w .0) tt
+    let g = add binary64 z halfCycle in
+    let G = add-between binary64 (diffQ (pl + 2 ^ 53) nl 38) (diffQ (ph + 2 ^ 53) nh 38) z halfCycle L' H' (w .0) tt
     (omega (arith, w .1)) (omega (arith, w .2)) in
-    let r = rem binary64 g lap in
-    let R = rem-keeps (diffQ (pl + 2 ^ 53) nl 38) (diffQ (ph + 2 ^ 53) nh 38) g lap (add-fits binary64 z halfLap) tt
-    (g-above (pnum g) (nnum g) (den g) (den-pos g) (G .1)) (g-lap (pnum g) (nnum g) (den g) (den-pos g) (G .2)) G in
-    subst (λ (y : Float). Between (diffQ pl nl 38) (sub binary64 y halfLap) (diffQ ph nh 38)) (sym (upward-is r (R .0) (le-of-val zeroF r tt (R .0) (r-pos (pnum r) (nnum r) (den r) (R .1)))))
-    (sub-between binary64 (diffQ pl nl 38) (diffQ ph nh 38) r halfLap L H (R .0) tt (omega (arith, R .1)) (omega (arith, R .2)))
+    let r = rem binary64 g cycle in
+    let R = rem-keeps (diffQ (pl + 2 ^ 53) nl 38) (diffQ (ph + 2 ^ 53) nh 38) g cycle (add-fits binary64 z halfCycle) tt
+    (g-above (pnum g) (nnum g) (den g) (den-pos g) (G .1)) (g-cycle (pnum g) (nnum g) (den g) (den-pos g) (G .2)) G in
+    subst (λ (y : Float). Between (diffQ pl nl 38) (sub binary64 y halfCycle) (diffQ ph nh 38)) (sym (upward-is r (R .0) (le-of-val zeroF r tt (R .0) (r-pos (pnum r) (nnum r) (den r) (R .1)))))
+    (sub-between binary64 (diffQ pl nl 38) (diffQ ph nh 38) r halfCycle L H (R .0) tt (omega (arith, R .1)) (omega (arith, R .2)))
   where
     r-pos : (p n d : ℕ) → (pl + 2 ^ 53) * d + n * 2 ^ 38 ≤ p * 2 ^ 38 + nl * d → 0 * 1 * d + n * 1 ≤ p * 1 + 0 * d
     r-pos p n d h = let u = mul-le-mul-right d a in omega arith
@@ -87,8 +87,8 @@ wrap-near pl nl ph nh z L H L' H' a b w =
     g-above : (p n d : ℕ) → 0 < d → (pl + 2 ^ 53) * d + n * 2 ^ 38 ≤ p * 2 ^ 38 + nl * d → 0 * d + n * 1 < p * 1 + 1 * 2 ^ 16 * d
     g-above p n d D h = let u = mul-le-mul-right d a in omega arith
 
-    g-lap : (p n d : ℕ) → 0 < d → p * 2 ^ 38 + nh * d ≤ (ph + 2 ^ 53) * d + n * 2 ^ 38 → p * 1 + 0 * d < 1 * 2 ^ 16 * d + n * 1
-    g-lap p n d D h = let u = mul-lt-mul-of-pos-right b D in omega arith
+    g-cycle : (p n d : ℕ) → 0 < d → p * 2 ^ 38 + nh * d ≤ (ph + 2 ^ 53) * d + n * 2 ^ 38 → p * 1 + 0 * d < 1 * 2 ^ 16 * d + n * 1
+    g-cycle p n d D h = let u = mul-lt-mul-of-pos-right b D in omega arith
 
 -- What is from 0 to 1 stays there.
 pub wrap-unit : (z : Float) → InUnit z → InUnit (wrap z)
@@ -100,28 +100,28 @@ wrap-unit z w =
     (lit≤ tt) (lit< tt)
     (between-widen (val zeroF) (val oneF) (diffQ 0 0 38) (diffQ (2 ^ 38) 0 38) z (lit≤ tt) (lit≤ tt) w))
 
--- ---- what is a lap below 0 to 1
+-- ---- what is a cycle below 0 to 1
 
--- A remainder below 0 has a lap added.
-upward-neg : (r : Float) → T (lt r zeroF) → upward r ≡ add binary64 r lap
+-- A remainder below 0 has a cycle added.
+upward-neg : (r : Float) → T (lt r zeroF) → upward r ≡ add binary64 r cycle
 upward-neg r h = go (lt r zeroF) h
   where
-    go : (b : Bool) → T b → cond b (add binary64 r lap) r ≡ add binary64 r lap
+    go : (b : Bool) → T b → cond b (add binary64 r cycle) r ≡ add binary64 r cycle
     go true k = refl
     go false k = absurd k
 
 -- What is from -65,536 to -65,535 is wrapped to 0 to 1.
-pub wrap-lap : (z : Float) → Between (wholeQ true (2 ^ 16)) z (wholeQ true (2 ^ 16 - 1)) → InUnit (wrap z)
-wrap-lap z w =
-    let g = add binary64 z halfLap in
-    let G = add-between binary64 (wholeQ true (2 ^ 15)) (wholeQ true (2 ^ 15 - 1)) z halfLap (held-whole true (2 ^ 15) (lit< tt)) (held-whole true (2 ^ 15 - 1) (lit< tt)) (w .0) tt
+pub wrap-cycle : (z : Float) → Between (wholeQ true (2 ^ 16)) z (wholeQ true (2 ^ 16 - 1)) → InUnit (wrap z)
+wrap-cycle z w =
+    let g = add binary64 z halfCycle in
+    let G = add-between binary64 (wholeQ true (2 ^ 15)) (wholeQ true (2 ^ 15 - 1)) z halfCycle (held-whole true (2 ^ 15) (lit< tt)) (held-whole true (2 ^ 15 - 1) (lit< tt)) (w .0) tt
     (omega (arith, w .1)) (omega (arith, w .2)) in
-    let r = rem binary64 g lap in
-    let R = rem-keeps (wholeQ true (2 ^ 15)) (wholeQ true (2 ^ 15 - 1)) g lap (add-fits binary64 z halfLap) tt
+    let r = rem binary64 g cycle in
+    let R = rem-keeps (wholeQ true (2 ^ 15)) (wholeQ true (2 ^ 15 - 1)) g cycle (add-fits binary64 z halfCycle) tt
     (omega (arith, den-pos g, G .1)) (omega (arith, den-pos g, G .2)) G in
     let r0 = lt-of-val r zeroF (R .0) tt (omega (arith, den-pos r, R .2)) in
-    let u = add binary64 r lap in
-    let U = add-between binary64 (wholeQ false (2 ^ 15)) (wholeQ false (2 ^ 15 + 1)) r lap (held-whole false (2 ^ 15) (lit< tt)) (held-whole false (2 ^ 15 + 1) (lit< tt)) (R .0) tt
+    let u = add binary64 r cycle in
+    let U = add-between binary64 (wholeQ false (2 ^ 15)) (wholeQ false (2 ^ 15 + 1)) r cycle (held-whole false (2 ^ 15) (lit< tt)) (held-whole false (2 ^ 15 + 1) (lit< tt)) (R .0) tt
     (omega (arith, R .1)) (omega (arith, R .2)) in
-    subst (λ (y : Float). Between (wholeQ false 0) (sub binary64 y halfLap) (wholeQ false 1)) (sym (upward-neg r r0))
-    (sub-between binary64 (wholeQ false 0) (wholeQ false 1) u halfLap (held-whole false 0 (lit< tt)) (held-whole false 1 (lit< tt)) (U .0) tt (omega (arith, U .1)) (omega (arith, U .2)))
+    subst (λ (y : Float). Between (wholeQ false 0) (sub binary64 y halfCycle) (wholeQ false 1)) (sym (upward-neg r r0))
+    (sub-between binary64 (wholeQ false 0) (wholeQ false 1) u halfCycle (held-whole false 0 (lit< tt)) (held-whole false 1 (lit< tt)) (U .0) tt (omega (arith, U .1)) (omega (arith, U .2)))

@@ -22,7 +22,7 @@ use Rattle.float_laws.proofs.Bounds.{held-zero, held-one, Between, in-order, su
 use Rattle.float_laws.proofs.Within.{wholeQ, Within, InUnit, tests-of-within, within-widen}
 use Rattle.float_laws.proofs.Timestep.{Step, div-step-within}
 use Rattle.float_laws.proofs.Overshoot.{tweenWeight}
-use Rattle.float_laws.proofs.Wrap.{halfLap, wrap, wrap-within}
+use Rattle.float_laws.proofs.Wrap.{halfCycle, wrap, wrap-within}
 use Rattle.float_laws.proofs.Skip.{lastStamp, skip-in, skip-out}
 use Rattle.timestamp.specs.Timestamps.{signedOf, bitsOf}
 use Rattle.timestamp.specs.Whole.{ceilOf}
@@ -195,7 +195,7 @@ target-fits : (server t : Float) → T (fits binary64 (fromSeconds server t))
 unfolding fromSeconds fromUnwrapped
 target-fits server t = sub-fits binary64 _ _
 
--- the overshoot of a target x within half a lap
+-- the overshoot of a target x within half a cycle
 module _ (x t : Float) (f : T (fits binary64 x)) (w : Within x (2 ^ 15)) (s : Step t) where
   over-in : weightOk (tweenWeight (mul binary64 (wrap (sub binary64 (floatOf (bitsOf (ceilStampOf x))) x)) t) t) ≡ true → Between (val zeroF) (mul binary64 (wrap (sub binary64 (floatOf (bitsOf (ceilStampOf x))) x)) t) (val t)
   over-in ok = go (lt lastStamp x) refl
@@ -205,7 +205,7 @@ module _ (x t : Float) (f : T (fits binary64 x)) (w : Within x (2 ^ 15)) (s : St
           let h = holds-true (lt lastStamp x) e in
           let c : floatOf (bitsOf (ceilStampOf x)) ≡ lastStamp = ap (λ (z : ℤ). floatOf (bitsOf z)) (ceil-last x (w .0) h (w .2)) ∙ last-float in
           let o = subst (λ (y : Float). weightOk (tweenWeight (mul binary64 (wrap (sub binary64 y x)) t) t) ≡ true) c ok in
-          let l = tests-of-within x (fin true 1 (pos 15)) halfLap (2 ^ 15) (refl, refl) (refl, refl) w in
+          let l = tests-of-within x (fin true 1 (pos 15)) halfCycle (2 ^ 15) (refl, refl) (refl, refl) w in
           absurd (over-one (tweenWeight (mul binary64 (wrap (sub binary64 lastStamp x)) t) t) o (skip-out x t f (w .0) h (l .2) s))
       go false e =
           let h = float-le-of-not-lt lastStamp x tt (w .0) (subst (λ (b : Bool). T (not b)) (sym e) tt) in

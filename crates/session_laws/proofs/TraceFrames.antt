@@ -73,7 +73,7 @@ unfolding statusOf
 overshot-later w e =
     status-later (eqb (newStampOf w .0) (oldStampOf w .0)) (lt (w .weight) (fin false 1 (pos 0))) (overshotOf (newStampOf w) (oldStampOf w)) (newerOf (w .snapshots .queued) (newStampOf w)) (w .weight) e
 
--- a new world that has overshot is more than half a lap behind
+-- a new world that has overshot is more than half a cycle behind
 pub overshot-far : (w : ClientWorldSimulations) → Fitting w → statusOf w ≡ Fastforwarding Overshot → 32767 < lagIn w
 unfolding overshotOf
 overshot-far w h e =
@@ -194,7 +194,7 @@ opens-obsolete s t h =
     (ap newStampOf q ∙ loaded-new (s .worlds) b W x ∙ load-stamp (worldOf (s .worlds) x) b t)
     (ap (λ (w : ClientWorldSimulations). w .snapshots .queued) q ∙ loaded-queue (s .worlds) b W x)
 
--- the new world is reset, where it is more than half a lap behind
+-- the new world is reset, where it is more than half a cycle behind
 opens-reset : (s : Scene) → (Fitting (s .worlds) → 32767 < lagIn (s .worlds)) → Opens Nothing s (resetNew s)
 unfolding resetNew
 opens-reset s far =

@@ -58,7 +58,7 @@ pub lag-same : (o n : ℕ) → o < 65536 → o ≡ n → lagOf o n ≡ 0
 unfolding lagOf
 lag-same o n h e = omega arith
 
--- two stamps, each at or after the other by less than half a lap, are equal
+-- two stamps, each at or after the other by less than half a cycle, are equal
 pub lag-none : (o n : ℕ) → o < 65536 → n < 65536 → lagOf o n ≤ 32768 → lagOf n o < 32768 → lagOf o n ≡ 0
 unfolding lagOf
 lag-none o n ho hn h l = omega arith
@@ -73,7 +73,7 @@ pub lag-next : (o n : ℕ) → o < 65536 → n < 65536 → lagOf o n ≤ 32767 �
 unfolding lagOf nextOf
 lag-next o n a b c = omega arith
 
--- a stamp that is later than another is more than half a lap behind it
+-- a stamp that is later than another is more than half a cycle behind it
 pub lag-far : (o n : ℕ) → o < 65536 → n < 65536 → (lagOf n o ≡ 0 → ⊥) → lagOf n o < 32768 → 32767 < lagOf o n
 unfolding lagOf
 lag-far o n ho hn z l = omega arith
@@ -90,7 +90,7 @@ reached-by true zero = refl
 reached-by true (suc d) = refl
 reached-by false d = refl
 
--- the catch-up test: n is at or after o by less than half a lap
+-- the catch-up test: n is at or after o by less than half a cycle
 pub reached-is : (n o : Timestamp) → caughtUpOf n o ≡ ltb (lagOf (n .0) (o .0)) 32768
 unfolding caughtUpOf orderOf signedOf lagOf
 reached-is n o = reached-by (ltb (differenceOf (n .0) (o .0)) 32768) (differenceOf (n .0) (o .0))

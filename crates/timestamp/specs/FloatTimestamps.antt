@@ -16,8 +16,8 @@ abbrev pub half64 : Float
 half64 = fin false 1 (pos 15)
 
 -- 65,536, the size of the stamps' space
-abbrev pub lap64 : Float
-lap64 = fin false 1 (pos 16)
+abbrev pub cycle64 : Float
+cycle64 = fin false 1 (pos 16)
 
 -- a remainder by y that is below 0 has y added to it
 abbrev pub neverNegative : Float → Float → Float
@@ -25,7 +25,7 @@ neverNegative y r = cond (lt r zero64) (add binary64 r y) r
 
 -- a number of frames wrapped into the stamps' space: (x + 32,768) rem 65,536 - 32,768, the remainder never negative
 unfoldable pub fromUnwrapped : Float → Float
-fromUnwrapped x = sub binary64 (neverNegative lap64 (rem binary64 (add binary64 x half64) lap64)) half64
+fromUnwrapped x = sub binary64 (neverNegative cycle64 (rem binary64 (add binary64 x half64) cycle64)) half64
 
 -- the frame count of a time
 unfoldable pub fromSeconds : Float → Float → Float

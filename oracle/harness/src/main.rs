@@ -67,6 +67,9 @@ impl Player {
                 self.session = Session::open(settings);
                 let refusal = if self.session.is_sound() { 0 } else { 1 };
                 self.statistics.refused(refusal, None);
+                if refusal == 0 {
+                    self.statistics.run_begins();
+                }
                 Ok(text::open_text(refusal))
             }
             Call::Update {

@@ -17,6 +17,10 @@ pub struct Statistics {
     frames_most: u64,
     words_most: usize,
     deviations: BTreeMap<&'static str, u64>,
+    /// Runs, each from an accepted `open` to the next, those with a deviation, and whether the present run has one.
+    runs: u64,
+    runs_deviating: u64,
+    run_deviates: bool,
 }
 
 fn stage_change(before: StageName, after: StageName) -> Option<&'static str> {
@@ -80,12 +84,21 @@ impl Statistics {
         *self.events.entry(name).or_default() += count;
     }
 
+    pub fn run_begins(&mut self) {
+        self.runs += 1;
+        self.run_deviates = false;
+    }
+
     pub fn deviations(&mut self, record: &Record) {
         for deviation in &record.deviations {
             *self.deviations.entry(deviation.operation).or_default() += 1;
         }
         if !record.deviations.is_empty() {
             *self.deviations.entry("calls-with-a-deviation").or_default() += 1;
+            if !self.run_deviates {
+                self.run_deviates = true;
+                self.runs_deviating += 1;
+            }
         }
     }
 
@@ -148,6 +161,12 @@ impl Statistics {
             } else {
                 listed(&self.deviations)
             }
+        );
+        eprintln!(
+            "statistics runs, each from an accepted open to the next: {}, with a deviation: {} ({:.2} %)",
+            self.runs,
+            self.runs_deviating,
+            100.0 * self.runs_deviating as f64 / self.runs.max(1) as f64
         );
     }
 }

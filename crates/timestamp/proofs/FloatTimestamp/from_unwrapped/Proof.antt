@@ -2,15 +2,15 @@
 use mathlib.Core.Path.{sym, ap}
 use mathlib.Core.Bool.{Bool, cond}
 use lib.Ieee.{Float, binary64, add, sub, rem, ofBits}
-use Rattle.timestamp.specs.FloatTimestamps.{fromUnwrapped, half64, lap64}
+use Rattle.timestamp.specs.FloatTimestamps.{fromUnwrapped, half64, cycle64}
 use Rattle.timestamp.proofs.FloatTimestamp.from_unwrapped.Statement.{statement}
 use Rattle.timestamp.proofs.FloatTimestamp.from_unwrapped.Tie as tie
 
 abbrev left : Float → Float
-left x = rem binary64 (add binary64 x half64) lap64
+left x = rem binary64 (add binary64 x half64) cycle64
 
 abbrev picked : Float → Bool → Float
-picked x t = sub binary64 (cond t (add binary64 (left x) lap64) (left x)) half64
+picked x t = sub binary64 (cond t (add binary64 (left x) cycle64) (left x)) half64
 
 returns : tie.Need-returns
 unfolding fromUnwrapped ofBits
