@@ -1,18 +1,25 @@
 -- The loop of `catch_up`: what is left of it gives what the whole gives. Assumes nothing.
-use mathlib.Core.Path.{_≡_, refl, ap, sym, _∙_}
+use mathlib.Core.Path.{_≡_, refl, ap, sym, _∙_, subst}
 use mathlib.Core.Bool.{Bool, true, false}
 use mathlib.Core.List.{List}
-use Prim.Native.Nat.{ℕ, zero, suc, _+_, _-_, _*_, _≤_, _<_}
+use Prim.Native.Nat.{ℕ, zero, suc, _+_, _-_, _*_, _%_, _^_, _≤_, _<_}
 use native.Mathlib.Omega.{arith}
+use lib.Dec.{eqb}
 use lib.ListN.{length}
+use borrow.Author.Tests.{eq-eqb, ne-eqb}
 use Rattle.timestamp.specs.declared.Timestamp.{Timestamp}
 use Rattle.tape.proofs.Writing.{puts-length}
+use Rattle.simulation.specs.declared.Simulation.{Simulation}
+use Rattle.simulation.specs.declared.Stepped.{Stepped}
+use Rattle.simulation.specs.World.{Does, stepOf}
+use Rattle.client.specs.declared.Ledger.{Ledger}
 use Rattle.client.specs.declared.Scene.{Scene}
 use Rattle.client.specs.declared.Shown.{Shown}
-use Rattle.client.specs.Sides.{newStampOf, still, andThen, Plays}
-use Rattle.client_frame.specs.Frame.{caughtUpOf, steppedNew, caughtOf}
-use Rattle.client.proofs.Happening.{plays-still, plays-as, plays-then}
+use Rattle.client.specs.Sides.{newSideOf, worldOf, withWorld, stampOf, newStampOf, ledgerOf, withLedger, counted, applies, putOf, Played, still, andThen, Plays}
+use Rattle.client_frame.specs.Frame.{caughtUpOf, steppedSide, steppedNew, putBack, caughtOf}
+use Rattle.client.proofs.Happening.{new-stamp-is, plays-still, plays-as, plays-then}
 use Rattle.client_frame.proofs.Bounds.{Few, stepped-new-short}
+use Rattle.client_frame.proofs.Framing.{step-plays, step-new-plays}
 
 -- after k steps: whatever the rest gives from here, the whole gives from where the loop began
 pub record Catching (m : ℕ) (o : Timestamp) (from : Scene) (was : List ℕ) (place : ℕ) (tape : List ℕ) (s : Scene) (p k : ℕ) : Type 0 where
@@ -78,3 +85,126 @@ caught-end m o from was place {tape} {s} {p} {k} c l =
 -- by the stamp's other name
 pub caught-as : (m : ℕ) {o q : Timestamp} (s : Scene) {was last : List ℕ} {place : ℕ} {r : Shown} → o ≡ q → Plays (caughtOf m o s) was place r last → Plays (caughtOf m q s) was place r last
 caught-as m s e h = plays-as (ap (λ (x : Timestamp). caughtOf m x s) e) h
+
+-- ---- the new world steps apart from its scene
+
+-- a ledger with so many more applied and left out
+pub counts-are : (l : Ledger) (n k : ℕ) {a b : ℕ} → a ≡ counted (l .applied) n → b ≡ counted (l .leftout) k
+    → _≡_ {A = Ledger} (record { held = l .held; taken = l .taken; copied = l .copied; replaced = l .replaced; applied = a; leftout = b }) (applies l n k)
+counts-are l n k ha hb i = record { held = l .held; taken = l .taken; copied = l .copied; replaced = l .replaced; applied = ha i; leftout = hb i }
+
+module _ (s : Scene) (side : ℕ) (w : Simulation) (l : Ledger) (n : ℕ) where
+  -- put back on the left
+  pub back-left : side ≡ 0
+      → _≡_ {A = Scene}
+      (record {
+        worlds = record { left = w; right = s .worlds .right; new = s .worlds .new; base = s .worlds .base; snapshots = s .worlds .snapshots; weight = s .worlds .weight; published = s .worlds .published };
+        left = l;
+        right = s .right;
+        steps = n;
+      })
+      (putBack s side w l n)
+  unfolding putBack withLedger withWorld
+  back-left e = rw (eq-eqb _ _ e) refl
+
+  -- and on the right
+  pub back-right : (side ≡ 0 → ⊥)
+      → _≡_ {A = Scene}
+      (record {
+        worlds = record { left = s .worlds .left; right = w; new = s .worlds .new; base = s .worlds .base; snapshots = s .worlds .snapshots; weight = s .worlds .weight; published = s .worlds .published };
+        left = s .left;
+        right = l;
+        steps = n;
+      })
+      (putBack s side w l n)
+  unfolding putBack withLedger withWorld
+  back-right e = rw (ne-eqb _ _ e) refl
+
+  -- the new side stays the new one
+  back-new : (b : Bool) → eqb side 0 ≡ b → newSideOf (putBack s side w l n .worlds) ≡ newSideOf (s .worlds)
+  unfolding putBack withLedger withWorld newSideOf
+  back-new true e = rw e refl
+  back-new false e = rw e refl
+
+  -- the world is found where it was put
+  back-world : (b : Bool) → eqb side 0 ≡ b → w ≡ worldOf (putBack s side w l n .worlds) side
+  unfolding putBack withLedger withWorld worldOf
+  back-world true e = rw e refl
+  back-world false e = rw e refl
+
+  -- and so are the steps
+  back-steps : (b : Bool) → eqb side 0 ≡ b → (x : Simulation) (i k : ℕ) → n ≡ putOf (putBack s side w l n) side x i k .steps
+  unfolding putBack putOf withLedger withWorld
+  back-steps true e x i k = rw e refl
+  back-steps false e x i k = rw e refl
+
+  -- another world is put in its place
+  back-again : (b : Bool) → eqb side 0 ≡ b → (x : Simulation) (i k st : ℕ)
+      → _≡_ {A = Scene} (putBack s side x (applies l i k) st)
+      (record {
+        worlds = putOf (putBack s side w l n) side x i k .worlds;
+        left = putOf (putBack s side w l n) side x i k .left;
+        right = putOf (putBack s side w l n) side x i k .right;
+        steps = st;
+      })
+  unfolding putBack putOf withLedger withWorld ledgerOf
+  back-again true e x i k st = rw e refl
+  back-again false e x i k st = rw e refl
+
+-- the world and the ledger that the scene has already
+back-same : (s : Scene) (side : ℕ) (b : Bool) → eqb side 0 ≡ b → putBack s side (worldOf (s .worlds) side) (ledgerOf s side) (s .steps) ≡ s
+unfolding putBack withLedger withWorld worldOf ledgerOf
+back-same s side true e = rw e refl
+back-same s side false e = rw e refl
+
+-- a step of the world that is apart is a step of the new world
+apart-step : (s : Scene) (side : ℕ) (w : Simulation) (l : Ledger) (n : ℕ) {st : ℕ} {x : Ledger} {was last : List ℕ} {place : ℕ} {r : Stepped}
+    → side ≡ newSideOf (s .worlds) → Does (stepOf w side) was place r last → x ≡ applies l (r .applied) (r .leftout) → st ≡ (n + 1) % 2 ^ 32
+    → Plays (steppedNew (putBack s side w l n)) was place (record { scene = putBack s side (r .world) x st; at = r .at }) last
+apart-step s side w l n {st} {x} {was} {last} {place} {r} hs hd hx hn =
+    let v : Scene = putBack s side w l n in
+    let u : Scene = putOf v side (r .world) (r .applied) (r .leftout) in
+    let one : Plays (steppedSide v side) was place (record { scene = u; at = r .at }) last = step-plays v side (back-world s side w l n (eqb side 0) refl) hd refl in
+    let more : st ≡ (u .steps + 1) % 2 ^ 32 = hn ∙ ap (λ (i : ℕ). (i + 1) % 2 ^ 32) (back-steps s side w l n (eqb side 0) refl (r .world) (r .applied) (r .leftout)) in
+    let all : Plays (steppedNew v) was place (record { scene = record { worlds = u .worlds; left = u .left; right = u .right; steps = st }; at = r .at }) last =
+    step-new-plays v (hs ∙ sym (back-new s side w l n (eqb side 0) refl)) one more in
+    record {
+      scene = ap (λ (y : Ledger). putBack s side (r .world) y st) hx ∙ back-again s side w l n (eqb side 0) refl (r .world) (r .applied) (r .leftout) st ∙ all .scene;
+      puts = all .puts;
+    }
+
+-- the loop, with the new world w of the side, its ledger l and the steps n apart from the scene
+pub record Apart (m : ℕ) (o : Timestamp) (from : Scene) (was : List ℕ) (place side : ℕ) (tape : List ℕ) (w : Simulation) (l : Ledger) (n p k : ℕ) : Type 0 where
+  pub whole : Catching m o from was place tape (putBack from side w l n) p k
+
+-- before the first step the world that is apart is the scene's own
+pub apart-start : (m : ℕ) (o : Timestamp) (from : Scene) (was : List ℕ) (place : ℕ) {side : ℕ} {w : Simulation} {l : Ledger}
+    → Few (from .worlds) → w ≡ worldOf (from .worlds) side → l ≡ ledgerOf from side → Apart m o from was place side was w l (from .steps) place 0
+apart-start m o from was place {side} {w} {l} few hw hl =
+    let same : putBack from side w l (from .steps) ≡ from = (λ i. putBack from side (hw i) (hl i) (from .steps)) ∙ back-same from side (eqb side 0) refl in
+    record { whole = subst (λ (x : Scene). Catching m o from was place was x place 0) (sym same) (catching-start m o from was place few) }
+
+-- the stamp of the world that is apart
+apart-stamp : (s : Scene) (side : ℕ) (w : Simulation) (l : Ledger) (n : ℕ) {t : Timestamp} → side ≡ newSideOf (s .worlds) → t ≡ stampOf w → t ≡ newStampOf (putBack s side w l n .worlds)
+apart-stamp s side w l n hs ht = new-stamp-is (putBack s side w l n .worlds) (hs ∙ sym (back-new s side w l n (eqb side 0) refl)) (back-world s side w l n (eqb side 0) refl) ht
+
+module _ {m : ℕ} {o : Timestamp} {from : Scene} {was tape : List ℕ} {place side n p k : ℕ} {w : Simulation} {l : Ledger} (c : Apart m o from was place side tape w l n p k) where
+  -- a step
+  pub apart-again : {t : Timestamp} {b : Bool} {mid : List ℕ} {r : Stepped} {x : Ledger} {st : ℕ}
+      → k < m → side ≡ newSideOf (from .worlds) → t ≡ stampOf w → b ≡ caughtUpOf t o → b ≡ false
+      → Does (stepOf w side) tape p r mid → x ≡ applies l (r .applied) (r .leftout) → st ≡ (n + 1) % 2 ^ 32 → Apart m o from was place side mid (r .world) x st (r .at) (k + 1)
+  apart-again less hs ht hb f hd hx hn =
+      record { whole = catching-step m o from was place (c .whole) less (apart-stamp from side w l n hs ht) hb f (apart-step from side w l n hs hd hx hn) }
+
+  -- it has caught up, and is put back
+  pub apart-up : {t : Timestamp} {b : Bool} {y : Scene} → side ≡ newSideOf (from .worlds) → t ≡ stampOf w → b ≡ caughtUpOf t o → b ≡ true
+      → y ≡ putBack from side w l n → Plays (caughtOf m o from) was place (record { scene = y; at = p }) tape
+  apart-up hs ht hb f hy =
+      let h : Plays (caughtOf m o from) was place (record { scene = putBack from side w l n; at = p }) tape = caught-up m o from was place (c .whole) (apart-stamp from side w l n hs ht) hb f in
+      record { scene = hy ∙ h .scene; puts = h .puts }
+
+  -- it has made all its steps, and is put back
+  pub apart-end : {y : Scene} → m ≤ k → y ≡ putBack from side w l n → Plays (caughtOf m o from) was place (record { scene = y; at = p }) tape
+  apart-end less hy =
+      let h : Plays (caughtOf m o from) was place (record { scene = putBack from side w l n; at = p }) tape = caught-end m o from was place (c .whole) less in
+      record { scene = hy ∙ h .scene; puts = h .puts }

@@ -1,11 +1,12 @@
 // One frame (`step` of src/client.rs of crystalorb): what its status opens it with, a step of the old world, the catching up of the new one, and what is published.
 ghost use mathlib.Core.Path.{_≡_};
 ghost use Prim.Native.Nat.{_<_, _≤_};
-ghost use Rattle.client.specs.Sides.{Plays, oldStampOf};
-ghost use Rattle.client_frame.specs.Frame.{loadsOf, readiedWith, loadedOf, loadedQueued, clamped, blendedOn, resetNew, openedOf, steppedSide, caughtUpOf, steppedNew, caughtOf, simulatedOf, blendedBy, publishedBy, isObsolete, tooFarOf, stopsOf, shownOf, frameOf, frameStops, Frames};
+ghost use Rattle.client.specs.Sides.{Plays, oldStampOf, applies};
+ghost use Rattle.client_frame.specs.Frame.{loadsOf, readiedWith, loadedOf, loadedQueued, clamped, blendedOn, resetNew, openedOf, steppedSide, caughtUpOf, putBack, caughtOf, simulatedOf, blendedBy, publishedBy, isObsolete, tooFarOf, stopsOf, shownOf, frameOf, frameStops, Frames};
 use client::ClientWorldSimulations;
 use client::FastforwardingHealth;
 use client::Framed;
+use client::Ledger;
 use client::Queued;
 use client::ReconciliationStatus;
 use client::Scene;
@@ -14,6 +15,7 @@ use client::Snapshots;
 use client::sides;
 use client::status;
 use command::CommandBuffer;
+use simulation::Simulation;
 use timestamp::Ordering;
 use timestamp::Timestamp;
 
@@ -216,38 +218,94 @@ pub fn has_caught_up(new: Timestamp, old: Timestamp) -> bool
     }
 }
 
-// A step of the new world, counted.
-pub fn step_new(s: Scene, tape: &mut [u32], at: usize) -> Shown
-    requires { ⌜ at < 3000000000 ⌝ }
-    ensures { λ r. ⌜ Plays (steppedNew s) (now (tape .entry)) at r (now (tape .exit)) ⌝ }
+// A ledger with so many more applied and left out.
+pub fn count(l: Ledger, applied: usize, leftout: usize) -> Ledger
+    ensures { λ r. ⌜ r ≡ applies l applied leftout ⌝ }
 {
-    let r = step_side(s, sides::new_side(s.worlds), tape, at);
-    let mut t = r.scene;
-    let n = t.steps;
-    t.steps = std::num::wrapping_add_u32(n, 1);
-    Shown { scene: t, at: r.at }
+    let mut t = l;
+    let a = t.applied;
+    let b = t.leftout;
+    t.applied = std::num::wrapping_add_usize(a, applied);
+    t.leftout = std::num::wrapping_add_usize(b, leftout);
+    t
 }
 
-// The new world steps until it has reached the old one's stamp, m times at most.
+// The scene with a world and its ledger at a side, and another count of steps.
+pub fn put_back(s: Scene, side: u32, world: Simulation, l: Ledger, steps: u32) -> Scene
+    ensures { λ r. ⌜ r ≡ putBack s side world l steps ⌝ }
+{
+    let w = s.worlds;
+    let base = w.base;
+    let snapshots = w.snapshots;
+    let published = w.published;
+    if side == 0 {
+        let right = w.right;
+        let other = s.right;
+        return Scene {
+            worlds: ClientWorldSimulations {
+                left: world,
+                right,
+                new: w.new,
+                base,
+                snapshots,
+                weight: w.weight,
+                published,
+            },
+            left: l,
+            right: other,
+            steps,
+        };
+    }
+    let left = w.left;
+    let other = s.left;
+    Scene {
+        worlds: ClientWorldSimulations {
+            left,
+            right: world,
+            new: w.new,
+            base,
+            snapshots,
+            weight: w.weight,
+            published,
+        },
+        left: other,
+        right: l,
+        steps,
+    }
+}
+
+// The new world steps until it has reached the old one's stamp, m times at most. It steps by itself and is put back at the end, so that a
+// step copies one world and not both.
 pub fn catch_up(s: Scene, m: u32, tape: &mut [u32], at: usize) -> Shown
     requires { ⌜ (at < 2500000000) × (m ≤ 64) ⌝ }
     ensures { λ r. ⌜ Plays (caughtOf m (oldStampOf (s .worlds)) s) (now (tape .entry)) at r (now (tape .exit)) ⌝ }
 {
     let old = sides::last_completed_timestamp(s.worlds);
-    let mut t = s;
+    let side = sides::new_side(s.worlds);
+    let mut t = sides::get_side(s.worlds, side);
+    let mut l = sides::get_ledger(s, side);
+    let mut steps = s.steps;
     let mut p = at;
     let mut k: u32 = 0;
     while k < m {
-        if has_caught_up(sides::new_timestamp(t.worlds), old) {
-            return Shown { scene: t, at: p };
+        if has_caught_up(sides::stamp_of(t), old) {
+            return Shown {
+                scene: put_back(s, side, t, l, steps),
+                at: p,
+            };
         }
-        let r = step_new(t, tape, p);
-        let u = r.scene;
+        let r = simulation::step(t, side, tape, p);
+        let u = r.world;
         t = u;
+        l = count(l, r.applied, r.leftout);
+        steps = std::num::wrapping_add_u32(steps, 1);
         p = r.at;
         k += 1;
     }
-    Shown { scene: t, at: p }
+    Shown {
+        scene: put_back(s, side, t, l, steps),
+        at: p,
+    }
 }
 
 // The old world steps, and then the new one catches up.

@@ -1,18 +1,18 @@
--- `catch_up` meets its contract. The invariant: what is left gives what the whole gives. The measure is how many steps are left. Assumes nothing.
+-- `catch_up` meets its contract. The invariant: what is left gives what the whole gives, the new world put back. The measure is how many steps are left. Assumes nothing.
 use borrow.Author.Needs.{needs}
 use native.Mathlib.Omega.{arith}
 use Prim.Native.Nat.{_-_}
 use Rattle.command.proofs.Lists.{mapped-length}
 use Rattle.client_frame.proofs.Bounds.{Few, few-slots}
-use Rattle.client_frame.proofs.Catching.{Catching, catching-start, catching-step, caught-up, caught-end, caught-as}
+use Rattle.client_frame.proofs.Catching.{Apart, apart-start, apart-again, apart-up, apart-end, caught-as}
 use Rattle.client_frame.proofs.catch_up.Statement.{statement}
 use Rattle.client_frame.proofs.catch_up.Tie as tie
 
 abbrev Inv-loop : tie.InvT-loop
-Inv-loop m tape₀ at old t₀ p₀ k₀ tape t p k = Catching m old t₀ tape₀ at tape t p k
+Inv-loop s m tape₀ at old side t₀ l₀ steps₀ p₀ k₀ tape t l steps p k = Apart m old s tape₀ at side tape t l steps p k
 
 abbrev μ-loop : tie.MeasureT-loop
-μ-loop m tape₀ at old t₀ p₀ k₀ tape t p k = m - k
+μ-loop s m tape₀ at old side t₀ l₀ steps₀ p₀ k₀ tape t l steps p k = m - k
 
 -- what goes in holds at most 64 commands in each buffer, since each has 64 slots
 starts-few : (c : tie.Start Inv-loop μ-loop) → Few (c .args .s .worlds)
@@ -25,48 +25,82 @@ starts-few c =
 last-completed-timestamp-requires : tie.Need-last-completed-timestamp-requires Inv-loop μ-loop
 last-completed-timestamp-requires c κs = search needs
 
-loop-holds : tie.Need-loop-holds Inv-loop μ-loop
-loop-holds c = catching-start _ _ _ _ _ (starts-few (c .before .before))
+new-side-requires : tie.Need-new-side-requires Inv-loop μ-loop
+new-side-requires c κs = search needs
 
-new-timestamp-requires : tie.Need-new-timestamp-requires Inv-loop μ-loop
-new-timestamp-requires c κs = search needs
+get-side-requires : tie.Need-get-side-requires Inv-loop μ-loop
+get-side-requires c κs = search needs
+
+get-ledger-requires : tie.Need-get-ledger-requires Inv-loop μ-loop
+get-ledger-requires c κs = search needs
+
+loop-holds : tie.Need-loop-holds Inv-loop μ-loop
+loop-holds c =
+    let g = c .before in
+    apart-start _ _ _ _ _ (starts-few (g .before .before .before .before)) (g .get-side .ensures) (c .get-ledger .ensures)
+
+stamp-of-requires : tie.Need-stamp-of-requires Inv-loop μ-loop
+stamp-of-requires c κs = search needs
 
 has-caught-up-requires : tie.Need-has-caught-up-requires Inv-loop μ-loop
 has-caught-up-requires c κs = search needs
+
+put-back-requires : tie.Need-put-back-requires Inv-loop μ-loop
+put-back-requires c κs = search needs
 
 same-length : tie.Need-same-length Inv-loop μ-loop
 same-length c = search needs
 
 returns : tie.Need-returns Inv-loop μ-loop
 returns c =
-    let n = c .before .before in
-    let l = n .before .before in
-    caught-as _ _ (l .before .last-completed-timestamp .ensures) (caught-up _ _ _ _ _ (l .loop .inv) (n .new-timestamp .ensures) (c .before .has-caught-up .ensures) (c .if1 .taken))
+    let f = c .before in
+    let h = f .before in
+    let t = h .before in
+    let l = t .before .before in
+    let n = l .before .before .before in
+    caught-as _ _ (n .before .last-completed-timestamp .ensures)
+    (apart-up (l .loop .inv) (n .new-side .ensures) (t .stamp-of .ensures) (h .has-caught-up .ensures) (f .if1 .taken) (c .put-back .ensures))
 
-step-new-requires : tie.Need-step-new-requires Inv-loop μ-loop
-step-new-requires c κs = omega (arith, c .before .before .before .before .before .loop .inv .at)
+step-requires : tie.Need-step-requires Inv-loop μ-loop
+step-requires c κs = omega (arith, c .before .before .before .before .before .loop .inv .whole .at)
+
+count-requires : tie.Need-count-requires Inv-loop μ-loop
+count-requires c κs = search needs
+
+wrapping-add-u32-requires : tie.Need-wrapping-add-u32-requires Inv-loop μ-loop
+wrapping-add-u32-requires c κs = search needs
 
 add-k : tie.Need-add-k Inv-loop μ-loop
-add-k c = search needs
+add-k c =
+    let l = c .before .before .before .before .before .before .before .before .before .before in
+    omega (arith, l .loop-test .taken, l .before .before .before .before .before .before .before .pre .1)
 
 loop-less : tie.Need-loop-less Inv-loop μ-loop
-loop-less c = search needs
+loop-less c = omega (arith, c .before .before .before .before .before .before .before .before .before .before .loop-test .taken)
 
 loop-again : tie.Need-loop-again Inv-loop μ-loop
 loop-again c =
-    let r = c .before .before .before in
+    let k = c .before in
+    let r = k .before .before .before .before in
     let f = r .before .before in
-    let n = f .before .before in
-    let l = n .before .before in
-    catching-step _ _ _ _ _ (l .loop .inv) (omega (arith, n .before .loop-test .taken)) (n .new-timestamp .ensures) (f .before .has-caught-up .ensures) (f .if1 .left) (r .step-new .ensures)
+    let h = f .before in
+    let t = h .before in
+    let l = t .before .before in
+    let n = l .before .before .before in
+    apart-again (l .loop .inv) (omega (arith, t .before .loop-test .taken)) (n .new-side .ensures) (t .stamp-of .ensures) (h .has-caught-up .ensures) (f .if1 .left)
+    (r .step .ensures) (k .count .ensures) (c .wrapping-add-u32 .ensures)
+
+put-back-requires-2 : tie.Need-put-back-requires-2 Inv-loop μ-loop
+put-back-requires-2 c κs = search needs
 
 same-length-2 : tie.Need-same-length-2 Inv-loop μ-loop
 same-length-2 c = search needs
 
 returns-2 : tie.Need-returns-2 Inv-loop μ-loop
 returns-2 c =
-    let l = c .before in
-    caught-as _ _ (l .before .last-completed-timestamp .ensures) (caught-end _ _ _ _ _ (l .loop .inv) (omega (arith, c .loop-test .left)))
+    let e = c .before in
+    let l = e .before in
+    caught-as _ _ (l .before .before .before .before .last-completed-timestamp .ensures) (apart-end (l .loop .inv) (omega (arith, e .loop-test .left)) (c .put-back2 .ensures))
 
 pub catch-up-spec : {M : Type 1} → statement M
 catch-up-spec =
@@ -75,14 +109,21 @@ catch-up-spec =
     Inv-loop
     μ-loop
     last-completed-timestamp-requires
+    new-side-requires
+    get-side-requires
+    get-ledger-requires
     loop-holds
-    new-timestamp-requires
+    stamp-of-requires
     has-caught-up-requires
+    put-back-requires
     same-length
     returns
-    step-new-requires
+    step-requires
+    count-requires
+    wrapping-add-u32-requires
     add-k
     loop-less
     loop-again
+    put-back-requires-2
     same-length-2
     returns-2)
