@@ -30,10 +30,10 @@ use Rattle.client.specs.declared.Ledger.{Ledger}
 use Rattle.client.specs.declared.Scene.{Scene}
 use Rattle.client.specs.declared.Shown.{Shown}
 use Rattle.client.specs.declared.Framed.{Framed}
-use Rattle.client.specs.Sides.{newSideOf, oldSideOf, worldOf, withWorld, withWeight, withWorlds, withLedger, ledgerOf, counted, loads, putOf, oldStampOf, newStampOf, Played, andThen, doneAt, Plays}
+use Rattle.client.specs.Sides.{newSideOf, oldSideOf, worldOf, withWorld, withWeight, withWorlds, withLedger, ledgerOf, counted, loads, applies, putOf, oldStampOf, newStampOf, Played, andThen, doneAt, Plays}
 use Rattle.client.specs.Status.{statusOf}
 use Rattle.client_publish.specs.Publish.{publishedOld, publishedBlended}
-use Rattle.client_frame.specs.Frame.{loadsOf, readiedWith, loadedAt, loadedOf, loadedQueued, clamped, blendedOn, resetNew, openedOf, steppedSide, caughtUpOf, withStep, steppedNew, caughtOf, simulatedOf, blendedBy, publishedBy, shownOf, isObsolete, tooFarOf, stopsOf, snapshotOf, openOf, frameOf, frameStops, Frames}
+use Rattle.client_frame.specs.Frame.{loadsOf, readiedWith, loadedAt, loadedOf, loadedQueued, clamped, blendedOn, resetNew, openedOf, steppedSide, caughtUpOf, withStep, steppedNew, putBack, caughtOf, simulatedOf, blendedBy, publishedBy, shownOf, isObsolete, tooFarOf, stopsOf, snapshotOf, openOf, frameOf, frameStops, Frames}
 use Rattle.client.proofs.Happening.{plays-still, plays-as, plays-then, plays-done}
 
 -- ---- a load
@@ -146,6 +146,11 @@ pub step-plays : (s : Scene) (side : ℕ) {w : Simulation} {was last : List ℕ}
     → Plays (steppedSide s side) was place (record { scene = u; at = r .at }) last
 unfolding steppedSide
 step-plays s side hw hd hu = plays-as (ap (λ (x : Simulation). doneAt s side (stepOf x side)) hw) (plays-done s side hd hu)
+
+-- a world that is put back with its ledger, counted
+pub put-back-is : (s : Scene) (side : ℕ) (w : Simulation) (n k : ℕ) {l x : Ledger} {u : Scene} → l ≡ ledgerOf s side → x ≡ applies l n k → u ≡ putBack s side w x (s .steps) → u ≡ putOf s side w n k
+unfolding putBack putOf
+put-back-is s side w n k hl hx hu = hu ∙ (λ i. putBack s side w ((hx ∙ ap (λ (y : Ledger). applies y n k) hl) i) (s .steps))
 
 -- the order of the stamps tells whether the new world has caught up
 pub caught-up-is : (n o : Timestamp) {a b : Ordering} → a ≡ orderOf (n .0) (o .0) → a ≡ b → cond (isLess b) false true ≡ caughtUpOf n o

@@ -2,7 +2,7 @@
 ghost use mathlib.Core.Path.{_≡_};
 ghost use Prim.Native.Nat.{_<_, _≤_};
 ghost use Rattle.client.specs.Sides.{Plays, oldStampOf, applies};
-ghost use Rattle.client_frame.specs.Frame.{loadsOf, readiedWith, loadedOf, loadedQueued, clamped, blendedOn, resetNew, openedOf, steppedSide, caughtUpOf, putBack, caughtOf, simulatedOf, blendedBy, publishedBy, isObsolete, tooFarOf, stopsOf, shownOf, frameOf, frameStops, Frames};
+ghost use Rattle.client_frame.specs.Frame.{loadsOf, readiedWith, loadedOf, clamped, blendedOn, resetNew, openedOf, steppedSide, caughtUpOf, putBack, caughtOf, simulatedOf, blendedBy, publishedBy, isObsolete, tooFarOf, stopsOf, shownOf, frameOf, frameStops, Frames};
 use client::ClientWorldSimulations;
 use client::FastforwardingHealth;
 use client::Framed;
@@ -99,17 +99,6 @@ pub fn load_snapshot(
     }
 }
 
-// The queued snapshot is loaded into a side, where there is one.
-pub fn load_queued(s: Scene, q: Queued, side: u32, tape: &mut [u32], at: usize) -> Shown
-    requires { ⌜ at < 3000000000 ⌝ }
-    ensures { λ r. ⌜ Plays (loadedQueued s q side) (now (tape .entry)) at r (now (tape .exit)) ⌝ }
-{
-    match q {
-        Queued::Nothing => Shown { scene: s, at },
-        Queued::Held { stamp, handle } => load_snapshot(s, side, stamp, handle, tape, at),
-    }
-}
-
 // A number brought into 0 to 1.
 pub fn clamp(x: f64) -> f64
     ensures { λ r. ⌜ r ≡ clamped x ⌝ }
@@ -170,26 +159,34 @@ pub fn open(
     ensures { λ r. ⌜ Plays (openedOf t q progress s) (now (tape .entry)) at r (now (tape .exit)) ⌝ }
 {
     match t {
-        ReconciliationStatus::AwaitingSnapshot => load_queued(
-            s,
-            q,
-            sides::old_side(s.worlds),
-            tape,
-            at,
-        ),
+        ReconciliationStatus::AwaitingSnapshot => match q {
+            Queued::Nothing => Shown { scene: s, at },
+            Queued::Held { stamp, handle } => load_snapshot(
+                s,
+                sides::old_side(s.worlds),
+                stamp,
+                handle,
+                tape,
+                at,
+            ),
+        },
         ReconciliationStatus::Blending(_) => Shown {
             scene: blend_on(s, progress),
             at,
         },
         ReconciliationStatus::Fastforwarding(h) => match h {
             FastforwardingHealth::Healthy => Shown { scene: s, at },
-            FastforwardingHealth::Obsolete => load_queued(
-                s,
-                q,
-                sides::new_side(s.worlds),
-                tape,
-                at,
-            ),
+            FastforwardingHealth::Obsolete => match q {
+                Queued::Nothing => Shown { scene: s, at },
+                Queued::Held { stamp, handle } => load_snapshot(
+                    s,
+                    sides::new_side(s.worlds),
+                    stamp,
+                    handle,
+                    tape,
+                    at,
+                ),
+            },
             FastforwardingHealth::Overshot => reset_new(s, tape, at),
         },
     }
@@ -201,8 +198,10 @@ pub fn step_side(s: Scene, side: u32, tape: &mut [u32], at: usize) -> Shown
     ensures { λ r. ⌜ Plays (steppedSide s side) (now (tape .entry)) at r (now (tape .exit)) ⌝ }
 {
     let r = simulation::step(sides::get_side(s.worlds, side), side, tape, at);
+    let l = count(sides::get_ledger(s, side), r.applied, r.leftout);
+    let world = r.world;
     Shown {
-        scene: sides::put_stepped(s, side, r),
+        scene: put_back(s, side, world, l, s.steps),
         at: r.at,
     }
 }
