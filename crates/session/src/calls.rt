@@ -334,11 +334,10 @@ pub fn update(
         return refuse(r, session, tape);
     }
     let stage = session.stage;
-    match stage {
-        Stage::SyncingClock => update_clock(session, delta, seconds, inbox, tape),
-        Stage::SyncingInitialState => update_worlds(session, delta, seconds, inbox, tape),
-        Stage::Ready => update_worlds(session, delta, seconds, inbox, tape),
+    if let Stage::SyncingClock = stage {
+        return update_clock(session, delta, seconds, inbox, tape);
     }
+    update_worlds(session, delta, seconds, inbox, tape)
 }
 
 // A refused issue: the session unchanged, everything else 0.

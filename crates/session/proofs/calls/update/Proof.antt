@@ -1,10 +1,35 @@
 -- `update` meets its contract: refused at once, or by its stage. Assumes nothing.
 use borrow.Author.Needs.{needs}
-use mathlib.Core.Path.{sym, _∙_}
+use native.Mathlib.Omega.{arith}
+use Prim.Native.Nat.{ℕ}
+use mathlib.Core.List.{List, [], _∷_}
+use mathlib.Core.Logic.{⊎-elim}
+use mathlib.Core.Path.{_≡_, refl, sym, _∙_}
+use types.Run.{OneOf}
+use denote.Enum.Declared.{tagOf}
+use lib.Ieee.{Float}
+use Rattle.session.specs.declared.Session.{Session}
+use Rattle.session.specs.declared.Stage.{Stage}
 use Rattle.session.specs.declared.Stage.the-variants.{SyncingClock, SyncingInitialState, Ready}
-use Rattle.session.proofs.Answering.{not-refused-few, update-refused, update-by}
+use Rattle.session.specs.declared.UpdateAnswer.{UpdateAnswer}
+use Rattle.session.specs.Calls.{refusedAtOnce, updateBy, worldsUpdateOf, updateOf, Updates}
+use Rattle.session.proofs.Stage as Stages
+use Rattle.session.proofs.Answering.{not-refused-few, updates-as, update-refused, update-by}
 use Rattle.session.proofs.calls.update.Statement.{statement}
 use Rattle.session.proofs.calls.update.Tie as tie
+
+-- worlds exist in every stage but the first; the stages are counted from 0 in the order of their declaration
+by-worlds : (x : Stage) → OneOf (1 ∷ 2 ∷ []) (tagOf Stages.the-type x) → (s : Session) (delta seconds : Float) (inbox : List ℕ) (len : ℕ) → worldsUpdateOf s delta seconds inbox len ≡ updateBy x s delta seconds inbox len
+by-worlds SyncingClock o s delta seconds inbox len = absurd (⊎-elim (λ e. omega arith) (λ e. omega arith) o)
+by-worlds SyncingInitialState o s delta seconds inbox len = refl
+by-worlds Ready o s delta seconds inbox len = refl
+
+-- the update of a session with worlds
+update-with-worlds : (s : Session) (delta seconds : Float) (inbox : List ℕ) (len : ℕ) {n : ℕ} {r : UpdateAnswer} {last : List ℕ}
+    → n ≡ refusedAtOnce s delta seconds inbox → n ≡ 0 → OneOf (1 ∷ 2 ∷ []) (tagOf Stages.the-type (s .stage)) → Updates (worldsUpdateOf s delta seconds inbox len .reply) r last
+    → Updates (updateOf s delta seconds inbox len .reply) r last
+update-with-worlds s delta seconds inbox len hn e o h =
+    update-by s delta seconds inbox len (s .stage) hn e refl (updates-as (λ i. by-worlds (s .stage) o s delta seconds inbox len i .reply) h)
 
 refused-at-once-requires : tie.Need-refused-at-once-requires
 refused-at-once-requires c κs = search needs
@@ -24,22 +49,6 @@ enum-told c = search needs
 update-clock-requires : tie.Need-update-clock-requires
 update-clock-requires c κs = search needs
 
-enum-told-2 : tie.Need-enum-told-2
-enum-told-2 c = search needs
-
-update-worlds-requires : tie.Need-update-worlds-requires
-update-worlds-requires c κs =
-    let i = c .before .before .before in
-    not-refused-few _ _ _ _ (sym (i .before .refused-at-once .ensures) ∙ i .if1 .left)
-
-enum-told-3 : tie.Need-enum-told-3
-enum-told-3 c = search needs
-
-update-worlds-requires-2 : tie.Need-update-worlds-requires-2
-update-worlds-requires-2 c κs =
-    let i = c .before .before .before in
-    not-refused-few _ _ _ _ (sym (i .before .refused-at-once .ensures) ∙ i .if1 .left)
-
 same-length-2 : tie.Need-same-length-2
 same-length-2 c = search needs
 
@@ -49,23 +58,19 @@ returns-2 c =
     let i = e .before .before in
     update-by _ _ _ _ _ SyncingClock (i .before .refused-at-once .ensures) (i .if1 .left) (e .enum-told .given .1) (c .before .before .update-clock .ensures)
 
+update-worlds-requires : tie.Need-update-worlds-requires
+update-worlds-requires c κs =
+    let i = c .before .before in
+    not-refused-few _ _ _ _ (sym (i .before .refused-at-once .ensures) ∙ i .if1 .left)
+
 same-length-3 : tie.Need-same-length-3
 same-length-3 c = search needs
 
 returns-3 : tie.Need-returns-3
 returns-3 c =
-    let e = c .before .before .before .before in
-    let i = e .before .before in
-    update-by _ _ _ _ _ SyncingInitialState (i .before .refused-at-once .ensures) (i .if1 .left) (e .enum-told2 .given .1) (c .before .before .update-worlds .ensures)
-
-same-length-4 : tie.Need-same-length-4
-same-length-4 c = search needs
-
-returns-4 : tie.Need-returns-4
-returns-4 c =
-    let e = c .before .before .before .before in
-    let i = e .before .before in
-    update-by _ _ _ _ _ Ready (i .before .refused-at-once .ensures) (i .if1 .left) (e .enum-told3 .given .1) (c .before .before .update-worlds2 .ensures)
+    let m = c .before .before .before .before in
+    let i = m .before in
+    update-with-worlds _ _ _ _ _ (i .before .refused-at-once .ensures) (i .if1 .left) (m .match .keys2) (c .before .before .update-worlds .ensures)
 
 pub update-spec : {M : Type 1} → statement M
 update-spec =
@@ -77,13 +82,8 @@ update-spec =
     returns
     enum-told
     update-clock-requires
-    enum-told-2
-    update-worlds-requires
-    enum-told-3
-    update-worlds-requires-2
     same-length-2
     returns-2
+    update-worlds-requires
     same-length-3
-    returns-3
-    same-length-4
-    returns-4)
+    returns-3)
