@@ -234,7 +234,7 @@ pub fn put_back(s: Scene, side: u32, world: Simulation, l: Ledger, steps: u32) -
     ensures { λ r. ⌜ r ≡ putBack s side world l steps ⌝ }
 {
     let w = s.worlds;
-    let base = w.base;
+    let kept = w.base;
     let snapshots = w.snapshots;
     let published = w.published;
     if side == 0 {
@@ -245,7 +245,7 @@ pub fn put_back(s: Scene, side: u32, world: Simulation, l: Ledger, steps: u32) -
                 left: world,
                 right,
                 new: w.new,
-                base,
+                base: kept,
                 snapshots,
                 weight: w.weight,
                 published,
@@ -262,7 +262,7 @@ pub fn put_back(s: Scene, side: u32, world: Simulation, l: Ledger, steps: u32) -
             left,
             right: world,
             new: w.new,
-            base,
+            base: kept,
             snapshots,
             weight: w.weight,
             published,
