@@ -1,5 +1,6 @@
 // Whether a session is sound: what calls leave, as document 01 lists it.
 ghost use mathlib.Core.Path.{_≡_};
+ghost use Rattle.command.specs.Soundness.{soundBuffer};
 ghost use Rattle.session.specs.Sound.{queuedSound, weightSound, initSound, buffersSound, worldsSound, overshootSound, connectedOf, soundOf};
 use super::Session;
 use super::Stage;
@@ -9,6 +10,7 @@ use client::sides;
 use clocksync::ClientId;
 use clocksync::Clock;
 use clocksync::Offset;
+use command::CommandBuffer;
 
 // A queued snapshot's handle is within 24 bits.
 pub fn queued_sound(q: Queued) -> bool
@@ -48,19 +50,30 @@ pub fn init_sound(w: ClientWorldSimulations) -> bool
     true
 }
 
+// A buffer is sound. One that holds nothing is not handed on, which would copy its slots.
+pub fn buffer_sound(b: CommandBuffer) -> bool
+    ensures { λ r. ⌜ r ≡ soundBuffer b ⌝ }
+{
+    let n = b.len;
+    if n == 0 {
+        return true;
+    }
+    command::sound(b)
+}
+
 // The three buffers are sound.
 pub fn buffers_sound(w: ClientWorldSimulations) -> bool
     ensures { λ r. ⌜ r ≡ buffersSound w ⌝ }
 {
     let left = w.left;
     let right = w.right;
-    if !command::sound(left.commands) {
+    if !buffer_sound(left.commands) {
         return false;
     }
-    if !command::sound(right.commands) {
+    if !buffer_sound(right.commands) {
         return false;
     }
-    command::sound(w.base)
+    buffer_sound(w.base)
 }
 
 // The worlds are sound.

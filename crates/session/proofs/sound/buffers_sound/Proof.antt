@@ -5,28 +5,28 @@ use Rattle.session.proofs.Judging.{both-first, both-second, both-third}
 use Rattle.session.proofs.sound.buffers_sound.Statement.{statement}
 use Rattle.session.proofs.sound.buffers_sound.Tie as tie
 
-sound-requires : tie.Need-sound-requires
-sound-requires c κs = search needs
+buffer-sound-requires : tie.Need-buffer-sound-requires
+buffer-sound-requires c κs = search needs
 
 returns : tie.Need-returns
 unfolding buffersSound
-returns c = both-first _ _ (c .before .sound .ensures) (c .if1 .taken)
+returns c = both-first _ _ (c .before .buffer-sound .ensures) (c .if1 .taken)
 
-sound-requires-2 : tie.Need-sound-requires-2
-sound-requires-2 c κs = search needs
+buffer-sound-requires-2 : tie.Need-buffer-sound-requires-2
+buffer-sound-requires-2 c κs = search needs
 
 returns-2 : tie.Need-returns-2
 unfolding buffersSound
-returns-2 c = both-second _ (c .before .before .before .sound .ensures) (c .before .before .if1 .left) (c .before .sound2 .ensures) (c .if2 .taken)
+returns-2 c = both-second _ (c .before .before .before .buffer-sound .ensures) (c .before .before .if1 .left) (c .before .buffer-sound2 .ensures) (c .if2 .taken)
 
-sound-requires-3 : tie.Need-sound-requires-3
-sound-requires-3 c κs = search needs
+buffer-sound-requires-3 : tie.Need-buffer-sound-requires-3
+buffer-sound-requires-3 c κs = search needs
 
 returns-3 : tie.Need-returns-3
 unfolding buffersSound
-returns-3 c = both-third (c .before .before .before .before .sound .ensures) (c .before .before .before .if1 .left) (c .before .before .sound2 .ensures) (c .before .if2 .left) (c .sound3 .ensures)
+returns-3 c = both-third (c .before .before .before .before .buffer-sound .ensures) (c .before .before .before .if1 .left) (c .before .before .buffer-sound2 .ensures) (c .before .if2 .left) (c .buffer-sound3 .ensures)
 
 pub buffers-sound-spec : {M : Type 1} → statement M
 buffers-sound-spec =
     tie.close
-    (tie.spec sound-requires returns sound-requires-2 returns-2 sound-requires-3 returns-3)
+    (tie.spec buffer-sound-requires returns buffer-sound-requires-2 returns-2 buffer-sound-requires-3 returns-3)
