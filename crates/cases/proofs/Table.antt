@@ -20,7 +20,7 @@ use Rattle.client_publish.specs.Publish.{publishedNone, publishedSide, publishe
 use Rattle.client_frame.specs.Frame.{loadsOf, readiedWith, loadedAt, loadedOf, loadedQueued, blendedOn, openedOf, steppedSide, caughtUpOf, steppedNew, caughtOf, simulatedOf, blendedBy, shownOf, isObsolete, stopsOf, snapshotOf, openOf as frameOpened, frameOf, frameStops}
 use Rattle.client_skip.specs.Skip.{tweenOf, weightOk, timeOf, displayedOf, revisedOf, postUpdateOf}
 use Rattle.fixed_timestepper.specs.TimeKeeper.{logicalOf, driftOf, uncappedOf, compensatedOf, framed, runOf, skipsOf, maybeSkipped, finishedOf, advancedOf, updatedOf}
-use Rattle.session.specs.Sound.{queuedSound, weightSound, initSound, buffersSound, worldsSound, overshootSound, connectedOf, soundOf}
+use Rattle.session_state.specs.Sound.{queuedSound, weightSound, initSound, buffersSound, worldsSound, overshootSound, connectedOf, soundOf}
 use Rattle.inbox_passes.specs.Passes.{hasForWorlds, heardIn, receivedIn, notedIn}
 use Rattle.session.specs.Calls.{startOf, openOf, timesOk, refusedAtOnce, syncedOf, clockUpdateOf, acceptedOf, playedOf, worldsUpdateOf, updateOf, reportOf}
 use Rattle.cases.specs.Table.{Marked, settingsWith, clockAt, opened, heardOnce, heardTwice, heardThrice, atFour, atFive, atSix, frameOne, frameTwo, frameThree, frameFour, caught}

@@ -20,9 +20,9 @@ use Rattle.client.specs.declared.DisplayTime.{DisplayTime}
 use Rattle.client.specs.declared.DisplayTime.the-variants.{NotDisplayed, DisplayedAt}
 use Rattle.client.specs.declared.ReconciliationStatus.the-variants.{AwaitingSnapshot}
 use Rattle.fixed_timestepper.specs.TimeKeeper.{Event, FrameFrom, SkipFrom}
-use Rattle.session.specs.declared.Stage.{Stage}
-use Rattle.session.specs.declared.Stage.the-variants.{SyncingInitialState, Ready}
-use Rattle.session.specs.declared.Session.{Session}
+use Rattle.session_state.specs.declared.Stage.{Stage}
+use Rattle.session_state.specs.declared.Stage.the-variants.{SyncingInitialState, Ready}
+use Rattle.session_state.specs.declared.Session.{Session}
 use Rattle.session.specs.declared.ReportAnswer.{ReportAnswer}
 use Rattle.session.specs.Calls.{Reply, Answer, openOf, updateOf, reportOf}
 use Rattle.demand.specs.Demand.{Load, NoLoad, Loaded, loadIn, behindOf, behindAfter}

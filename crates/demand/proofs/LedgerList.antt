@@ -9,9 +9,9 @@ use lib.ListN.{length}
 use Rattle.tape.specs.Words.{commandsOn}
 use Rattle.client.specs.declared.Ledger.{Ledger}
 use Rattle.session_laws.proofs.LedgerSides.{heldAt}
-use Rattle.session.specs.declared.Session.{Session}
-use Rattle.session.specs.declared.Stage.{Stage}
-use Rattle.session.specs.declared.Stage.the-variants.{SyncingClock, SyncingInitialState, Ready}
+use Rattle.session_state.specs.declared.Session.{Session}
+use Rattle.session_state.specs.declared.Stage.{Stage}
+use Rattle.session_state.specs.declared.Stage.the-variants.{SyncingClock, SyncingInitialState, Ready}
 use Rattle.session.specs.declared.IssueAnswer.{IssueAnswer}
 use Rattle.session_laws.proofs.LedgerCalls.{hasWorlds, Settles, update-settles, issue-settles}
 use Rattle.demand.specs.Calls.{Call, Update, Issue, Answered, Chain, sessionOf, ledgerOn, appliedOn}

@@ -3,9 +3,9 @@ use mathlib.Core.Path.{_≡_, sym, ap, subst}
 use mathlib.Core.List.{List, [], _∷_}
 use mathlib.Core.Bool.{true}
 use lib.ListN.{length}
-use Rattle.session.specs.declared.Session.{Session}
+use Rattle.session_state.specs.declared.Session.{Session}
 use Rattle.session.specs.declared.IssueAnswer.{IssueAnswer}
-use Rattle.session.specs.Sound.{soundOf}
+use Rattle.session_state.specs.Sound.{soundOf}
 use Rattle.session_laws.proofs.SoundParts.{FloatsFit}
 use Rattle.session_laws.proofs.SoundCalls.{update-stays-sound, update-fits, issue-stays-sound, issue-fits}
 use Rattle.demand.specs.Calls.{Call, Update, Issue, Answered, sessionOf, Chain, endOf}

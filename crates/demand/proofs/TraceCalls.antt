@@ -20,10 +20,10 @@ use Rattle.session_laws.proofs.TraceArrivals.{alike-lag}
 use Rattle.fixed_timestepper.specs.declared.Stop.{Stop}
 use Rattle.fixed_timestepper.specs.declared.Stop.the-variants.{Done, TooManyFrames, StatusStops, WeightStops}
 use Rattle.fixed_timestepper.specs.TimeKeeper.{Run}
-use Rattle.session.specs.declared.Stage.{Stage}
-use Rattle.session.specs.declared.Stage.the-variants.{SyncingClock, SyncingInitialState, Ready}
-use Rattle.session.specs.declared.Session.{Session}
-use Rattle.session.specs.Sound.{soundOf}
+use Rattle.session_state.specs.declared.Stage.{Stage}
+use Rattle.session_state.specs.declared.Stage.the-variants.{SyncingClock, SyncingInitialState, Ready}
+use Rattle.session_state.specs.declared.Session.{Session}
+use Rattle.session_state.specs.Sound.{soundOf}
 use Rattle.inbox_passes.specs.Passes.{heardIn, receivedIn}
 use Rattle.session.specs.Calls.{Answer, refusedAtOnce, refusedWith, sceneOf, clockAfter, stageAfter, acceptedOf, concludedOf, serverTimeBy, sceneAfter, playedOf, worldsUpdateOf, updateBy, updateOf}
 use Rattle.session_laws.proofs.TraceReading.{sound-m, Read, read-in}

@@ -18,9 +18,9 @@ use Rattle.session_laws.proofs.TraceSteps.{lagIn}
 use Rattle.session_laws.proofs.TraceFrames.{QueuedFits, Fitting}
 use Rattle.session_laws.proofs.TraceArrivals.{alike-fitting, alike-lag}
 use Rattle.fixed_timestepper.specs.TimeKeeper.{Event}
-use Rattle.session.specs.declared.Session.{Session}
+use Rattle.session_state.specs.declared.Session.{Session}
 use Rattle.session.specs.declared.IssueAnswer.{IssueAnswer}
-use Rattle.session.specs.Sound.{soundOf}
+use Rattle.session_state.specs.Sound.{soundOf}
 use Rattle.session.specs.Calls.{Answer, updateOf}
 use Rattle.session.specs.Issue.{issueOf}
 use Rattle.session_laws.proofs.TraceReading.{Keeps, issue-keeps}

@@ -10,7 +10,7 @@ use lib.Ieee.{Float}
 use Rattle.tape.specs.Words.{stepWords, stepsOn, commandsOn}
 use Rattle.client.specs.declared.Ledger.{Ledger}
 use Rattle.fixed_timestepper.specs.TimeKeeper.{Event}
-use Rattle.session.specs.declared.Session.{Session}
+use Rattle.session_state.specs.declared.Session.{Session}
 use Rattle.session.specs.declared.UpdateAnswer.{UpdateAnswer}
 use Rattle.session.specs.declared.IssueAnswer.{IssueAnswer}
 use Rattle.session.specs.Calls.{updateOf, Updates}

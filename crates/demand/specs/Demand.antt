@@ -22,10 +22,10 @@ use Rattle.client.specs.Sides.{oldSideOf, newSideOf, worldOf, oldStampOf, newSt
 use Rattle.client_frame.specs.Frame.{frameOf, openOf, snapshotOf}
 use Rattle.client_skip.specs.Skip.{skippedOf}
 use Rattle.fixed_timestepper.specs.TimeKeeper.{Event, FrameFrom, SkipFrom}
-use Rattle.session.specs.declared.Session.{Session}
-use Rattle.session.specs.declared.Stage.{Stage}
-use Rattle.session.specs.declared.Stage.the-variants.{SyncingClock, SyncingInitialState, Ready}
-use Rattle.session.specs.Sound.{soundOf}
+use Rattle.session_state.specs.declared.Session.{Session}
+use Rattle.session_state.specs.declared.Stage.{Stage}
+use Rattle.session_state.specs.declared.Stage.the-variants.{SyncingClock, SyncingInitialState, Ready}
+use Rattle.session_state.specs.Sound.{soundOf}
 use Rattle.demand.specs.Calls.{Call, Update, Issue, Chain, endOf, traceOf, happened, sum, sessionOf, framesOf, caughtOf, ledgerOn, markedOf, markedOn, appliedOn}
 
 -- ---- a frame of the trace, by the scene before it

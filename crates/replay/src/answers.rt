@@ -18,9 +18,9 @@ use clocksync::Offset;
 use command::CommandBuffer;
 use session::IssueAnswer;
 use session::ReportAnswer;
-use session::Session;
-use session::Stage;
 use session::UpdateAnswer;
+use session_state::Session;
+use session_state::Stage;
 use timestamp::Timestamp;
 
 // A name, an equals sign and a number; the name has both.

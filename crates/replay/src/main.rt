@@ -13,10 +13,10 @@ use input::In;
 use lines::Line;
 use lines::Place;
 use output::Out;
-use session::Session;
 use session_calls::Player;
 use session_calls::Tape;
 use session_calls::Words;
+use session_state::Session;
 
 // Passes over what is left of a comment.
 fn pass_over(p: Place, end: u32, input: &mut In) -> Place {

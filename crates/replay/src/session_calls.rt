@@ -7,9 +7,9 @@ use super::input::In;
 use super::lines;
 use super::lines::Place;
 use super::output::Out;
-use session::Session;
 use session::UpdateAnswer;
 use session::calls;
+use session_state::Session;
 use settings::Settings;
 use settings::TweeningMethod;
 

@@ -33,16 +33,16 @@ use Rattle.fixed_timestepper.specs.declared.Stop.{Stop}
 use Rattle.fixed_timestepper.specs.declared.Stop.the-variants.{Done, TooManyFrames, StatusStops, WeightStops}
 use Rattle.fixed_timestepper.specs.declared.Advanced.{Advanced}
 use Rattle.fixed_timestepper.specs.TimeKeeper.{Run, updatedOf, Advances}
-use Rattle.session.specs.declared.Stage.{Stage}
-use Rattle.session.specs.declared.Stage.the-variants.{SyncingInitialState}
-use Rattle.session.specs.declared.Session.{Session}
+use Rattle.session_state.specs.declared.Stage.{Stage}
+use Rattle.session_state.specs.declared.Stage.the-variants.{SyncingInitialState}
+use Rattle.session_state.specs.declared.Session.{Session}
 use Rattle.session.specs.declared.UpdateAnswer.{UpdateAnswer}
 use Rattle.session.specs.declared.ReportAnswer.{ReportAnswer}
-use Rattle.session.specs.Sound.{soundOf}
+use Rattle.session_state.specs.Sound.{soundOf}
 use Rattle.inbox_passes.specs.Passes.{hasForWorlds, heardIn, receivedIn, notedIn}
 use Rattle.session.specs.Calls.{timesOk, refusedAtOnce, Reply, Answer, refusedWith, withClock, startedAt, syncedOf, clockAfter, clockUpdateOf, sceneOf, closedOf, stageAfter, acceptedOf, concludedOf, serverTimeBy, unreceived, playedWith, playedOf, worldsUpdateOf, updateBy, updateOf, Updates, unreported, reportBy, reportOf}
 use Rattle.session.specs.Inner.{acceptedBy, concludedBy}
-use Rattle.session.proofs.Judging.{was-false, was-true}
+use Rattle.session_state.proofs.Judging.{was-false, was-true}
 
 -- ---- one of two answers
 

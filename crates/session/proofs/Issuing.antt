@@ -10,13 +10,13 @@ use Rattle.client.specs.declared.Received.{Received}
 use Rattle.client.specs.declared.Scene.{Scene}
 use Rattle.client.specs.Sides.{oldStampOf}
 use Rattle.client_receive.specs.Receive.{receivedOf}
-use Rattle.session.specs.declared.Stage.{Stage}
-use Rattle.session.specs.declared.Session.{Session}
+use Rattle.session_state.specs.declared.Stage.{Stage}
+use Rattle.session_state.specs.declared.Session.{Session}
 use Rattle.session.specs.declared.IssueAnswer.{IssueAnswer}
-use Rattle.session.specs.Sound.{soundOf}
+use Rattle.session_state.specs.Sound.{soundOf}
 use Rattle.session.specs.Calls.{sceneOf}
 use Rattle.session.specs.Issue.{unissued, entryOf, issuedBy, issuedOf, issueBy, issueOf}
-use Rattle.session.proofs.Judging.{was-false, was-true}
+use Rattle.session_state.proofs.Judging.{was-false, was-true}
 
 -- a received command, by the stage
 pub issued-stage : (x : Stage) (s : Session) (t : Timestamp) (g : Received) {r : IssueAnswer} → s .stage ≡ x → r ≡ issuedBy x s t g → r ≡ issuedBy (s .stage) s t g

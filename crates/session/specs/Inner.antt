@@ -11,7 +11,7 @@ use Rattle.fixed_timestepper.specs.declared.Stop.{Stop}
 use Rattle.fixed_timestepper.specs.declared.Advanced.{Advanced}
 use Rattle.fixed_timestepper.specs.declared.Stop.the-variants.{Done, TooManyFrames, StatusStops, WeightStops}
 use Rattle.fixed_timestepper.specs.TimeKeeper.{stopNumber}
-use Rattle.session.specs.declared.Session.{Session}
+use Rattle.session_state.specs.declared.Session.{Session}
 use Rattle.session.specs.Calls.{Reply, refusedWith, stageAfter, closedOf}
 
 -- the reply to an update that was played to its end: 28 where its words exceed the tape, and else the rest of the tape is zeroed

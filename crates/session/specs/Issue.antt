@@ -10,11 +10,11 @@ use Rattle.client.specs.declared.ClientWorldSimulations.{ClientWorldSimulations
 use Rattle.client.specs.declared.Received.{Received}
 use Rattle.client.specs.Sides.{emptyLedger, oldStampOf}
 use Rattle.client_receive.specs.Receive.{receivedOf}
-use Rattle.session.specs.declared.Stage.{Stage}
-use Rattle.session.specs.declared.Stage.the-variants.{SyncingClock, SyncingInitialState, Ready}
-use Rattle.session.specs.declared.Session.{Session}
+use Rattle.session_state.specs.declared.Stage.{Stage}
+use Rattle.session_state.specs.declared.Stage.the-variants.{SyncingClock, SyncingInitialState, Ready}
+use Rattle.session_state.specs.declared.Session.{Session}
 use Rattle.session.specs.declared.IssueAnswer.{IssueAnswer}
-use Rattle.session.specs.Sound.{soundOf}
+use Rattle.session_state.specs.Sound.{soundOf}
 use Rattle.session.specs.Calls.{sceneOf, closedOf}
 
 -- a refused issue: the session unchanged, all else 0

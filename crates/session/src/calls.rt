@@ -4,17 +4,14 @@ ghost use Prim.Native.Nat.{_≤_};
 ghost use lib.ListN.{length};
 ghost use Rattle.clocksync.specs.Clock.{serverSecondsOf};
 ghost use Rattle.fixed_timestepper.specs.TimeKeeper.{Advances};
-ghost use Rattle.session.specs.declared.Stage.the-variants.{Ready};
+ghost use Rattle.session_state.specs.declared.Stage.the-variants.{Ready};
 ghost use Rattle.session.specs.Issue.{unissued, issuedBy, issuedOf, issueOf};
 ghost use Rattle.session.specs.Inner.{acceptedBy, concludedBy};
 ghost use Rattle.session.specs.Calls.{playedWith, openOf, timesOk, refusedAtOnce, refusedWith, syncedOf, clockUpdateOf, sceneOf, closedOf, stageAfter, serverTimeBy, worldsUpdateOf, updateOf, Updates, unreported, reportedOf, reportOf};
 use super::IssueAnswer;
 use super::OpenAnswer;
 use super::ReportAnswer;
-use super::Session;
-use super::Stage;
 use super::UpdateAnswer;
-use super::sound;
 use client::DisplayTime;
 use client::Ledger;
 use client::Received;
@@ -27,6 +24,8 @@ use clocksync::ServerTime;
 use command::Entry;
 use fixed_timestepper::Advanced;
 use fixed_timestepper::Stop;
+use session_state::Session;
+use session_state::Stage;
 use settings::Settings;
 use timestamp::Timestamp;
 
@@ -75,7 +74,7 @@ pub fn refused_at_once(session: Session, delta: f64, seconds: f64, inbox: &[u32]
     if r != 0 {
         return r;
     }
-    if !sound::is_sound(session) {
+    if !session_state::is_sound(session) {
         return 20;
     }
     0
@@ -404,7 +403,7 @@ pub fn issue(session: Session, handle: u32) -> IssueAnswer
     if handle >= 16777216 {
         return refuse_issue(7, session);
     }
-    if !sound::is_sound(session) {
+    if !session_state::is_sound(session) {
         return refuse_issue(20, session);
     }
     let stage = session.stage;
@@ -455,7 +454,7 @@ pub fn report_worlds(session: Session) -> ReportAnswer
 pub fn report(session: Session) -> ReportAnswer
     ensures { λ r. ⌜ r ≡ reportOf session ⌝ }
 {
-    if !sound::is_sound(session) {
+    if !session_state::is_sound(session) {
         return refuse_report(20);
     }
     let stage = session.stage;

@@ -1,31 +1,13 @@
 // The session of a client, and its calls: open, update, issue and report. It answers to `Client` and src/client/stage*.rs of crystalorb.
 // A call takes the session by value and returns it; a refused call returns it unchanged.
 pub mod calls;
-pub mod sound;
 
-use client::ClientWorldSimulations;
 use client::DisplayTime;
 use client::Ledger;
 use client::ReconciliationStatus;
-use clocksync::Clock;
-use settings::Settings;
+use session_state::Session;
+use session_state::Stage;
 use timestamp::Timestamp;
-
-// How far the client is connected. Worlds exist in every stage but the first.
-pub enum Stage {
-    SyncingClock,
-    SyncingInitialState,
-    Ready,
-}
-
-// All state of a client.
-pub struct Session {
-    pub settings: Settings,
-    pub stage: Stage,
-    pub clock: Clock,
-    pub worlds: ClientWorldSimulations,
-    pub overshoot: f64,
-}
 
 // The answer of `open`.
 pub struct OpenAnswer {

@@ -39,11 +39,11 @@ use Rattle.fixed_timestepper.specs.declared.Stop.{Stop}
 use Rattle.fixed_timestepper.specs.declared.Stop.the-variants.{Done, TooManyFrames, StatusStops, WeightStops}
 use Rattle.fixed_timestepper.specs.TimeKeeper.{Run, stopNumber}
 use Rattle.session_laws.proofs.LedgerRuns.{KeptBy, updated-kept}
-use Rattle.session.specs.declared.Stage.{Stage}
-use Rattle.session.specs.declared.Stage.the-variants.{SyncingClock, SyncingInitialState, Ready}
-use Rattle.session.specs.declared.Session.{Session}
+use Rattle.session_state.specs.declared.Stage.{Stage}
+use Rattle.session_state.specs.declared.Stage.the-variants.{SyncingClock, SyncingInitialState, Ready}
+use Rattle.session_state.specs.declared.Session.{Session}
 use Rattle.session.specs.declared.IssueAnswer.{IssueAnswer}
-use Rattle.session.specs.Sound.{soundOf, worldsSound, buffersSound, queuedSound, weightSound, initSound, connectedOf, overshootSound}
+use Rattle.session_state.specs.Sound.{soundOf, worldsSound, buffersSound, queuedSound, weightSound, initSound, connectedOf, overshootSound}
 use Rattle.inbox_passes.specs.Passes.{receiveOne, receivedIn, noteOne, notedIn, heardIn}
 use Rattle.session.specs.Calls.{timesOk, refusedAtOnce, Reply, Answer, refusedWith, sceneOf, closedOf, stageAfter, acceptedOf, concludedOf, serverTimeBy, sceneAfter, clockAfter, playedOf, worldsUpdateOf, updateBy, updateOf}
 use Rattle.session.specs.Issue.{unissued, withWorldsOf, entryOf, issuedBy, issuedOf, issueBy, issueOf}

@@ -44,8 +44,8 @@ use Rattle.client.specs.Sides.{newSideOf, oldSideOf, worldOf, oldStampOf, newSt
 use Rattle.session_laws.proofs.SoundWorlds.{SmallQueued, InitOrder, Kept, Weighed, is-nought, is-even, received-kept, received-weighed, noted-kept, noted-weighed}
 use Rattle.session_laws.proofs.SoundFrames.{weighed-unit}
 use Rattle.session_laws.proofs.SoundRuns.{InStep}
-use Rattle.session.specs.declared.Session.{Session}
-use Rattle.session.specs.Sound.{queuedSound, weightSound, initSound, buffersSound, worldsSound, overshootSound, connectedOf, soundOf}
+use Rattle.session_state.specs.declared.Session.{Session}
+use Rattle.session_state.specs.Sound.{queuedSound, weightSound, initSound, buffersSound, worldsSound, overshootSound, connectedOf, soundOf}
 use Rattle.inbox_passes.specs.Passes.{hearOne, heardIn, receiveOne, receivedIn, noteOne, notedIn}
 use Rattle.session.specs.Calls.{timesOk, clockAfter, serverTimeBy, sceneAfter, sceneOf}
 

@@ -22,11 +22,11 @@ use Rattle.client.specs.declared.Received.{Received}
 use Rattle.client_receive.specs.Receive.{receivedOf}
 use Rattle.session_laws.proofs.TraceFrames.{QueuedFits, Fitting}
 use Rattle.session_laws.proofs.TraceArrivals.{Alike, alike-self, alike-then, alike-fitting, Offers, offers-self, offers-then, offers, notes-alike, notes-fit}
-use Rattle.session.specs.declared.Stage.{Stage}
-use Rattle.session.specs.declared.Stage.the-variants.{SyncingClock, SyncingInitialState, Ready}
-use Rattle.session.specs.declared.Session.{Session}
+use Rattle.session_state.specs.declared.Stage.{Stage}
+use Rattle.session_state.specs.declared.Stage.the-variants.{SyncingClock, SyncingInitialState, Ready}
+use Rattle.session_state.specs.declared.Session.{Session}
 use Rattle.session.specs.declared.IssueAnswer.{IssueAnswer}
-use Rattle.session.specs.Sound.{soundOf, connectedOf, worldsSound, overshootSound}
+use Rattle.session_state.specs.Sound.{soundOf, connectedOf, worldsSound, overshootSound}
 use Rattle.inbox_passes.specs.Passes.{receiveOne, receivedIn, noteOne, notedIn}
 use Rattle.session.specs.Calls.{sceneOf, sceneAfter}
 use Rattle.session.specs.Issue.{unissued, entryOf, issuedBy, issuedOf, issueBy, issueOf}

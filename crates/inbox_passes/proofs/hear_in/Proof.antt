@@ -17,7 +17,7 @@ use Rattle.inbox_passes.specs.Inner.{hearNext, hearIn}
 use Rattle.inbox_passes.proofs.Reading.{hear-folds}
 use Rattle.inbox_passes.proofs.hear_one.Symbol as take-def
 use Rattle.inbox_passes.proofs.hear_one.Met as take-thm
-use Rattle.inbox_passes.proofs.hear_in.Key.{name as #session·inbox-passes·hear-in}
+use Rattle.inbox_passes.proofs.hear_in.Key.{name as #inbox-passes·hear-in}
 use Rattle.inbox_passes.proofs.hear_in as this
 use Rattle.inbox_passes.proofs.hear_in.Statement as stated
 use Rattle.inbox_passes.proofs.hear_in.Code as code
@@ -26,7 +26,7 @@ pub hear-in-spec : {M : Type 1} → stated.statement M
 unfolding code.routine tablesOf
 hear-in-spec 𝓤 H 𝓜 𝓖 𝓡 =
     entered 𝓤 H (tripleOf 𝓤 H (𝓖 .A) this.signature (this.spec 𝓤 H (𝓖 .A) (𝓜 .mem) (𝓡 .run)))
-    (tables 𝓤 H 𝓜 𝓡 code.env .C) (tables 𝓤 H 𝓜 𝓡 code.env .Λ) #session·inbox-passes·hear-in code.function (code.unfolded 𝓤 H 𝓜 𝓡)
+    (tables 𝓤 H 𝓜 𝓡 code.env .C) (tables 𝓤 H 𝓜 𝓡 code.env .Λ) #inbox-passes·hear-in code.function (code.unfolded 𝓤 H 𝓜 𝓡)
     (pass-meets 𝓤 H (𝓖 .A) (givenOf 𝓤 H 𝓜 𝓖) (𝓜 .mem) (𝓡 .run)
     (of-struct 𝓤 H (𝓖 .A) (givenOf 𝓤 H 𝓜 𝓖) K.the-type K′.the-laws K′.the-plain)
     hearNext hearIn hear-folds

@@ -21,7 +21,7 @@ use Rattle.inbox_passes.specs.Inner.{metIn}
 use Rattle.inbox_passes.proofs.Reading.{met-folds}
 use Rattle.inbox_passes.proofs.met_one.Symbol as take-def
 use Rattle.inbox_passes.proofs.met_one.Met as take-thm
-use Rattle.inbox_passes.proofs.met_in.Key.{name as #session·inbox-passes·met-in}
+use Rattle.inbox_passes.proofs.met_in.Key.{name as #inbox-passes·met-in}
 use Rattle.inbox_passes.proofs.met_in as this
 use Rattle.inbox_passes.proofs.met_in.Statement as stated
 use Rattle.inbox_passes.proofs.met_in.Code as code
@@ -30,7 +30,7 @@ pub met-in-spec : {M : Type 1} → stated.statement M
 unfolding code.routine tablesOf
 met-in-spec 𝓤 H 𝓜 𝓖 𝓡 =
     entered 𝓤 H (tripleOf 𝓤 H (𝓖 .A) this.signature (this.spec 𝓤 H (𝓖 .A) (𝓜 .mem) (𝓡 .run)))
-    (tables 𝓤 H 𝓜 𝓡 code.env .C) (tables 𝓤 H 𝓜 𝓡 code.env .Λ) #session·inbox-passes·met-in code.function (code.unfolded 𝓤 H 𝓜 𝓡)
+    (tables 𝓤 H 𝓜 𝓡 code.env .C) (tables 𝓤 H 𝓜 𝓡 code.env .Λ) #inbox-passes·met-in code.function (code.unfolded 𝓤 H 𝓜 𝓡)
     (pass-meets 𝓤 H (𝓖 .A) (givenOf 𝓤 H 𝓜 𝓖) (𝓜 .mem) (𝓡 .run)
     (record { row = bool; mir = tyBool; val = vbool; tells = bool-tells; typed = λ x v is. bool-lawful 𝓤 H (𝓖 .A) (givenOf 𝓤 H 𝓜 𝓖) .typed x (v ∷ []) is .0; makes = bool-makes 𝓤 H (𝓖 .A) (givenOf 𝓤 H 𝓜 𝓖) })
     metOne metIn met-folds

@@ -1,7 +1,7 @@
 -- `conclude_issue` meets its contract: 24 before the session is ready. Assumes nothing.
 use borrow.Author.Needs.{needs}
 use Rattle.session.proofs.Issuing.{issued-stage}
-use Rattle.session.specs.declared.Stage.the-variants.{SyncingClock, SyncingInitialState, Ready}
+use Rattle.session_state.specs.declared.Stage.the-variants.{SyncingClock, SyncingInitialState, Ready}
 use Rattle.session.proofs.calls.conclude_issue.Statement.{statement}
 use Rattle.session.proofs.calls.conclude_issue.Tie as tie
 

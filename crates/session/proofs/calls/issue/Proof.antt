@@ -1,7 +1,7 @@
 -- `issue` meets its contract: 7, 20, or by the stage. Assumes nothing.
 use borrow.Author.Needs.{needs}
 use Rattle.session.proofs.Issuing.{issue-wide, issue-unsound, issue-stage}
-use Rattle.session.specs.declared.Stage.the-variants.{SyncingClock, SyncingInitialState, Ready}
+use Rattle.session_state.specs.declared.Stage.the-variants.{SyncingClock, SyncingInitialState, Ready}
 use Rattle.session.proofs.calls.issue.Statement.{statement}
 use Rattle.session.proofs.calls.issue.Tie as tie
 

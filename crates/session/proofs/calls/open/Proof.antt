@@ -4,7 +4,7 @@ use mathlib.Core.Path.{sym, _∙_}
 use mathlib.Core.Bool.{false, cond}
 use lib.IntN.{pos}
 use lib.Ieee.{fin, ofBits}
-use Rattle.session.specs.declared.Stage.the-variants.{SyncingClock}
+use Rattle.session_state.specs.declared.Stage.the-variants.{SyncingClock}
 use Rattle.session.specs.Calls.{openOf, startOf}
 use Rattle.session.proofs.calls.open.Statement.{statement}
 use Rattle.session.proofs.calls.open.Tie as tie

@@ -1,7 +1,7 @@
 -- `report` meets its contract: 20, 21, or where the worlds stand. Assumes nothing.
 use borrow.Author.Needs.{needs}
 use Rattle.session.proofs.Answering.{report-unsound, report-by}
-use Rattle.session.specs.declared.Stage.the-variants.{SyncingClock, SyncingInitialState, Ready}
+use Rattle.session_state.specs.declared.Stage.the-variants.{SyncingClock, SyncingInitialState, Ready}
 use Rattle.session.proofs.calls.report.Statement.{statement}
 use Rattle.session.proofs.calls.report.Tie as tie
 

@@ -2,7 +2,7 @@
 use borrow.Author.Needs.{needs}
 use lib.Ieee.{ofBits, neg}
 use Rattle.session.specs.Calls.{timesOk}
-use Rattle.session.proofs.Judging.{first-true, first-false}
+use Rattle.session_state.proofs.Judging.{first-true, first-false}
 use Rattle.session.proofs.calls.times_ok.Statement.{statement}
 use Rattle.session.proofs.calls.times_ok.Tie as tie
 

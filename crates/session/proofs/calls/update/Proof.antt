@@ -8,12 +8,12 @@ use mathlib.Core.Path.{_≡_, refl, sym, _∙_}
 use types.Run.{OneOf}
 use denote.Enum.Declared.{tagOf}
 use lib.Ieee.{Float}
-use Rattle.session.specs.declared.Session.{Session}
-use Rattle.session.specs.declared.Stage.{Stage}
-use Rattle.session.specs.declared.Stage.the-variants.{SyncingClock, SyncingInitialState, Ready}
+use Rattle.session_state.specs.declared.Session.{Session}
+use Rattle.session_state.specs.declared.Stage.{Stage}
+use Rattle.session_state.specs.declared.Stage.the-variants.{SyncingClock, SyncingInitialState, Ready}
 use Rattle.session.specs.declared.UpdateAnswer.{UpdateAnswer}
 use Rattle.session.specs.Calls.{refusedAtOnce, updateBy, worldsUpdateOf, updateOf, Updates}
-use Rattle.session.proofs.Stage as Stages
+use Rattle.session_state.proofs.Stage as Stages
 use Rattle.session.proofs.Answering.{not-refused-few, updates-as, update-refused, update-by}
 use Rattle.session.proofs.calls.update.Statement.{statement}
 use Rattle.session.proofs.calls.update.Tie as tie

@@ -10,7 +10,7 @@ use Rattle.simulation.specs.declared.Simulation.{Simulation}
 use Rattle.client.specs.declared.ClientWorldSimulations.{ClientWorldSimulations}
 use Rattle.client.specs.Sides.{newSideOf, oldSideOf, worldOf, oldStampOf, newStampOf}
 use Rattle.settings.specs.Settings.{between}
-use Rattle.session.specs.Sound.{zero64, one64, weightSound, initSound}
+use Rattle.session_state.specs.Sound.{zero64, one64, weightSound, initSound}
 
 -- not b is true, or false: b is the other
 pub was-false : (b : Bool) → not b ≡ true → b ≡ false

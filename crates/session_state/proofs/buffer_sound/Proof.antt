@@ -4,8 +4,8 @@ use mathlib.Core.Path.{_≡_, refl}
 use mathlib.Core.Bool.{true}
 use Rattle.command.specs.declared.CommandBuffer.{CommandBuffer}
 use Rattle.command.specs.Soundness.{inOrder, soundBuffer}
-use Rattle.session.proofs.sound.buffer_sound.Statement.{statement}
-use Rattle.session.proofs.sound.buffer_sound.Tie as tie
+use Rattle.session_state.proofs.buffer_sound.Statement.{statement}
+use Rattle.session_state.proofs.buffer_sound.Tie as tie
 
 empty-sound : (b : CommandBuffer) → b .len ≡ 0 → true ≡ soundBuffer b
 unfolding soundBuffer inOrder

@@ -1,9 +1,9 @@
 -- `buffers_sound` meets its contract: each buffer in turn. Assumes nothing.
 use borrow.Author.Needs.{needs}
-use Rattle.session.specs.Sound.{buffersSound}
-use Rattle.session.proofs.Judging.{both-first, both-second, both-third}
-use Rattle.session.proofs.sound.buffers_sound.Statement.{statement}
-use Rattle.session.proofs.sound.buffers_sound.Tie as tie
+use Rattle.session_state.specs.Sound.{buffersSound}
+use Rattle.session_state.proofs.Judging.{both-first, both-second, both-third}
+use Rattle.session_state.proofs.buffers_sound.Statement.{statement}
+use Rattle.session_state.proofs.buffers_sound.Tie as tie
 
 buffer-sound-requires : tie.Need-buffer-sound-requires
 buffer-sound-requires c κs = search needs

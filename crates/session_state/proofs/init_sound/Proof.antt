@@ -1,8 +1,8 @@
 -- `init_sound` meets its contract. Assumes nothing.
 use borrow.Author.Needs.{needs}
-use Rattle.session.proofs.Judging.{init-in, init-out}
-use Rattle.session.proofs.sound.init_sound.Statement.{statement}
-use Rattle.session.proofs.sound.init_sound.Tie as tie
+use Rattle.session_state.proofs.Judging.{init-in, init-out}
+use Rattle.session_state.proofs.init_sound.Statement.{statement}
+use Rattle.session_state.proofs.init_sound.Tie as tie
 
 old-side-requires : tie.Need-old-side-requires
 old-side-requires c κs = search needs

@@ -1,9 +1,9 @@
 -- `weight_sound` meets its contract: by whether the stamps are equal. Assumes nothing.
 use borrow.Author.Needs.{needs}
 use lib.Ieee.{ofBits}
-use Rattle.session.proofs.Judging.{weight-equal-in, weight-equal-out, weight-apart}
-use Rattle.session.proofs.sound.weight_sound.Statement.{statement}
-use Rattle.session.proofs.sound.weight_sound.Tie as tie
+use Rattle.session_state.proofs.Judging.{weight-equal-in, weight-equal-out, weight-apart}
+use Rattle.session_state.proofs.weight_sound.Statement.{statement}
+use Rattle.session_state.proofs.weight_sound.Tie as tie
 
 last-completed-timestamp-requires : tie.Need-last-completed-timestamp-requires
 last-completed-timestamp-requires c κs = search needs

@@ -1,9 +1,8 @@
-// Whether a session is sound: what calls leave, as document 01 lists it.
+// The session of a client, all of its state by value, and whether it is sound: what calls leave, as document 01 lists it. It answers to `Client` and the stages of
+// src/client/stage*.rs of crystalorb.
 ghost use mathlib.Core.Path.{_≡_};
 ghost use Rattle.command.specs.Soundness.{soundBuffer};
-ghost use Rattle.session.specs.Sound.{queuedSound, weightSound, initSound, buffersSound, worldsSound, overshootSound, connectedOf, soundOf};
-use super::Session;
-use super::Stage;
+ghost use Rattle.session_state.specs.Sound.{queuedSound, weightSound, initSound, buffersSound, worldsSound, overshootSound, connectedOf, soundOf};
 use client::ClientWorldSimulations;
 use client::Queued;
 use client::sides;
@@ -11,6 +10,23 @@ use clocksync::ClientId;
 use clocksync::Clock;
 use clocksync::Offset;
 use command::CommandBuffer;
+use settings::Settings;
+
+// How far the client is connected. Worlds exist in every stage but the first.
+pub enum Stage {
+    SyncingClock,
+    SyncingInitialState,
+    Ready,
+}
+
+// All state of a client.
+pub struct Session {
+    pub settings: Settings,
+    pub stage: Stage,
+    pub clock: Clock,
+    pub worlds: ClientWorldSimulations,
+    pub overshoot: f64,
+}
 
 // A queued snapshot's handle is within 24 bits.
 pub fn queued_sound(q: Queued) -> bool

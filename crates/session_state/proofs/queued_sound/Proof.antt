@@ -1,9 +1,9 @@
 -- `queued_sound` meets its contract. Assumes nothing.
 use borrow.Author.Needs.{needs}
 use mathlib.Core.Path.{ap, sym}
-use Rattle.session.specs.Sound.{queuedSound}
-use Rattle.session.proofs.sound.queued_sound.Statement.{statement}
-use Rattle.session.proofs.sound.queued_sound.Tie as tie
+use Rattle.session_state.specs.Sound.{queuedSound}
+use Rattle.session_state.proofs.queued_sound.Statement.{statement}
+use Rattle.session_state.proofs.queued_sound.Tie as tie
 
 enum-told : tie.Need-enum-told
 enum-told c = search needs

@@ -1,9 +1,9 @@
 -- `worlds_sound` meets its contract: each part in turn. Assumes nothing.
 use borrow.Author.Needs.{needs}
-use Rattle.session.specs.Sound.{worldsSound}
-use Rattle.session.proofs.Judging.{four-first, four-second, four-third, four-last}
-use Rattle.session.proofs.sound.worlds_sound.Statement.{statement}
-use Rattle.session.proofs.sound.worlds_sound.Tie as tie
+use Rattle.session_state.specs.Sound.{worldsSound}
+use Rattle.session_state.proofs.Judging.{four-first, four-second, four-third, four-last}
+use Rattle.session_state.proofs.worlds_sound.Statement.{statement}
+use Rattle.session_state.proofs.worlds_sound.Tie as tie
 
 buffers-sound-requires : tie.Need-buffers-sound-requires
 buffers-sound-requires c κs = search needs

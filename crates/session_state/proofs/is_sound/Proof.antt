@@ -1,9 +1,9 @@
 -- `is_sound` meets its contract: each part in turn. Assumes nothing.
 use borrow.Author.Needs.{needs}
-use Rattle.session.specs.Sound.{soundOf}
-use Rattle.session.proofs.Judging.{five-first, five-second, five-third, five-fourth, five-last}
-use Rattle.session.proofs.sound.is_sound.Statement.{statement}
-use Rattle.session.proofs.sound.is_sound.Tie as tie
+use Rattle.session_state.specs.Sound.{soundOf}
+use Rattle.session_state.proofs.Judging.{five-first, five-second, five-third, five-fourth, five-last}
+use Rattle.session_state.proofs.is_sound.Statement.{statement}
+use Rattle.session_state.proofs.is_sound.Tie as tie
 
 passes-requires : tie.Need-passes-requires
 passes-requires c κs = search needs

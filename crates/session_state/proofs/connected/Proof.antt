@@ -1,10 +1,10 @@
 -- `connected` meets its contract, by the stage. Assumes nothing.
 use borrow.Author.Needs.{needs}
 use mathlib.Core.Path.{ap, sym, _∙_}
-use Rattle.session.specs.declared.Stage.{Stage}
-use Rattle.session.specs.Sound.{connectedOf, noOffset}
-use Rattle.session.proofs.sound.connected.Statement.{statement}
-use Rattle.session.proofs.sound.connected.Tie as tie
+use Rattle.session_state.specs.declared.Stage.{Stage}
+use Rattle.session_state.specs.Sound.{connectedOf, noOffset}
+use Rattle.session_state.proofs.connected.Statement.{statement}
+use Rattle.session_state.proofs.connected.Tie as tie
 
 enum-told : tie.Need-enum-told
 enum-told c = search needs

@@ -15,9 +15,9 @@ use Rattle.client.specs.declared.Queued.{Queued}
 use Rattle.client.specs.declared.Queued.the-variants.{Nothing, Held}
 use Rattle.client.specs.declared.ClientWorldSimulations.{ClientWorldSimulations}
 use Rattle.client.specs.Sides.{newSideOf, oldSideOf, worldOf, oldStampOf, newStampOf}
-use Rattle.session.specs.declared.Stage.{Stage}
-use Rattle.session.specs.declared.Stage.the-variants.{SyncingClock, SyncingInitialState, Ready}
-use Rattle.session.specs.declared.Session.{Session}
+use Rattle.session_state.specs.declared.Stage.{Stage}
+use Rattle.session_state.specs.declared.Stage.the-variants.{SyncingClock, SyncingInitialState, Ready}
+use Rattle.session_state.specs.declared.Session.{Session}
 
 -- +0.0 and 1.0
 abbrev pub zero64 : Float

@@ -1,9 +1,9 @@
 -- `overshoot_sound` meets its contract. Assumes nothing.
 use lib.Ieee.{ofBits}
-use Rattle.session.specs.Sound.{overshootSound}
-use Rattle.session.proofs.Judging.{from-low, below-low}
-use Rattle.session.proofs.sound.overshoot_sound.Statement.{statement}
-use Rattle.session.proofs.sound.overshoot_sound.Tie as tie
+use Rattle.session_state.specs.Sound.{overshootSound}
+use Rattle.session_state.proofs.Judging.{from-low, below-low}
+use Rattle.session_state.proofs.overshoot_sound.Statement.{statement}
+use Rattle.session_state.proofs.overshoot_sound.Tie as tie
 
 returns : tie.Need-returns
 unfolding overshootSound ofBits
