@@ -16,7 +16,8 @@ use Rattle.client.specs.declared.Ledger.{Ledger}
 use Rattle.client.specs.declared.Scene.{Scene}
 use Rattle.client.specs.declared.Shown.{Shown}
 use Rattle.client.specs.Sides.{newSideOf, worldOf, withWorld, stampOf, newStampOf, ledgerOf, withLedger, counted, applies, putOf, Played, still, andThen, Plays}
-use Rattle.client_frame.specs.Frame.{caughtUpOf, steppedSide, steppedNew, putBack, caughtOf}
+use Rattle.client_frame.specs.Frame.{caughtUpOf, steppedSide, steppedNew, caughtOf}
+use Rattle.client_frame.specs.Inner.{putBack}
 use Rattle.client.proofs.Happening.{new-stamp-is, plays-still, plays-as, plays-then}
 use Rattle.client_frame.proofs.Bounds.{Few, stepped-new-short}
 use Rattle.client_frame.proofs.Framing.{step-plays, step-new-plays}

@@ -33,7 +33,8 @@ use Rattle.client.specs.declared.Framed.{Framed}
 use Rattle.client.specs.Sides.{newSideOf, oldSideOf, worldOf, withWorld, withWeight, withWorlds, withLedger, ledgerOf, counted, loads, applies, putOf, oldStampOf, newStampOf, Played, andThen, doneAt, Plays}
 use Rattle.client.specs.Status.{statusOf}
 use Rattle.client_publish.specs.Publish.{publishedOld, publishedBlended}
-use Rattle.client_frame.specs.Frame.{loadsOf, readiedWith, loadedAt, loadedOf, loadedQueued, clamped, blendedOn, resetNew, openedOf, steppedSide, caughtUpOf, withStep, steppedNew, putBack, caughtOf, simulatedOf, blendedBy, publishedBy, shownOf, isObsolete, tooFarOf, stopsOf, snapshotOf, openOf, frameOf, frameStops, Frames}
+use Rattle.client_frame.specs.Frame.{loadsOf, readiedWith, loadedAt, loadedOf, loadedQueued, clamped, blendedOn, resetNew, openedOf, steppedSide, caughtUpOf, withStep, steppedNew, caughtOf, simulatedOf, blendedBy, publishedBy, shownOf, isObsolete, tooFarOf, stopsOf, snapshotOf, openOf, frameOf, frameStops, Frames}
+use Rattle.client_frame.specs.Inner.{putBack}
 use Rattle.client.proofs.Happening.{plays-still, plays-as, plays-then, plays-done}
 
 -- ---- a load

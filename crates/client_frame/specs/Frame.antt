@@ -13,7 +13,6 @@ use Rattle.tape.specs.Tape.{Puts}
 use Rattle.tape.specs.Words.{snapshotWord}
 use Rattle.command.specs.declared.CommandBuffer.{CommandBuffer}
 use Rattle.command.specs.Buffer.{restOf}
-use Rattle.simulation.specs.declared.Simulation.{Simulation}
 use Rattle.simulation.specs.World.{stepOf, resetOf, loadOf, isLess, Load}
 use Rattle.client.specs.declared.FastforwardingHealth.the-variants.{Healthy, Obsolete, Overshot}
 use Rattle.client.specs.declared.ReconciliationStatus.{ReconciliationStatus}
@@ -21,7 +20,6 @@ use Rattle.client.specs.declared.ReconciliationStatus.the-variants.{AwaitingSna
 use Rattle.client.specs.declared.Queued.{Queued}
 use Rattle.client.specs.declared.Queued.the-variants.{Nothing, Held}
 use Rattle.client.specs.declared.ClientWorldSimulations.{ClientWorldSimulations}
-use Rattle.client.specs.declared.Ledger.{Ledger}
 use Rattle.client.specs.declared.Scene.{Scene}
 use Rattle.client.specs.declared.Framed.{Framed}
 use Rattle.client.specs.Sides.{newSideOf, oldSideOf, worldOf, withWorld, withWeight, withWorlds, withLedger, ledgerOf, loads, oldStampOf, newStampOf, Played, still, andThen, doneAt}
@@ -105,10 +103,6 @@ steppedNew s =
       scene = withStep (steppedSide s (newSideOf (s .worlds)) .scene);
       words = steppedSide s (newSideOf (s .worlds)) .words;
     }
-
--- the scene with a world and its ledger at a side, and another count of steps
-unfoldable pub putBack : Scene → ℕ → Simulation → Ledger → ℕ → Scene
-putBack s side w l n = withLedger (record { worlds = withWorld (s .worlds) side w; left = s .left; right = s .right; steps = n }) side l
 
 -- nothing more where the test holds
 abbrev pub unless : Bool → Scene → Played → Played

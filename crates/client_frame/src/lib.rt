@@ -2,7 +2,8 @@
 ghost use mathlib.Core.Path.{_≡_};
 ghost use Prim.Native.Nat.{_<_, _≤_};
 ghost use Rattle.client.specs.Sides.{Plays, oldStampOf, applies};
-ghost use Rattle.client_frame.specs.Frame.{loadsOf, readiedWith, loadedOf, clamped, blendedOn, resetNew, openedOf, steppedSide, caughtUpOf, putBack, caughtOf, simulatedOf, blendedBy, publishedBy, isObsolete, tooFarOf, stopsOf, shownOf, frameOf, frameStops, Frames};
+ghost use Rattle.client_frame.specs.Frame.{loadsOf, readiedWith, loadedOf, clamped, blendedOn, resetNew, openedOf, steppedSide, caughtUpOf, caughtOf, simulatedOf, blendedBy, publishedBy, isObsolete, tooFarOf, stopsOf, shownOf, frameOf, frameStops, Frames};
+ghost use Rattle.client_frame.specs.Inner.{putBack};
 use client::ClientWorldSimulations;
 use client::FastforwardingHealth;
 use client::Framed;
