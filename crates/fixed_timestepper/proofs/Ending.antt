@@ -20,7 +20,7 @@ use Rattle.fixed_timestepper.specs.declared.Stop.{Stop}
 use Rattle.fixed_timestepper.specs.declared.Stop.the-variants.{Done, WeightStops}
 use Rattle.fixed_timestepper.specs.declared.Advanced.{Advanced}
 use Rattle.fixed_timestepper.specs.TimeKeeper.{absOf, driftOf, correctedOf, correctedOvershoot, Run, skipsOf, skipped, maybeSkipped, finishedOf}
-use Rattle.fixed_timestepper.specs.Inner.{runBy, Skips, finishedBy}
+use Rattle.fixed_timestepper.specs.Inner.{runBy, Skips, endedOf}
 
 -- the test for a skip, by the calls that make it
 pub skips-is : (stamp : Timestamp) (overshoot server : Float) (c : Settings) {old : Timestamp} {d a : Float} {b : Bool}
@@ -71,23 +71,7 @@ skip-made a server c {was} {last} {target} {from} {difference} {overshoot} {corr
 pub skip-none : (a : Advanced) (server : Float) (c : Settings) (was : List ℕ) → skipsOf (oldStampOf (a .scene .worlds)) (a .overshoot) server c ≡ false → Skips a server c was a was
 skip-none a server c was h = by-run a server c (runBy a []) (not-skipped a server c h) refl refl refl refl (puts-none was (a .at))
 
--- an update whose weight is in its range
-pub finished-in : (a : Advanced) (c : Settings) {w t : Float} {lag : ℕ} {b : Bool} {v : ClientWorldSimulations}
-    → w ≡ tweenOf (a .overshoot) (c .timestep) → b ≡ weightOk w → b ≡ true → t ≡ shapedOf (c .method) w → lag ≡ bitsOf (lagFrameCountOf c) → v ≡ postUpdateOf (a .scene .worlds) t lag
-    → _≡_ {A = Advanced} (record { scene = withWorlds (a .scene) v; overshoot = a .overshoot; frames = a .frames; at = a .at; stop = Done }) (finishedBy a c)
-unfolding finishedBy finishedOf
-finished-in a c hw hb ht hs hl hv =
-    rw (sym (ap weightOk hw) ∙ sym hb ∙ ht)
-    (λ i. record {
-      scene = withWorlds (a .scene) ((hv ∙ (λ j. postUpdateOf (a .scene .worlds) ((hs ∙ ap (shapedOf (c .method)) hw) j) (hl j))) i);
-      overshoot = a .overshoot;
-      frames = a .frames;
-      at = a .at;
-      stop = Done;
-    })
-
--- an update whose weight is not
-pub finished-out : (a : Advanced) (c : Settings) {w : Float} {b : Bool} → w ≡ tweenOf (a .overshoot) (c .timestep) → b ≡ weightOk w → b ≡ false
-    → _≡_ {A = Advanced} (record { scene = a .scene; overshoot = a .overshoot; frames = a .frames; at = a .at; stop = WeightStops }) (finishedBy a c)
-unfolding finishedBy finishedOf
-finished-out a c hw hb ht = rw (sym (ap weightOk hw) ∙ sym hb ∙ ht)
+-- what an update ends with, by the calls that make it
+pub ended-is : (c : Settings) (w : ClientWorldSimulations) (o : Float) {x t : Float} {lag : ℕ} {v : ClientWorldSimulations}
+    → x ≡ tweenOf o (c .timestep) → t ≡ shapedOf (c .method) x → lag ≡ bitsOf (lagFrameCountOf c) → v ≡ postUpdateOf w t lag → v ≡ endedOf c w o
+ended-is c w o hx ht hl hv = hv ∙ (λ i. postUpdateOf w ((ht ∙ ap (shapedOf (c .method)) hx) i) (hl i))

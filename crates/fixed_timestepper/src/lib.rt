@@ -2,8 +2,9 @@
 // in its order.
 ghost use mathlib.Core.Path.{_≡_};
 ghost use Prim.Native.Nat.{_≤_, _<_};
-ghost use Rattle.fixed_timestepper.specs.TimeKeeper.{absOf, atLeastZero, logicalOf, driftOf, beyondDeadband, compensatedOf, runOf, updatedOf, Advances};
-ghost use Rattle.fixed_timestepper.specs.Inner.{Skips, finishedBy};
+ghost use Rattle.fixed_timestepper.specs.TimeKeeper.{absOf, atLeastZero, logicalOf, driftOf, beyondDeadband, compensatedOf, runOf, Advances};
+ghost use Rattle.fixed_timestepper.specs.Inner.{Skips, endedOf, unendedOf};
+use client::ClientWorldSimulations;
 use client::Scene;
 use client::sides;
 use settings::Settings;
@@ -169,41 +170,25 @@ pub fn timeskip(a: Advanced, server: f64, settings: Settings, tape: &mut [u32]) 
     a
 }
 
-// What an update ends with: the tween weight is tested, shaped, and displayed.
-pub fn finished(a: Advanced, settings: Settings) -> Advanced
-    ensures { λ r. ⌜ r ≡ finishedBy a settings ⌝ }
+// The worlds that an update ends with, its tween weight being in its range: shaped, and displayed.
+pub fn ended(
+    worlds: ClientWorldSimulations,
+    overshoot: f64,
+    settings: Settings,
+) -> ClientWorldSimulations
+    ensures { λ r. ⌜ r ≡ endedOf settings worlds overshoot ⌝ }
 {
-    let w = client_skip::tween_weight(a.overshoot, settings.timestep);
-    let scene = a.scene;
-    if client_skip::is_weight(w) {
-        let method = settings.method;
-        let v = client_skip::post_update(
-            scene.worlds,
-            method.shape_interpolation_t(w),
-            settings.lag_compensation_frame_count(),
-        );
-        let mut s = scene;
-        s.worlds = v;
-        let done = Stop::Done;
-        return Advanced {
-            scene: s,
-            overshoot: a.overshoot,
-            frames: a.frames,
-            at: a.at,
-            stop: done,
-        };
-    }
-    let stop = Stop::WeightStops;
-    Advanced {
-        scene,
-        overshoot: a.overshoot,
-        frames: a.frames,
-        at: a.at,
-        stop,
-    }
+    let w = client_skip::tween_weight(overshoot, settings.timestep);
+    let method = settings.method;
+    client_skip::post_update(
+        worlds,
+        method.shape_interpolation_t(w),
+        settings.lag_compensation_frame_count(),
+    )
 }
 
-// One update of the worlds, by the delta and the server's time.
+// The frames and the skip of an update, by the delta and the server's time. What it ends with is left to the caller, who first looks at
+// all refusals: so no way out of here copies the worlds for a refusal.
 pub fn update(
     scene: Scene,
     overshoot: f64,
@@ -213,14 +198,14 @@ pub fn update(
     tape: &mut [u32],
 ) -> Advanced
     requires { ⌜ settings .m ≤ 64 ⌝ }
-    ensures { λ r. ⌜ Advances (updatedOf settings scene overshoot delta server) (now (tape .entry)) r (now (tape .exit)) ⌝ }
+    ensures { λ r. ⌜ Advances (unendedOf settings scene overshoot delta server) (now (tape .entry)) r (now (tape .exit)) ⌝ }
 {
     let stamp = sides::last_completed_timestamp(scene.worlds);
     let c = compensated_delta(stamp, overshoot, delta, server, settings);
     let a = advance(scene, overshoot - c, settings, tape);
     let stop = a.stop;
     match stop {
-        Stop::Done => finished(timeskip(a, server, settings, tape), settings),
+        Stop::Done => timeskip(a, server, settings, tape),
         Stop::TooManyFrames => a,
         Stop::StatusStops => a,
         Stop::WeightStops => a,

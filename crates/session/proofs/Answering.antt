@@ -13,6 +13,7 @@ use borrow.Author.Tests.{le-leb, lt-leb, leb-true, eq-eqb, ne-eqb}
 use Rattle.timestamp.specs.declared.Timestamp.{Timestamp}
 use Rattle.timestamp.specs.Timestamps.{bitsOf}
 use Rattle.timestamp.specs.FloatTimestamps.{fromSeconds, stampOf}
+use Rattle.settings.specs.declared.Settings.{Settings}
 use Rattle.settings.specs.Settings.{passesOf}
 use Rattle.settings.proofs.Limits.{steps-few}
 use Rattle.clocksync.specs.declared.Clock.{Clock}
@@ -29,10 +30,13 @@ use Rattle.client.specs.declared.Ledger.{Ledger}
 use Rattle.client.specs.declared.Received.{Received}
 use Rattle.client.specs.declared.Scene.{Scene}
 use Rattle.client.specs.Sides.{newWorldsOf, emptyLedger, withWorlds}
+use Rattle.client_skip.specs.Skip.{tweenOf, weightOk}
 use Rattle.fixed_timestepper.specs.declared.Stop.{Stop}
 use Rattle.fixed_timestepper.specs.declared.Stop.the-variants.{Done, TooManyFrames, StatusStops, WeightStops}
 use Rattle.fixed_timestepper.specs.declared.Advanced.{Advanced}
-use Rattle.fixed_timestepper.specs.TimeKeeper.{Run, updatedOf, Advances}
+use Rattle.fixed_timestepper.specs.TimeKeeper.{Run, endsWith, finishedOf, Advances}
+use Rattle.fixed_timestepper.specs.Inner.{endedOf, unendedOf, endedBy}
+use Rattle.fixed_timestepper.proofs.Updating.{ends-is}
 use Rattle.session_state.specs.declared.Stage.{Stage}
 use Rattle.session_state.specs.declared.Stage.the-variants.{SyncingInitialState}
 use Rattle.session_state.specs.declared.Session.{Session}
@@ -40,8 +44,8 @@ use Rattle.session.specs.declared.UpdateAnswer.{UpdateAnswer}
 use Rattle.session.specs.declared.ReportAnswer.{ReportAnswer}
 use Rattle.session_state.specs.Sound.{soundOf}
 use Rattle.inbox_passes.specs.Passes.{hasForWorlds, heardIn, receivedIn, notedIn}
-use Rattle.session.specs.Calls.{timesOk, refusedAtOnce, Reply, Answer, refusedWith, withClock, startedAt, syncedOf, clockAfter, clockUpdateOf, sceneOf, closedOf, stageAfter, acceptedOf, concludedOf, serverTimeBy, unreceived, playedWith, playedOf, worldsUpdateOf, updateBy, updateOf, Updates, unreported, reportBy, reportOf}
-use Rattle.session.specs.Inner.{acceptedBy, concludedBy}
+use Rattle.session.specs.Calls.{timesOk, refusedAtOnce, Reply, Answer, refusedWith, withClock, startedAt, syncedOf, clockAfter, clockUpdateOf, sceneOf, closedOf, stageAfter, acceptedOf, concludedOf, serverTimeBy, unreceived, sceneWith, playedWith, playedOf, worldsUpdateOf, updateBy, updateOf, Updates, unreported, reportBy, reportOf}
+use Rattle.session.specs.Inner.{refusedAtEnd, refusedAfter, acceptedBy, concludedBy, unendedWith}
 use Rattle.session_state.proofs.Judging.{was-false, was-true}
 
 -- ---- one of two answers
@@ -108,9 +112,9 @@ unfolding soundOf
 sound-passes s h = and-left (passesOf (s .settings)) _ (and-left _ _ (and-left _ _ (and-left _ _ h)))
 
 -- an update that is not refused at once has an m of at most 64
-pub not-refused-few : (s : Session) (delta seconds : Float) (inbox : List ℕ) → refusedAtOnce s delta seconds inbox ≡ 0 → s .settings .m ≤ 64
+pub not-refused-few : (s : Session) (delta seconds : Float) (inbox : List ℕ) {n : ℕ} → n ≡ refusedAtOnce s delta seconds inbox → n ≡ 0 → s .settings .m ≤ 64
 unfolding refusedAtOnce
-not-refused-few s delta seconds inbox h = steps-few (s .settings) (sound-passes s (calm (timesOk delta seconds) (eqb (refusalOf inbox) 0) (soundOf s) (refusalOf inbox) refl h)) .1
+not-refused-few s delta seconds inbox hn e = steps-few (s .settings) (sound-passes s (calm (timesOk delta seconds) (eqb (refusalOf inbox) 0) (soundOf s) (refusalOf inbox) refl (sym hn ∙ e))) .1
 
 -- ---- a refused update
 
@@ -172,67 +176,160 @@ clock-moved s delta seconds inbox was {p} {start} {heard} {t} {c} {next} {l} {r}
 
 -- ---- an update of the worlds
 
--- the words exceed the tape
-pub accept-long : (s : Session) (c : Clock) (request : Bool) (a : Advanced) (was : List ℕ) {last : List ℕ} {r : UpdateAnswer} → length was < a .at → Updates (refusedWith 28 s (length was) .reply) r last → Updates (acceptedBy s c request a was) r last
-unfolding acceptedBy
-accept-long s c request a was e h = updates-as (sym (when-false _ _ (lt-leb _ _ e))) h
+-- the end of an update: its weight is out of its range
+pub end-weight : (t : Float) (n len : ℕ) {b : Bool} → b ≡ weightOk t → not b ≡ true → 27 ≡ refusedAtEnd t n len
+unfolding refusedAtEnd
+end-weight t n len hb e = λ i. cond (sym (sym hb ∙ was-false _ e) i) (cond (leb n len) 0 28) 27
 
--- they fit
-pub accept-fits : (s : Session) (c : Clock) (request : Bool) (a : Advanced) (was : List ℕ) {last : List ℕ} {st : Stage} {l r : Ledger} → a .at ≤ length was → last ≡ cleared was (a .at) → st ≡ stageAfter (s .stage) (a .scene .worlds .published .time)
-    → l ≡ closedOf (a .scene .left) (a .scene .worlds .left .commands) → r ≡ closedOf (a .scene .right) (a .scene .worlds .right .commands)
-    → Updates (acceptedBy s c request a was) (record { refusal = 0; session = record { settings = s .settings; stage = st; clock = c; worlds = a .scene .worlds; overshoot = a .overshoot }; frames = a .frames; steps = a .scene .steps; request = request; left = l; right = r; words = a .at }) last
-unfolding acceptedBy
-accept-fits s c request a was {last} {st} e hz hs hL hR =
-    updates-as (sym (when-true _ _ (le-leb _ _ e)))
-    (record { refusal = refl; session = λ i. record { settings = s .settings; stage = hs i; clock = c; worlds = a .scene .worlds; overshoot = a .overshoot }; frames = refl; steps = refl; request = refl; left = hL; right = hR; words = refl; tape = hz })
+-- its words exceed the tape
+pub end-long : (t : Float) (n len : ℕ) {b : Bool} → b ≡ weightOk t → not b ≡ false → len < n → 28 ≡ refusedAtEnd t n len
+unfolding refusedAtEnd
+end-long t n len hb e l = λ i. cond (sym (sym hb ∙ was-true _ e) i) (cond (sym (lt-leb n len l) i) 0 28) 27
 
-module _ (s : Session) (c : Clock) (request : Bool) (q : Run) {was mid : List ℕ} {a : Advanced} (h : Advances q was a mid) where
-  place : a .at ≡ length (q .played .words)
+-- nothing refuses it
+pub end-fits : (t : Float) (n len : ℕ) {b : Bool} → b ≡ weightOk t → not b ≡ false → n ≤ len → 0 ≡ refusedAtEnd t n len
+unfolding refusedAtEnd
+end-fits t n len hb e l = λ i. cond (sym (sym hb ∙ was-true _ e) i) (cond (sym (le-leb n len l) i) 0 28) 27
+
+-- the refusal by why the frames ended
+pub after-done : (x : Stop) (t : Float) (n len : ℕ) {r : ℕ} → x ≡ Done → r ≡ refusedAtEnd t n len → r ≡ refusedAfter x t n len
+unfolding refusedAfter
+after-done x t n len e h = h ∙ (λ i. refusedAfter (sym e i) t n len)
+
+pub after-stopped : (x y : Stop) (t : Float) (n len : ℕ) {r : ℕ} → x ≡ y → r ≡ refusedAfter y t n len → r ≡ refusedAfter x t n len
+after-stopped x y t n len e h = h ∙ (λ i. refusedAfter (sym e i) t n len)
+
+-- an accepted update, by the calls that make it
+pub accept-is : (s : Session) (c : Clock) (request : Bool) (a : Advanced) (was : List ℕ) {last : List ℕ} {w : ClientWorldSimulations} {st : Stage} {l r : Ledger} → last ≡ cleared was (a .at) → w ≡ endedOf (s .settings) (a .scene .worlds) (a .overshoot)
+    → st ≡ stageAfter (s .stage) (w .published .time) → l ≡ closedOf (a .scene .left) (w .left .commands) → r ≡ closedOf (a .scene .right) (w .right .commands)
+    → Updates (acceptedBy s c request a was) (record { refusal = 0; session = record { settings = s .settings; stage = st; clock = c; worlds = w; overshoot = a .overshoot }; frames = a .frames; steps = a .scene .steps; request = request; left = l; right = r; words = a .at }) last
+unfolding acceptedBy
+accept-is s c request a was hz hw hs hL hR =
+    record {
+      refusal = refl;
+      session = λ i. record { settings = s .settings; stage = (hs ∙ ap (λ (v : ClientWorldSimulations). stageAfter (s .stage) (v .published .time)) hw) i; clock = c; worlds = hw i; overshoot = a .overshoot };
+      frames = refl;
+      steps = refl;
+      request = refl;
+      left = hL ∙ ap (λ (v : ClientWorldSimulations). closedOf (a .scene .left) (v .left .commands)) hw;
+      right = hR ∙ ap (λ (v : ClientWorldSimulations). closedOf (a .scene .right) (v .right .commands)) hw;
+      words = refl;
+      tape = hz;
+    }
+
+module _ (s : Session) (c : Clock) (request : Bool) (a : Advanced) (was : List ℕ) {t : Float} {n : ℕ} (ht : t ≡ tweenOf (a .overshoot) (s .settings .timestep)) (hn : n ≡ refusedAfter (a .stop) t (a .at) (length was)) where
+  number : n ≡ refusedAfter (a .stop) (tweenOf (a .overshoot) (s .settings .timestep)) (a .at) (length was)
+  number = hn ∙ ap (λ (x : Float). refusedAfter (a .stop) x (a .at) (length was)) ht
+
+  -- a refused end
+  pub conclude-refused : {r : UpdateAnswer} {last : List ℕ} → (n ≡ 0 → ⊥) → Updates (refusedWith n s (length was) .reply) r last → Updates (concludedBy s c request a was) r last
+  unfolding concludedBy
+  conclude-refused e h =
+      updates-as (sym (when-false _ _ (ne-eqb _ _ (λ z. e (number ∙ z))))) (updates-as (λ i. refusedWith (number i) s (length was) .reply) h)
+
+  -- an accepted end
+  pub conclude-accepted : {r : UpdateAnswer} {last : List ℕ} → n ≡ 0 → Updates (acceptedBy s c request a was) r last → Updates (concludedBy s c request a was) r last
+  unfolding concludedBy
+  conclude-accepted e h = updates-as (sym (when-true _ _ (eq-eqb _ _ (sym number ∙ e)))) h
+
+-- the end of a run whose weight is in its range, or not
+finished-in : (u : Run) (k : Settings) → weightOk (tweenOf (u .overshoot) (k .timestep)) ≡ true → finishedOf u k ≡ endsWith u (withWorlds (u .played .scene) (endedOf k (u .played .scene .worlds) (u .overshoot))) Done
+unfolding finishedOf
+finished-in u k e = when-true _ _ e
+
+finished-out : (u : Run) (k : Settings) → weightOk (tweenOf (u .overshoot) (k .timestep)) ≡ false → finishedOf u k ≡ endsWith u (u .played .scene) WeightStops
+unfolding finishedOf
+finished-out u k e = when-false _ _ e
+
+-- a run before its end, as the code holds it
+module _ (s : Session) (c : Clock) (request : Bool) (u : Run) {was mid : List ℕ} {a : Advanced} (h : Advances u was a mid) where
+  place : a .at ≡ length (u .played .words)
   place = omega (arith, h .puts .at)
 
   long : length mid ≡ length was
   long = puts-length (h .puts)
 
-  -- the reply to a run as the code holds it is the reply to the run
-  accepted-by : (b : Bool) → leb (length (q .played .words)) (length was) ≡ b → acceptedBy s c request a mid ≡ cond (leb (length (q .played .words)) (length was)) (acceptedOf s c request q (length was)) (refusedWith 28 s (length was)) .reply
+  -- the tween weight
+  weight : Float
+  weight = tweenOf (u .overshoot) (s .settings .timestep)
+
+  -- the refusal, by why the frames ended
+  numberAt : Stop → ℕ
+  numberAt x = refusedAfter x weight (length (u .played .words)) (length was)
+
+  number-is : refusedAfter (a .stop) (tweenOf (a .overshoot) (s .settings .timestep)) (a .at) (length mid) ≡ numberAt (u .stop)
+  unfolding numberAt weight
+  number-is = λ i. refusedAfter (h .stop i) (tweenOf (h .overshoot i) (s .settings .timestep)) (place i) (long i)
+
+  -- one of the two replies
+  replyBy : ℕ → Reply
+  replyBy n = cond (eqb n 0) (acceptedBy s c request a mid) (refusedWith n s (length mid) .reply)
+
+  -- the accepted reply to a run is the one to the run as the code holds it
+  accepted-is : leb (length (u .played .words)) (length was) ≡ true → acceptedBy s c request a mid ≡ acceptedOf s c request (endsWith u (withWorlds (u .played .scene) (endedOf (s .settings) (u .played .scene .worlds) (u .overshoot))) Done) (length was) .reply
   unfolding acceptedBy acceptedOf
-  accepted-by true e =
-      let p : leb (a .at) (length mid) ≡ true = (λ i. leb (place i) (long i)) ∙ e in
-      let t : cleared mid (a .at) ≡ q .played .words ++ replicate (length was - length (q .played .words)) 0 =
-      (λ i. cleared (h .puts .tape i) (place i)) ∙ cleared-after (q .played .words) was (leb-true _ _ e) in
-      when-true _ _ p
-      ∙ (λ i. record {
+  accepted-is e =
+      let t : cleared mid (a .at) ≡ u .played .words ++ replicate (length was - length (u .played .words)) 0 =
+      (λ i. cleared (h .puts .tape i) (place i)) ∙ cleared-after (u .played .words) was (leb-true _ _ e) in
+      let w : endedOf (s .settings) (a .scene .worlds) (a .overshoot) ≡ endedOf (s .settings) (u .played .scene .worlds) (u .overshoot) = λ i. endedOf (s .settings) (h .scene i .worlds) (h .overshoot i) in
+      λ i. record {
         refusal = 0;
-        session = record { settings = s .settings; stage = stageAfter (s .stage) (h .scene i .worlds .published .time); clock = c; worlds = h .scene i .worlds; overshoot = h .overshoot i };
+        session = record { settings = s .settings; stage = stageAfter (s .stage) (w i .published .time); clock = c; worlds = w i; overshoot = h .overshoot i };
         frames = h .frames i;
         steps = h .scene i .steps;
         request = request;
-        left = closedOf (h .scene i .left) (h .scene i .worlds .left .commands);
-        right = closedOf (h .scene i .right) (h .scene i .worlds .right .commands);
+        left = closedOf (h .scene i .left) (w i .left .commands);
+        right = closedOf (h .scene i .right) (w i .right .commands);
         words = place i;
         tape = t i;
-      })
-      ∙ (λ i. cond (sym e i) (acceptedOf s c request q (length was)) (refusedWith 28 s (length was)) .reply)
-  accepted-by false e =
-      let p : leb (a .at) (length mid) ≡ false = (λ i. leb (place i) (long i)) ∙ e in
-      when-false _ _ p ∙ (λ i. refusedWith 28 s (long i) .reply)
-      ∙ (λ i. cond (sym e i) (acceptedOf s c request q (length was)) (refusedWith 28 s (length was)) .reply)
+      }
 
-  concluded-is : (x : Stop) → concludedBy x s c request a mid ≡ concludedOf x s c request q (length was) .reply
-  concluded-is Done = accepted-by (leb (length (q .played .words)) (length was)) refl
-  concluded-is TooManyFrames = λ i. refusedWith 25 s (long i) .reply
-  concluded-is StatusStops = λ i. refusedWith 26 s (long i) .reply
-  concluded-is WeightStops = λ i. refusedWith 27 s (long i) .reply
+  -- a reply of a refusal
+  refused-is : (n : ℕ) (x : Reply) → eqb n 0 ≡ false → refusedWith n s (length was) .reply ≡ x → replyBy n ≡ x
+  unfolding replyBy
+  refused-is n x z e = when-false _ _ z ∙ (λ i. refusedWith n s (long i) .reply) ∙ e
 
--- a run's answer, by why it ended
-pub conclude-by : (x : Stop) (s : Session) (c : Clock) (request : Bool) (a : Advanced) (was : List ℕ) {r : UpdateAnswer} {last : List ℕ} → a .stop ≡ x → Updates (concludedBy x s c request a was) r last → Updates (concludedBy (a .stop) s c request a was) r last
-conclude-by x s c request a was e h = updates-as (λ i. concludedBy (sym e i) s c request a was) h
+  -- what the reply to the run is
+  replyOf : Run → Reply
+  replyOf q = concludedOf (q .stop) s c request q (length was) .reply
+
+  -- its words fit the tape, or not
+  done-by : (b : Bool) → leb (length (u .played .words)) (length was) ≡ b → replyBy (cond (leb (length (u .played .words)) (length was)) 0 28) ≡ replyOf (endsWith u (withWorlds (u .played .scene) (endedOf (s .settings) (u .played .scene .worlds) (u .overshoot))) Done)
+  unfolding replyBy replyOf
+  done-by true e =
+      (λ i. replyBy (cond (e i) 0 28)) ∙ accepted-is e
+      ∙ (λ i. cond (sym e i) (acceptedOf s c request (endsWith u (withWorlds (u .played .scene) (endedOf (s .settings) (u .played .scene .worlds) (u .overshoot))) Done) (length was)) (refusedWith 28 s (length was)) .reply)
+  done-by false e =
+      (λ i. replyBy (cond (e i) 0 28)) ∙ (λ i. refusedWith 28 s (long i) .reply)
+      ∙ (λ i. cond (sym e i) (acceptedOf s c request (endsWith u (withWorlds (u .played .scene) (endedOf (s .settings) (u .played .scene .worlds) (u .overshoot))) Done) (length was)) (refusedWith 28 s (length was)) .reply)
+
+  -- its weight is in its range, or not
+  weight-by : (b : Bool) → weightOk weight ≡ b → replyBy (refusedAtEnd weight (length (u .played .words)) (length was)) ≡ replyOf (finishedOf u (s .settings))
+  unfolding refusedAtEnd replyOf replyBy weight
+  weight-by true e =
+      (λ i. replyBy (cond (e i) (cond (leb (length (u .played .words)) (length was)) 0 28) 27)) ∙ done-by (leb (length (u .played .words)) (length was)) refl
+      ∙ ap replyOf (sym (finished-in u (s .settings) e))
+  weight-by false e =
+      (λ i. replyBy (cond (e i) (cond (leb (length (u .played .words)) (length was)) 0 28) 27)) ∙ (λ i. refusedWith 27 s (long i) .reply)
+      ∙ ap replyOf (sym (finished-out u (s .settings) e))
+
+  concluded-by : (x : Stop) → u .stop ≡ x → replyBy (numberAt x) ≡ replyOf (endedBy x u (s .settings))
+  unfolding numberAt refusedAfter replyOf replyBy
+  concluded-by Done e = weight-by (weightOk weight) refl
+  concluded-by TooManyFrames e = (λ i. refusedWith 25 s (long i) .reply) ∙ (λ i. concludedOf (sym e i) s c request u (length was) .reply)
+  concluded-by StatusStops e = (λ i. refusedWith 26 s (long i) .reply) ∙ (λ i. concludedOf (sym e i) s c request u (length was) .reply)
+  concluded-by WeightStops e = (λ i. refusedWith 27 s (long i) .reply) ∙ (λ i. concludedOf (sym e i) s c request u (length was) .reply)
+
+  -- the reply to a run as the code holds it is the reply to the run with its end
+  concluded-is : concludedBy s c request a mid ≡ concludedOf (endedBy (u .stop) u (s .settings) .stop) s c request (endedBy (u .stop) u (s .settings)) (length was) .reply
+  unfolding concludedBy replyBy replyOf
+  concluded-is = ap replyBy number-is ∙ concluded-by (u .stop) refl
 
 -- the frames, from the parts that the code has
 pub played-by : (s : Session) (got : Received) (c : Clock) (delta seconds : Float) (inbox : List ℕ) {w : ClientWorldSimulations} {x : Float} {was last : List ℕ} {a : Advanced} → w ≡ notedIn inbox (got .scene .worlds) → x ≡ serverTimeBy (serverSecondsOf (c .offset) seconds) seconds
-    → Advances (updatedOf (s .settings) (withWorlds (got .scene) w) (s .overshoot) delta (add binary64 x (s .settings .lag))) was a last → Advances (playedWith s got c delta seconds inbox) was a last
+    → Advances (unendedOf (s .settings) (withWorlds (got .scene) w) (s .overshoot) delta (add binary64 x (s .settings .lag))) was a last → Advances (unendedWith s got c delta seconds inbox) was a last
 played-by s got c delta seconds inbox {w} {x} {was} {last} {a} hw hx h =
-    subst (λ (z : Run). Advances z was a last) (λ i. updatedOf (s .settings) (withWorlds (got .scene) (hw i)) (s .overshoot) delta (add binary64 (hx i) (s .settings .lag))) h
+    subst (λ (z : Run). Advances z was a last) (λ i. unendedOf (s .settings) (withWorlds (got .scene) (hw i)) (s .overshoot) delta (add binary64 (hx i) (s .settings .lag))) h
 
 pub worlds-other : (s : Session) (delta seconds : Float) (inbox : List ℕ) (len : ℕ) {start heard : Heard} {r : UpdateAnswer} {last : List ℕ} → start ≡ listenOf (s .clock) → heard ≡ heardIn seconds inbox start → heard .other ≡ true
     → Updates (refusedWith 22 s len .reply) r last → Updates (worldsUpdateOf s delta seconds inbox len .reply) r last
@@ -254,18 +351,22 @@ pub worlds-played : (s : Session) (delta seconds : Float) (inbox was : List ℕ)
     → start ≡ listenOf (s .clock) → heard ≡ heardIn seconds inbox start → heard .other ≡ false
     → scene ≡ sceneOf s → got ≡ receivedIn inbox (record { scene = scene; full = false }) → got .full ≡ false
     → t ≡ tickedOf (s .clock) (s .settings .period) delta → c ≡ settledOf (s .settings) (t .clock) heard
-    → Advances (playedWith s got c delta seconds inbox) was a mid → Updates (concludedBy (a .stop) s c (t .request) a mid) r last
+    → Advances (unendedWith s got c delta seconds inbox) was a mid → Updates (concludedBy s c (t .request) a mid) r last
     → Updates (worldsUpdateOf s delta seconds inbox (length was) .reply) r last
 unfolding worldsUpdateOf playedOf
 worlds-played s delta seconds inbox was {start} {heard} {scene} {got} {t} {c} {a} {mid} {r} {last} hl hh o hs hg f ht hc ha h =
     let g : got ≡ receivedIn inbox (unreceived s) = received-is s inbox hs hg in
     let k : c ≡ clockAfter s delta seconds inbox = clock-is s delta seconds inbox hl hh ht hc in
-    let q : Run = playedOf s (clockAfter s delta seconds inbox) delta seconds inbox in
+    let v : Received = receivedIn inbox (unreceived s) in
+    let d : Clock = clockAfter s delta seconds inbox in
+    let u : Run = unendedWith s v d delta seconds inbox in
     let z : Bool = tickedOf (s .clock) (s .settings .period) delta .request in
-    let n : Advances q was a mid = subst (λ (x : Run). Advances x was a mid) (λ i. playedWith s (g i) (k i) delta seconds inbox) ha in
+    let n : Advances u was a mid = subst (λ (x : Run). Advances x was a mid) (λ i. unendedWith s (g i) (k i) delta seconds inbox) ha in
+    let e : endedBy (u .stop) u (s .settings) ≡ playedWith s v d delta seconds inbox =
+    ends-is (s .settings) (sceneWith v inbox) (s .overshoot) delta (add binary64 (serverTimeBy (serverSecondsOf (d .offset) seconds) seconds) (s .settings .lag)) in
     at-false _ _ (other-is s seconds inbox hl hh o)
     (at-false _ _ (sym (ap (λ (x : Received). x .full) g) ∙ f)
-    (updates-as ((λ i. concludedBy (n .stop i) s (k i) (ht i .request) a mid) ∙ concluded-is s (clockAfter s delta seconds inbox) z q n (q .stop)) h))
+    (updates-as ((λ i. concludedBy s (k i) (ht i .request) a mid) ∙ concluded-is s d z u n ∙ (λ i. concludedOf (e i .stop) s d z (e i) (length was) .reply)) h))
 
 -- ---- update
 

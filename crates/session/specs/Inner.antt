@@ -3,37 +3,56 @@
 use Prim.Native.Nat.{ℕ}
 use mathlib.Core.Bool.{Bool, cond}
 use mathlib.Core.List.{List}
-use lib.Dec.{leb}
+use lib.Dec.{eqb, leb}
 use lib.ListN.{length}
+use lib.Ieee.{Float, binary64, add}
 use Rattle.clocksync.specs.declared.Clock.{Clock}
+use Rattle.clocksync.specs.Clock.{serverSecondsOf}
 use Rattle.tape.specs.Tape.{cleared}
+use Rattle.client.specs.declared.Received.{Received}
+use Rattle.client_skip.specs.Skip.{tweenOf, weightOk}
 use Rattle.fixed_timestepper.specs.declared.Stop.{Stop}
 use Rattle.fixed_timestepper.specs.declared.Advanced.{Advanced}
 use Rattle.fixed_timestepper.specs.declared.Stop.the-variants.{Done, TooManyFrames, StatusStops, WeightStops}
-use Rattle.fixed_timestepper.specs.TimeKeeper.{stopNumber}
+use Rattle.fixed_timestepper.specs.TimeKeeper.{Run, stopNumber}
+use Rattle.fixed_timestepper.specs.Inner.{endedOf, unendedOf}
 use Rattle.session_state.specs.declared.Session.{Session}
-use Rattle.session.specs.Calls.{Reply, refusedWith, stageAfter, closedOf}
+use Rattle.session.specs.Calls.{Reply, refusedWith, stageAfter, closedOf, sceneWith, serverTimeBy}
 
--- the reply to an update that was played to its end: 28 where its words exceed the tape, and else the rest of the tape is zeroed
+-- the frames of an update and its skip, once its commands are received
+abbrev pub unendedWith : Session → Received → Clock → Float → Float → List ℕ → Run
+unendedWith s r c delta seconds inbox =
+    unendedOf (s .settings) (sceneWith r inbox) (s .overshoot) delta (add binary64 (serverTimeBy (serverSecondsOf (c .offset) seconds) seconds) (s .settings .lag))
+
+-- the refusal, by the tween weight and by how many words exceed a tape, of an update whose frames ended by themselves
+unfoldable pub refusedAtEnd : Float → ℕ → ℕ → ℕ
+refusedAtEnd t n len = cond (weightOk t) (cond (leb n len) 0 28) (stopNumber WeightStops)
+
+-- the refusal of an update once its frames have ended
+unfoldable pub refusedAfter : Stop → Float → ℕ → ℕ → ℕ
+refusedAfter Done t n len = refusedAtEnd t n len
+refusedAfter TooManyFrames t n len = stopNumber TooManyFrames
+refusedAfter StatusStops t n len = stopNumber StatusStops
+refusedAfter WeightStops t n len = stopNumber WeightStops
+
+-- the reply to an update that nothing refuses: the rest of the tape is zeroed
 unfoldable pub acceptedBy : Session → Clock → Bool → Advanced → List ℕ → Reply
 acceptedBy s c request a tape =
-    cond (leb (a .at) (length tape))
-    (record {
+    let w = endedOf (s .settings) (a .scene .worlds) (a .overshoot) in
+    record {
       refusal = 0;
-      session = record { settings = s .settings; stage = stageAfter (s .stage) (a .scene .worlds .published .time); clock = c; worlds = a .scene .worlds; overshoot = a .overshoot };
+      session = record { settings = s .settings; stage = stageAfter (s .stage) (w .published .time); clock = c; worlds = w; overshoot = a .overshoot };
       frames = a .frames;
       steps = a .scene .steps;
       request = request;
-      left = closedOf (a .scene .left) (a .scene .worlds .left .commands);
-      right = closedOf (a .scene .right) (a .scene .worlds .right .commands);
+      left = closedOf (a .scene .left) (w .left .commands);
+      right = closedOf (a .scene .right) (w .right .commands);
       words = a .at;
       tape = cleared tape (a .at);
-    })
-    (refusedWith 28 s (length tape) .reply)
+    }
 
 -- the reply to an update once its frames have ended
-abbrev pub concludedBy : Stop → Session → Clock → Bool → Advanced → List ℕ → Reply
-concludedBy Done s c request a tape = acceptedBy s c request a tape
-concludedBy TooManyFrames s c request a tape = refusedWith (stopNumber TooManyFrames) s (length tape) .reply
-concludedBy StatusStops s c request a tape = refusedWith (stopNumber StatusStops) s (length tape) .reply
-concludedBy WeightStops s c request a tape = refusedWith (stopNumber WeightStops) s (length tape) .reply
+unfoldable pub concludedBy : Session → Clock → Bool → Advanced → List ℕ → Reply
+concludedBy s c request a tape =
+    let n = refusedAfter (a .stop) (tweenOf (a .overshoot) (s .settings .timestep)) (a .at) (length tape) in
+    cond (eqb n 0) (acceptedBy s c request a tape) (refusedWith n s (length tape) .reply)

@@ -6,8 +6,8 @@ ghost use Rattle.clocksync.specs.Clock.{serverSecondsOf};
 ghost use Rattle.fixed_timestepper.specs.TimeKeeper.{Advances};
 ghost use Rattle.session_state.specs.declared.Stage.the-variants.{Ready};
 ghost use Rattle.session.specs.Issue.{unissued, issuedBy, issuedOf, issueOf};
-ghost use Rattle.session.specs.Inner.{acceptedBy, concludedBy};
-ghost use Rattle.session.specs.Calls.{playedWith, openOf, timesOk, refusedAtOnce, refusedWith, syncedOf, clockUpdateOf, sceneOf, closedOf, stageAfter, serverTimeBy, worldsUpdateOf, updateOf, Updates, unreported, reportedOf, reportOf};
+ghost use Rattle.session.specs.Inner.{refusedAtEnd, refusedAfter, acceptedBy, concludedBy, unendedWith};
+ghost use Rattle.session.specs.Calls.{openOf, timesOk, refusedAtOnce, refusedWith, syncedOf, clockUpdateOf, sceneOf, closedOf, stageAfter, serverTimeBy, updateOf, Updates, unreported, reportedOf, reportOf};
 use super::IssueAnswer;
 use super::OpenAnswer;
 use super::ReportAnswer;
@@ -192,7 +192,33 @@ pub fn stage_after(stage: Stage, time: DisplayTime) -> Stage
     }
 }
 
-// An update that was played to its end: 28 where its words exceed the tape.
+// The refusal of an update whose frames ended by themselves, or 0: 27 for a tween weight outside 0 to 1, then 28 where its words exceed
+// the tape.
+pub fn refused_at_end(weight: f64, words: usize, room: usize) -> u32
+    ensures { λ r. ⌜ r ≡ refusedAtEnd weight words room ⌝ }
+{
+    if !client_skip::is_weight(weight) {
+        return 27;
+    }
+    if words > room {
+        return 28;
+    }
+    0
+}
+
+// The refusal of an update once its frames have ended, or 0.
+pub fn refused_after(stop: Stop, weight: f64, words: usize, room: usize) -> u32
+    ensures { λ r. ⌜ r ≡ refusedAfter stop weight words room ⌝ }
+{
+    match stop {
+        Stop::Done => refused_at_end(weight, words, room),
+        Stop::TooManyFrames => 25,
+        Stop::StatusStops => 26,
+        Stop::WeightStops => 27,
+    }
+}
+
+// An update that nothing refuses: its end, its session, and zeros on the rest of the tape.
 pub fn accept(
     session: Session,
     clock: Clock,
@@ -203,19 +229,16 @@ pub fn accept(
     ensures { λ r. ⌜ Updates (acceptedBy session clock request a (now (tape .entry))) r (now (tape .exit)) ⌝ }
 {
     let at = a.at;
-    if at > tape.len() {
-        return refuse(28, session, tape);
-    }
     tape::clear(tape, at);
+    let settings = session.settings;
     let scene = a.scene;
-    let worlds = scene.worlds;
+    let worlds = fixed_timestepper::ended(scene.worlds, a.overshoot, settings);
     let left = worlds.left;
     let right = worlds.right;
     let published = worlds.published;
     let time = published.time;
     let before = session.stage;
     let stage = stage_after(before, time);
-    let settings = session.settings;
     UpdateAnswer {
         refusal: 0,
         session: Session {
@@ -242,18 +265,20 @@ pub fn conclude(
     a: Advanced,
     tape: &mut [u32],
 ) -> UpdateAnswer
-    ensures { λ r. ⌜ Updates (concludedBy (a .stop) session clock request a (now (tape .entry))) r (now (tape .exit)) ⌝ }
+    ensures { λ r. ⌜ Updates (concludedBy session clock request a (now (tape .entry))) r (now (tape .exit)) ⌝ }
 {
+    let settings = session.settings;
     let stop = a.stop;
-    match stop {
-        Stop::Done => accept(session, clock, request, a, tape),
-        Stop::TooManyFrames => refuse(25, session, tape),
-        Stop::StatusStops => refuse(26, session, tape),
-        Stop::WeightStops => refuse(27, session, tape),
+    let weight = client_skip::tween_weight(a.overshoot, settings.timestep);
+    let n = refused_after(stop, weight, a.at, tape.len());
+    if n != 0 {
+        return refuse(n, session, tape);
     }
+    accept(session, clock, request, a, tape)
 }
 
-// The frames of an update, after its commands: its snapshots are received, and the worlds are played by the server's time with the lag.
+// The frames of an update and its skip, after its commands: its snapshots are received, and the worlds are played by the server's time
+// with the lag.
 pub fn play(
     session: Session,
     got: Received,
@@ -264,7 +289,7 @@ pub fn play(
     tape: &mut [u32],
 ) -> Advanced
     requires { ⌜ session .settings .m ≤ 64 ⌝ }
-    ensures { λ r. ⌜ Advances (playedWith session got clock delta seconds (now (inbox .entry))) (now (tape .entry)) r (now (tape .exit)) ⌝ }
+    ensures { λ r. ⌜ Advances (unendedWith session got clock delta seconds (now (inbox .entry))) (now (tape .entry)) r (now (tape .exit)) ⌝ }
 {
     let mut scene = got.scene;
     let w = scene.worlds;
@@ -284,17 +309,25 @@ pub fn server_time(clock: Clock, seconds: f64) -> f64
     }
 }
 
-// An update once worlds exist: 22, 23, and then the frames.
-pub fn update_worlds(
+// One update: time moves on by delta seconds to `seconds`, the inbox is read, and the words of what happens are put on the tape. While the
+// clock syncs there are no worlds; with worlds it is 22, 23, and then the frames.
+pub fn update(
     session: Session,
     delta: f64,
     seconds: f64,
     inbox: &[u32],
     tape: &mut [u32],
 ) -> UpdateAnswer
-    requires { ⌜ session .settings .m ≤ 64 ⌝ }
-    ensures { λ r. ⌜ Updates (worldsUpdateOf session delta seconds (now (inbox .entry)) (length (now (tape .entry))) .reply) r (now (tape .exit)) ⌝ }
+    ensures { λ r. ⌜ Updates (updateOf session delta seconds (now (inbox .entry)) (length (now (tape .entry))) .reply) r (now (tape .exit)) ⌝ }
 {
+    let n = refused_at_once(session, delta, seconds, inbox);
+    if n != 0 {
+        return refuse(n, session, tape);
+    }
+    let stage = session.stage;
+    if let Stage::SyncingClock = stage {
+        return update_clock(session, delta, seconds, inbox, tape);
+    }
     let clock = session.clock;
     let settings = session.settings;
     let h = inbox_passes::hear_all(inbox, clock.listen(), seconds);
@@ -316,27 +349,6 @@ pub fn update_worlds(
     let settled = ticked.settle(settings, h);
     let a = play(session, r, settled, delta, seconds, inbox, tape);
     conclude(session, settled, t.request, a, tape)
-}
-
-// One update: time moves on by delta seconds to `seconds`, the inbox is read, and the words of what happens are put on the tape.
-pub fn update(
-    session: Session,
-    delta: f64,
-    seconds: f64,
-    inbox: &[u32],
-    tape: &mut [u32],
-) -> UpdateAnswer
-    ensures { λ r. ⌜ Updates (updateOf session delta seconds (now (inbox .entry)) (length (now (tape .entry))) .reply) r (now (tape .exit)) ⌝ }
-{
-    let r = refused_at_once(session, delta, seconds, inbox);
-    if r != 0 {
-        return refuse(r, session, tape);
-    }
-    let stage = session.stage;
-    if let Stage::SyncingClock = stage {
-        return update_clock(session, delta, seconds, inbox, tape);
-    }
-    update_worlds(session, delta, seconds, inbox, tape)
 }
 
 // A refused issue: the session unchanged, everything else 0.

@@ -1,4 +1,4 @@
--- `update` meets its contract: the frames, and where they ended by themselves the skip and the end. Assumes nothing.
+-- `update` meets its contract: the frames, and where they ended by themselves the skip. Assumes nothing.
 use borrow.Author.Needs.{needs}
 use native.Mathlib.Omega.{arith}
 use mathlib.Core.Path.{refl}
@@ -37,9 +37,6 @@ timeskip-requires c κs =
     let s = a .before .before .before .before .before in
     omega (arith, a .advance .ensures .puts .at, run-few 65 (s .args .settings) (s .pre) (s .args .scene) (sub binary64 (s .args .overshoot) (a .before .before .compensated-delta .result)) (starts-few s))
 
-finished-requires : tie.Need-finished-requires
-finished-requires c κs = search needs
-
 enum-told-2 : tie.Need-enum-told-2
 enum-told-2 c = search needs
 
@@ -54,10 +51,10 @@ same-length c = search needs
 
 returns : tie.Need-returns
 returns c =
-    let k = c .before .before .before in
+    let k = c .before .before in
     let e = k .before .before in
     let a = e .before .before .before .before in
-    update-done _ _ _ _ _ (a .before .before .before .last-completed-timestamp .ensures) (a .before .before .compensated-delta .ensures) refl (a .advance .ensures) (e .enum-told .given .1) (k .timeskip .ensures) (c .finished .ensures)
+    update-done _ _ _ _ _ (a .before .before .before .last-completed-timestamp .ensures) (a .before .before .compensated-delta .ensures) refl (a .advance .ensures) (e .enum-told .given .1) (k .timeskip .ensures)
 
 same-length-2 : tie.Need-same-length-2
 same-length-2 c = search needs
@@ -65,7 +62,7 @@ same-length-2 c = search needs
 returns-2 : tie.Need-returns-2
 returns-2 c =
     let a = c .before .before .before .before in
-    update-stopped _ _ _ _ _ TooManyFrames (a .before .before .before .last-completed-timestamp .ensures) (a .before .before .compensated-delta .ensures) refl (a .advance .ensures) (c .enum-told2 .given .1) (λ r. refl)
+    update-stopped _ _ _ _ _ (a .before .before .before .last-completed-timestamp .ensures) (a .before .before .compensated-delta .ensures) refl TooManyFrames (a .advance .ensures) (c .enum-told2 .given .1) (λ r. refl)
 
 same-length-3 : tie.Need-same-length-3
 same-length-3 c = search needs
@@ -73,7 +70,7 @@ same-length-3 c = search needs
 returns-3 : tie.Need-returns-3
 returns-3 c =
     let a = c .before .before .before .before in
-    update-stopped _ _ _ _ _ StatusStops (a .before .before .before .last-completed-timestamp .ensures) (a .before .before .compensated-delta .ensures) refl (a .advance .ensures) (c .enum-told3 .given .1) (λ r. refl)
+    update-stopped _ _ _ _ _ (a .before .before .before .last-completed-timestamp .ensures) (a .before .before .compensated-delta .ensures) refl StatusStops (a .advance .ensures) (c .enum-told3 .given .1) (λ r. refl)
 
 same-length-4 : tie.Need-same-length-4
 same-length-4 c = search needs
@@ -81,7 +78,7 @@ same-length-4 c = search needs
 returns-4 : tie.Need-returns-4
 returns-4 c =
     let a = c .before .before .before .before in
-    update-stopped _ _ _ _ _ WeightStops (a .before .before .before .last-completed-timestamp .ensures) (a .before .before .compensated-delta .ensures) refl (a .advance .ensures) (c .enum-told4 .given .1) (λ r. refl)
+    update-stopped _ _ _ _ _ (a .before .before .before .last-completed-timestamp .ensures) (a .before .before .compensated-delta .ensures) refl WeightStops (a .advance .ensures) (c .enum-told4 .given .1) (λ r. refl)
 
 pub update-spec : {M : Type 1} → statement M
 update-spec =
@@ -92,7 +89,6 @@ update-spec =
     advance-requires
     enum-told
     timeskip-requires
-    finished-requires
     enum-told-2
     enum-told-3
     enum-told-4

@@ -1,10 +1,10 @@
--- `update` meets its contract: refused at once, or by its stage. Assumes nothing.
+-- `update` meets its contract: refused at once, or by its stage: the clock alone, or 22, 23 and the frames. Assumes nothing.
 use borrow.Author.Needs.{needs}
 use native.Mathlib.Omega.{arith}
 use Prim.Native.Nat.{ℕ}
 use mathlib.Core.List.{List, [], _∷_}
 use mathlib.Core.Logic.{⊎-elim}
-use mathlib.Core.Path.{_≡_, refl, sym, _∙_}
+use mathlib.Core.Path.{_≡_, refl}
 use types.Run.{OneOf}
 use denote.Enum.Declared.{tagOf}
 use lib.Ieee.{Float}
@@ -14,7 +14,7 @@ use Rattle.session_state.specs.declared.Stage.the-variants.{SyncingClock, Synci
 use Rattle.session.specs.declared.UpdateAnswer.{UpdateAnswer}
 use Rattle.session.specs.Calls.{refusedAtOnce, updateBy, worldsUpdateOf, updateOf, Updates}
 use Rattle.session_state.proofs.Stage as Stages
-use Rattle.session.proofs.Answering.{not-refused-few, updates-as, update-refused, update-by}
+use Rattle.session.proofs.Answering.{not-refused-few, updates-as, worlds-other, worlds-full, worlds-played, update-refused, update-by}
 use Rattle.session.proofs.calls.update.Statement.{statement}
 use Rattle.session.proofs.calls.update.Tie as tie
 
@@ -58,19 +58,75 @@ returns-2 c =
     let i = e .before .before in
     update-by _ _ _ _ _ SyncingClock (i .before .refused-at-once .ensures) (i .if1 .left) (e .enum-told .given .1) (c .before .before .update-clock .ensures)
 
-update-worlds-requires : tie.Need-update-worlds-requires
-update-worlds-requires c κs =
-    let i = c .before .before in
-    not-refused-few _ _ _ _ (sym (i .before .refused-at-once .ensures) ∙ i .if1 .left)
+listen-requires : tie.Need-listen-requires
+listen-requires c κs = search needs
+
+hear-all-requires : tie.Need-hear-all-requires
+hear-all-requires c κs = search needs
+
+refuse-requires-2 : tie.Need-refuse-requires-2
+refuse-requires-2 c κs = search needs
 
 same-length-3 : tie.Need-same-length-3
 same-length-3 c = search needs
 
 returns-3 : tie.Need-returns-3
 returns-3 c =
-    let m = c .before .before .before .before in
-    let i = m .before in
-    update-with-worlds _ _ _ _ _ (i .before .refused-at-once .ensures) (i .if1 .left) (m .match .keys2) (c .before .before .update-worlds .ensures)
+    let i = c .before .before .before .before in
+    let m = i .before .before .before .before .before in
+    let e = m .before in
+    update-with-worlds _ _ _ _ _ (e .before .refused-at-once .ensures) (e .if1 .left) (m .match .keys2)
+    (worlds-other _ _ _ _ _ (i .before .before .listen .ensures) (i .before .hear-all .ensures) (i .if2 .taken) (c .before .before .refuse2 .ensures))
+
+scene-of-requires : tie.Need-scene-of-requires
+scene-of-requires c κs = search needs
+
+receive-commands-requires : tie.Need-receive-commands-requires
+receive-commands-requires c κs = search needs
+
+refuse-requires-3 : tie.Need-refuse-requires-3
+refuse-requires-3 c κs = search needs
+
+same-length-4 : tie.Need-same-length-4
+same-length-4 c = search needs
+
+returns-4 : tie.Need-returns-4
+returns-4 c =
+    let j = c .before .before .before .before in
+    let i = j .before .before .before in
+    let m = i .before .before .before .before .before in
+    let e = m .before in
+    update-with-worlds _ _ _ _ _ (e .before .refused-at-once .ensures) (e .if1 .left) (m .match .keys2)
+    (worlds-full _ _ _ _ _ (i .before .before .listen .ensures) (i .before .hear-all .ensures) (i .if2 .left) (j .before .before .scene-of .ensures) (j .before .receive-commands .ensures) (j .if3 .taken) (c .before .before .refuse3 .ensures))
+
+tick-requires : tie.Need-tick-requires
+tick-requires c κs = search needs
+
+settle-requires : tie.Need-settle-requires
+settle-requires c κs = search needs
+
+play-requires : tie.Need-play-requires
+play-requires c κs =
+    let e = c .before .before .before .before .before .before .before .before .before .before .before .before .before in
+    not-refused-few _ _ _ _ (e .before .refused-at-once .ensures) (e .if1 .left)
+
+conclude-requires : tie.Need-conclude-requires
+conclude-requires c κs = search needs
+
+same-length-5 : tie.Need-same-length-5
+same-length-5 c = search needs
+
+returns-5 : tie.Need-returns-5
+returns-5 c =
+    let k = c .before .before in
+    let p = k .before .before .before .before in
+    let t = p .before .before in
+    let j = t .before .before .before in
+    let i = j .before .before .before in
+    let m = i .before .before .before .before .before in
+    let e = m .before in
+    update-with-worlds _ _ _ _ _ (e .before .refused-at-once .ensures) (e .if1 .left) (m .match .keys2)
+    (worlds-played _ _ _ _ _ (i .before .before .listen .ensures) (i .before .hear-all .ensures) (i .if2 .left) (j .before .before .scene-of .ensures) (j .before .receive-commands .ensures) (j .if3 .left) (t .before .before .tick .ensures) (t .settle .ensures) (p .play .ensures) (k .conclude .ensures))
 
 pub update-spec : {M : Type 1} → statement M
 update-spec =
@@ -84,6 +140,19 @@ update-spec =
     update-clock-requires
     same-length-2
     returns-2
-    update-worlds-requires
+    listen-requires
+    hear-all-requires
+    refuse-requires-2
     same-length-3
-    returns-3)
+    returns-3
+    scene-of-requires
+    receive-commands-requires
+    refuse-requires-3
+    same-length-4
+    returns-4
+    tick-requires
+    settle-requires
+    play-requires
+    conclude-requires
+    same-length-5
+    returns-5)
