@@ -1,12 +1,13 @@
 -- What the code of what arrives comes to, over plain values. Assumes nothing.
 use mathlib.Core.Path.{_≡_, refl, ap, sym, _∙_}
-use mathlib.Core.Bool.{Bool, true, false}
+use mathlib.Core.Bool.{Bool, true, false, _||_}
 use Prim.Native.Nat.{ℕ}
+use lib.Dec.{eqb}
 use Rattle.timestamp.specs.declared.Timestamp.{Timestamp}
 use Rattle.command.specs.declared.Entry.{Entry}
 use Rattle.command.specs.declared.Insertion.{Insertion}
+use Rattle.command.specs.declared.Outcome.{Outcome}
 use Rattle.command.specs.Buffer.{insertedOf, takenBy}
-use Rattle.simulation.specs.declared.Simulation.{Simulation}
 use Rattle.simulation.specs.declared.Scheduled.{Scheduled}
 use Rattle.simulation.specs.World.{scheduledOf}
 use Rattle.client.specs.declared.Queued.{Queued}
@@ -18,55 +19,88 @@ use Rattle.client.specs.declared.ClientWorldSimulations.{ClientWorldSimulations
 use Rattle.client.specs.declared.Ledger.{Ledger}
 use Rattle.client.specs.declared.Scene.{Scene}
 use Rattle.client.specs.declared.Received.{Received}
-use Rattle.client.specs.Sides.{newSideOf, oldSideOf, worldOf, withWorld, withBase, withSnapshots, withWorlds, withLedger, ledgerOf, counted, oldStampOf}
+use Rattle.client.specs.Sides.{newSideOf, oldSideOf, worldOf, withWorld, withSnapshots, withLedger, ledgerOf, counted, takes, oldStampOf}
 use Rattle.client.specs.Status.{laterOf}
-use Rattle.client_receive.specs.Receive.{fullBy, offeredBase, offeredSide, alsoFull, receivedOf, fromFutureOf, freshOf, notedOf, snapshotsBy, snapshotsOf, notesOf}
+use Rattle.client_receive.specs.Inner.{anyFull}
+use Rattle.client_receive.specs.Receive.{fullBy, offeredBase, offeredSide, receivedOf, fromFutureOf, freshOf, notedOf, snapshotsBy, snapshotsOf, notesOf}
 
 -- ---- commands
 
--- a command that was offered to the base
-pub offered-base : (s : Scene) (e : Entry) {i : Insertion} {f : Bool} → i ≡ insertedOf (s .worlds .base) e → f ≡ fullBy (i .outcome)
-    → _≡_ {A = Received} (record { scene = withWorlds s (withBase (s .worlds) (i .buffer)); full = f }) (offeredBase s e)
-unfolding offeredBase
-offered-base s e {i} hi hf =
-    ap (λ (x : Bool). record { scene = withWorlds s (withBase (s .worlds) (i .buffer)); full = x }) hf
-    ∙ ap (λ (x : Insertion). record { scene = withWorlds s (withBase (s .worlds) (x .buffer)); full = fullBy (x .outcome) }) hi
+-- a full one of three
+pub full-first : (b l r : Outcome) {f : Bool} → f ≡ fullBy b → f ≡ true → true ≡ anyFull b l r
+unfolding anyFull
+full-first b l r hf e = λ i. sym (sym hf ∙ e) i || (fullBy l || fullBy r)
 
--- a command that was offered to the world of a side
-pub offered-side : (s : Scene) (side : ℕ) (e : Entry) {w : Simulation} {r : Scheduled} {v : ClientWorldSimulations} {l : Ledger} {k n : ℕ} {t : Scene} {f : Bool}
-    → w ≡ worldOf (s .worlds) side → r ≡ scheduledOf w e → v ≡ withWorld (s .worlds) side (r .world) → l ≡ ledgerOf s side → k ≡ takenBy (r .outcome) → n ≡ counted (l .taken) k
-    → t ≡ withLedger (withWorlds s v) side (record { held = l .held; taken = n; copied = l .copied; replaced = l .replaced; applied = l .applied; leftout = l .leftout })
-    → f ≡ fullBy (r .outcome) → _≡_ {A = Received} (record { scene = t; full = f }) (offeredSide s side e)
-unfolding offeredSide
-offered-side s side e {w} {r} {v} {l} {k} {n} {t} {f} hw hr hv hl hk hn ht hf =
-    let er : r ≡ scheduledOf (worldOf (s .worlds) side) e = hr ∙ ap (λ (x : Simulation). scheduledOf x e) hw in
-    let ev : v ≡ withWorld (s .worlds) side (scheduledOf (worldOf (s .worlds) side) e .world) = hv ∙ ap (λ (x : Scheduled). withWorld (s .worlds) side (x .world)) er in
-    let ek : k ≡ takenBy (scheduledOf (worldOf (s .worlds) side) e .outcome) = hk ∙ ap (λ (x : Scheduled). takenBy (x .outcome)) er in
-    let en : n ≡ counted (ledgerOf s side .taken) (takenBy (scheduledOf (worldOf (s .worlds) side) e .outcome)) = hn ∙ (λ i. counted (hl i .taken) (ek i)) in
-    let et : t ≡ offeredSide s side e .scene = ht ∙ (λ i. withLedger (withWorlds s (ev i)) side (record { held = hl i .held; taken = en i; copied = hl i .copied; replaced = hl i .replaced; applied = hl i .applied; leftout = hl i .leftout })) in
-    let ef : f ≡ offeredSide s side e .full = hf ∙ ap (λ (x : Scheduled). fullBy (x .outcome)) er in
-    (λ i. record { scene = et i; full = ef i })
+pub full-second : (b l r : Outcome) {f g : Bool} → f ≡ fullBy b → f ≡ false → g ≡ fullBy l → g ≡ true → true ≡ anyFull b l r
+unfolding anyFull
+full-second b l r hf e hg d = λ i. sym (sym hf ∙ e) i || (sym (sym hg ∙ d) i || fullBy r)
 
-module _ (s : Scene) (e : Entry) {a b c : Received} {o n : ℕ} (ha : a ≡ offeredBase s e) (ho : o ≡ oldSideOf (s .worlds)) (hb : b ≡ offeredSide (a .scene) o e) (hn : n ≡ newSideOf (s .worlds)) (hc : c ≡ offeredSide (b .scene) n e) where
-  -- a command that was offered to all three
-  received-is : alsoFull (a .full) (alsoFull (b .full) c) ≡ receivedOf s e
-  unfolding receivedOf
-  received-is =
-      let eb : b ≡ offeredSide (offeredBase s e .scene) (oldSideOf (s .worlds)) e = hb ∙ (λ i. offeredSide (ha i .scene) (ho i) e) in
-      let ec : c ≡ offeredSide (offeredSide (offeredBase s e .scene) (oldSideOf (s .worlds)) e .scene) (newSideOf (s .worlds)) e = hc ∙ (λ i. offeredSide (eb i .scene) (hn i) e) in
-      (λ i. alsoFull (ha i .full) (alsoFull (eb i .full) (ec i)))
+pub full-third : (b l r : Outcome) {f g h : Bool} → f ≡ fullBy b → f ≡ false → g ≡ fullBy l → g ≡ false → h ≡ fullBy r → h ≡ anyFull b l r
+unfolding anyFull
+full-third b l r hf e hg d hh = hh ∙ (λ i. sym (sym hf ∙ e) i || (sym (sym hg ∙ d) i || fullBy r))
 
-  -- the base was full
-  pub received-base : a .full ≡ true → _≡_ {A = Received} (record { scene = c .scene; full = true }) (receivedOf s e)
-  received-base h = ap (λ (x : Bool). alsoFull x (alsoFull (b .full) c)) (sym h) ∙ received-is
+-- a ledger with what an insertion put in
+pub takes-is : (l : Ledger) (o : Outcome) {k n : ℕ} → k ≡ takenBy o → n ≡ counted (l .taken) k
+    → _≡_ {A = Ledger} (record { held = l .held; taken = n; copied = l .copied; replaced = l .replaced; applied = l .applied; leftout = l .leftout }) (takes l (takenBy o))
+takes-is l o hk hn i = record { held = l .held; taken = (hn ∙ ap (counted (l .taken)) hk) i; copied = l .copied; replaced = l .replaced; applied = l .applied; leftout = l .leftout }
 
-  -- the base was not, and the old world's buffer was
-  pub received-old : a .full ≡ false → b .full ≡ true → _≡_ {A = Received} (record { scene = c .scene; full = true }) (receivedOf s e)
-  received-old h k = (λ i. alsoFull (sym h i) (alsoFull (sym k i) c)) ∙ received-is
+or-swap : (a b : Bool) → a || b ≡ b || a
+or-swap true true = refl
+or-swap true false = refl
+or-swap false true = refl
+or-swap false false = refl
 
-  -- neither was
-  pub received-new : a .full ≡ false → b .full ≡ false → c ≡ receivedOf s e
-  received-new h k = (λ i. alsoFull (sym h i) (alsoFull (sym k i) c)) ∙ received-is
+-- what three insertions leave
+received : Scene → Insertion → Scheduled → Scheduled → Bool → Received
+received s i a b f =
+    record {
+      scene = record {
+        worlds = record { left = a .world; right = b .world; new = s .worlds .new; base = i .buffer; snapshots = s .worlds .snapshots; weight = s .worlds .weight; published = s .worlds .published };
+        left = takes (s .left) (takenBy (a .outcome));
+        right = takes (s .right) (takenBy (b .outcome));
+        steps = s .steps;
+      };
+      full = f;
+    }
+
+-- the command goes to all three, whichever side is new
+received-by : (s : Scene) (e : Entry) (new : Bool) → eqb (s .worlds .new) 0 ≡ new
+    → received s (insertedOf (s .worlds .base) e) (scheduledOf (s .worlds .left) e) (scheduledOf (s .worlds .right) e) (anyFull (insertedOf (s .worlds .base) e .outcome) (scheduledOf (s .worlds .left) e .outcome) (scheduledOf (s .worlds .right) e .outcome)) ≡ receivedOf s e
+unfolding received receivedOf offeredBase offeredSide newSideOf oldSideOf worldOf withWorld withLedger ledgerOf anyFull
+received-by s e true h =
+    rw h
+    (ap (λ (x : Bool). received s (insertedOf (s .worlds .base) e) (scheduledOf (s .worlds .left) e) (scheduledOf (s .worlds .right) e) (fullBy (insertedOf (s .worlds .base) e .outcome) || x))
+    (or-swap (fullBy (scheduledOf (s .worlds .left) e .outcome)) (fullBy (scheduledOf (s .worlds .right) e .outcome))))
+received-by s e false h = rw h refl
+
+-- a command that arrived, by the calls that offer it
+pub received-is : (s : Scene) (e : Entry) {i : Insertion} {a b : Scheduled} {l r : Ledger} {f : Bool}
+    → i ≡ insertedOf (s .worlds .base) e → a ≡ scheduledOf (s .worlds .left) e → b ≡ scheduledOf (s .worlds .right) e
+    → l ≡ takes (s .left) (takenBy (a .outcome)) → r ≡ takes (s .right) (takenBy (b .outcome)) → f ≡ anyFull (i .outcome) (a .outcome) (b .outcome)
+    → _≡_ {A = Received}
+    (record {
+      scene = record {
+        worlds = record { left = a .world; right = b .world; new = s .worlds .new; base = i .buffer; snapshots = s .worlds .snapshots; weight = s .worlds .weight; published = s .worlds .published };
+        left = l;
+        right = r;
+        steps = s .steps;
+      };
+      full = f;
+    })
+    (receivedOf s e)
+unfolding received
+received-is s e {i} {a} {b} {l} {r} {f} hi ha hb hl hr hf =
+    (λ j. record {
+      scene = record {
+        worlds = record { left = a .world; right = b .world; new = s .worlds .new; base = i .buffer; snapshots = s .worlds .snapshots; weight = s .worlds .weight; published = s .worlds .published };
+        left = hl j;
+        right = hr j;
+        steps = s .steps;
+      };
+      full = hf j;
+    })
+    ∙ (λ j. received s (hi j) (ha j) (hb j) (anyFull (hi j .outcome) (ha j .outcome) (hb j .outcome)))
+    ∙ received-by s e (eqb (s .worlds .new) 0) refl
 
 -- ---- snapshots
 

@@ -1,1 +1,2 @@
 pub mod Receive
+pub mod Inner

@@ -1,9 +1,12 @@
 // Commands and snapshots that arrive: `receive_command` and `receive_snapshot` of src/client.rs of crystalorb.
 ghost use mathlib.Core.Path.{_≡_};
 ghost use Rattle.command.specs.Buffer.{takenBy};
-ghost use Rattle.client_receive.specs.Receive.{fullBy, offeredBase, offeredSide, receivedOf, fromFutureOf, freshOf, notedOf, snapshotsOf, notesOf};
+ghost use Rattle.client.specs.Sides.{takes};
+ghost use Rattle.client_receive.specs.Inner.{anyFull};
+ghost use Rattle.client_receive.specs.Receive.{fullBy, receivedOf, fromFutureOf, freshOf, notedOf, snapshotsOf, notesOf};
 use client::ClientWorldSimulations;
 use client::LastStamp;
+use client::Ledger;
 use client::Queued;
 use client::Received;
 use client::Scene;
@@ -36,69 +39,64 @@ pub fn taken_by(o: Outcome) -> usize
     }
 }
 
-// A command is offered to the base buffer.
-pub fn offer_base(s: Scene, entry: Entry) -> Received
-    ensures { λ r. ⌜ r ≡ offeredBase s entry ⌝ }
+// Whether one of three insertions found its buffer full.
+pub fn any_full(base: Outcome, left: Outcome, right: Outcome) -> bool
+    ensures { λ r. ⌜ r ≡ anyFull base left right ⌝ }
 {
-    let w = s.worlds;
-    let b = w.base;
-    let i = command::insert(b, entry);
-    let next = i.buffer;
-    let o = i.outcome;
-    let mut v = w;
-    v.base = next;
-    let mut t = s;
-    t.worlds = v;
-    Received {
-        scene: t,
-        full: is_full(o),
+    if is_full(base) {
+        return true;
     }
+    if is_full(left) {
+        return true;
+    }
+    is_full(right)
 }
 
-// A command is offered to the world of a side.
-pub fn offer_side(s: Scene, side: u32, entry: Entry) -> Received
-    ensures { λ r. ⌜ r ≡ offeredSide s side entry ⌝ }
+// A ledger with what an insertion put in.
+pub fn take(l: Ledger, o: Outcome) -> Ledger
+    ensures { λ r. ⌜ r ≡ takes l (takenBy o) ⌝ }
 {
-    let w = s.worlds;
-    let r = simulation::schedule_command(sides::get_side(w, side), entry);
-    let sim = r.world;
-    let o = r.outcome;
-    let put = sides::set_side(w, side, sim);
-    let mut l = sides::get_ledger(s, side);
-    let taken = l.taken;
-    l.taken = std::num::wrapping_add_usize(taken, taken_by(o));
-    let mut t = s;
-    t.worlds = put;
-    Received {
-        scene: sides::set_ledger(t, side, l),
-        full: is_full(o),
-    }
+    let mut t = l;
+    let taken = t.taken;
+    t.taken = std::num::wrapping_add_usize(taken, taken_by(o));
+    t
 }
 
-// A command goes to the base, the old and the new world. `full` says whether one of them takes it but has no room: refusal 23.
+// A command goes to the base, the old and the new world. `full` says whether one of them takes it but has no room: refusal 23. None of the
+// three looks at another, so left and right need not be told apart, and the scene is laid out once.
 pub fn receive_command(s: Scene, entry: Entry) -> Received
     ensures { λ r. ⌜ r ≡ receivedOf s entry ⌝ }
 {
     let w = s.worlds;
-    let a = offer_base(s, entry);
-    let first = a.scene;
-    let b = offer_side(first, sides::old_side(w), entry);
-    let second = b.scene;
-    let c = offer_side(second, sides::new_side(w), entry);
-    let third = c.scene;
-    if a.full {
-        return Received {
-            scene: third,
-            full: true,
-        };
+    let held = w.base;
+    let i = command::insert(held, entry);
+    let a = simulation::schedule_command(w.left, entry);
+    let b = simulation::schedule_command(w.right, entry);
+    let base = i.buffer;
+    let left = a.world;
+    let right = b.world;
+    let snapshots = w.snapshots;
+    let published = w.published;
+    let of_base = i.outcome;
+    let of_left = a.outcome;
+    let of_right = b.outcome;
+    Received {
+        scene: Scene {
+            worlds: ClientWorldSimulations {
+                left,
+                right,
+                new: w.new,
+                base,
+                snapshots,
+                weight: w.weight,
+                published,
+            },
+            left: take(s.left, of_left),
+            right: take(s.right, of_right),
+            steps: s.steps,
+        },
+        full: any_full(of_base, of_left, of_right),
     }
-    if b.full {
-        return Received {
-            scene: third,
-            full: true,
-        };
-    }
-    c
 }
 
 // Whether a snapshot is later than the client's stamp.
