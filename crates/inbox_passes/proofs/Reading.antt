@@ -4,6 +4,7 @@ use mathlib.Core.Bool.{Bool, true, false, _||_, true≢false}
 use mathlib.Core.List.{List, [], _∷_}
 use Prim.Native.Nat.{ℕ}
 use lib.Ieee.{Float}
+use Rattle.timestamp.specs.declared.Timestamp.{Timestamp}
 use Rattle.inbox.specs.declared.Message.{Message}
 use Rattle.inbox.specs.declared.Message.the-variants.{Command, Snapshot, Clock, BadTime, WrongWord, CutShort}
 use Rattle.inbox.specs.Inbox.{messagesOf, some}
@@ -12,10 +13,13 @@ use Rattle.clocksync.specs.declared.Heard.{Heard}
 use Rattle.clocksync.specs.Clock.{heardOf}
 use Rattle.client.specs.declared.Received.{Received}
 use Rattle.client.specs.declared.ClientWorldSimulations.{ClientWorldSimulations}
-use Rattle.client_receive.specs.Receive.{alsoFull}
+use Rattle.client.specs.declared.Snapshots.{Snapshots}
+use Rattle.client.specs.Sides.{oldSideOf, worldOf, oldStampOf, withSnapshots}
+use Rattle.client_receive.specs.Receive.{alsoFull, snapshotsOf, notesOf}
 use Rattle.inbox_passes.specs.declared.Hearing.{Hearing}
+use Rattle.inbox_passes.specs.declared.Noting.{Noting}
 use Rattle.inbox_passes.specs.Passes.{isForWorlds, metOne, hasForWorlds, hearOne, heardIn, receiveOne, receivedIn, noteOne, notedIn}
-use Rattle.inbox_passes.specs.Inner.{metIn, hearNext, hearIn}
+use Rattle.inbox_passes.specs.Inner.{metIn, hearNext, hearIn, snapshotsAfter, noteNext, noteIn}
 
 -- a message that is no clock message is passed over
 pub hear-other : (seconds : Float) (h : Heard) (m : Message) → isClock m ≡ false → h ≡ hearOne seconds h m
@@ -78,13 +82,21 @@ unfolding metIn hasForWorlds
 met-end words e = e
 
 -- a message that is no snapshot is passed over
-pub note-other : (w : ClientWorldSimulations) (m : Message) → isSnapshot m ≡ false → w ≡ noteOne w m
-note-other w (Command s n) e = refl
-note-other w (Snapshot s n) e = absurd (true≢false e)
-note-other w (Clock i s t) e = refl
-note-other w BadTime e = refl
-note-other w WrongWord e = refl
-note-other w CutShort e = refl
+snapshots-other : (old : Timestamp) (s : Snapshots) (m : Message) → isSnapshot m ≡ false → s ≡ snapshotsAfter old s m
+snapshots-other old s (Command t h) e = refl
+snapshots-other old s (Snapshot t h) e = absurd (true≢false e)
+snapshots-other old s (Clock i t u) e = refl
+snapshots-other old s BadTime e = refl
+snapshots-other old s WrongWord e = refl
+snapshots-other old s CutShort e = refl
+
+-- the same, where the client's stamp stands beside the snapshots
+pub note-next-other : (a : Noting) (m : Message) → isSnapshot m ≡ false → a ≡ noteNext a m
+note-next-other a m e = λ i. record { snapshots = snapshots-other (a .old) (a .snapshots) m e i; old = a .old }
+
+-- a snapshot is received
+pub note-next-snapshot : (a : Noting) (m : Message) (t : Timestamp) (h : ℕ) {s : Snapshots} → m ≡ Snapshot t h → s ≡ snapshotsOf (a .snapshots) (a .old) t h → _≡_ {A = Noting} (record { snapshots = s; old = a .old }) (noteNext a m)
+note-next-snapshot a m t h em e = (λ j. record { snapshots = e j; old = a .old }) ∙ sym (ap (noteNext a) em)
 
 -- a message that is no command is passed over
 pub receive-other : (r : Received) (m : Message) → isCommand m ≡ false → r ≡ receiveOne r m
@@ -108,7 +120,29 @@ pub receive-folds : (words : List ℕ) (r : Received) → over receiveOne r (mes
 unfolding receivedIn
 receive-folds words r = refl
 
--- the third pass
-pub note-folds : (words : List ℕ) (w : ClientWorldSimulations) → over noteOne w (messagesOf words) ≡ notedIn words w
-unfolding notedIn
-note-folds words w = refl
+-- the third pass, the worlds left aside
+pub note-folds : (words : List ℕ) (a : Noting) → over noteNext a (messagesOf words) ≡ noteIn words a
+unfolding noteIn
+note-folds words a = refl
+
+-- the snapshots of worlds, and their old stamp
+abbrev notingOf : ClientWorldSimulations → Noting
+notingOf w = record { snapshots = w .snapshots; old = oldStampOf w }
+
+-- the messages change the snapshots of the worlds alone, so that the old stamp stays as it is
+note-over : (w : ClientWorldSimulations) (ms : List Message) → over noteOne w ms ≡ withSnapshots w (over noteNext (notingOf w) ms .snapshots)
+unfolding notesOf oldStampOf oldSideOf worldOf
+note-over w [] = refl
+note-over w (Command t h ∷ ms) = note-over w ms
+note-over w (Snapshot t h ∷ ms) = note-over (notesOf w t h) ms
+note-over w (Clock i t u ∷ ms) = note-over w ms
+note-over w (BadTime ∷ ms) = note-over w ms
+note-over w (WrongWord ∷ ms) = note-over w ms
+note-over w (CutShort ∷ ms) = note-over w ms
+
+-- the snapshots that the pass gives, put back: the third pass
+pub noted-end : (words : List ℕ) (w : ClientWorldSimulations) {old : Timestamp} {r : Noting} → old ≡ oldStampOf w → r ≡ noteIn words (record { snapshots = w .snapshots; old = old }) → withSnapshots w (r .snapshots) ≡ notedIn words w
+unfolding noteIn notedIn
+noted-end words w eo e =
+    ap (λ (x : Noting). withSnapshots w (x .snapshots)) (e ∙ ap (λ (t : Timestamp). over noteNext (record { snapshots = w .snapshots; old = t }) (messagesOf words)) eo)
+    ∙ sym (note-over w (messagesOf words))

@@ -1,19 +1,28 @@
 // The three passes over an inbox: clock messages, commands, snapshots. Each goes from message to message by a reader that keeps the
 // inbox's words and a position.
 ghost use mathlib.Core.Path.{_≡_};
-ghost use Rattle.inbox_passes.specs.Passes.{metOne, hasForWorlds, heardIn, receiveOne, receivedIn, noteOne, notedIn};
-ghost use Rattle.inbox_passes.specs.Inner.{metIn, hearNext, hearIn};
+ghost use Rattle.inbox_passes.specs.Passes.{metOne, hasForWorlds, heardIn, receiveOne, receivedIn, notedIn};
+ghost use Rattle.inbox_passes.specs.Inner.{metIn, hearNext, hearIn, noteNext, noteIn};
 use client::ClientWorldSimulations;
 use client::Received;
+use client::Snapshots;
+use client::sides;
 use clocksync::Heard;
 use command::Entry;
 use inbox::Message;
 use inbox::reader;
+use timestamp::Timestamp;
 
 // What the clock messages told so far, and the time at which this client hears them.
 pub struct Hearing {
     pub heard: Heard,
     pub seconds: f64,
+}
+
+// What the snapshots of the inbox left so far, and the stamp of the client that receives them.
+pub struct Noting {
+    pub snapshots: Snapshots,
+    pub old: Timestamp,
 }
 
 // Whether a message is a command or a snapshot, or one was met before.
@@ -137,25 +146,43 @@ pub fn receive_commands(words: &[u32], start: Received) -> Received
 }
 
 // A snapshot is received; any other message is passed over.
-pub fn note_one(w: ClientWorldSimulations, m: Message) -> ClientWorldSimulations
-    ensures { λ r. ⌜ r ≡ noteOne w m ⌝ }
+pub fn note_next(a: Noting, m: Message) -> Noting
+    ensures { λ r. ⌜ r ≡ noteNext a m ⌝ }
 {
     match m {
-        Message::Snapshot { stamp, handle } => client_receive::receive_snapshot(w, stamp, handle),
-        _ => w,
+        Message::Snapshot { stamp, handle } => {
+            let s = a.snapshots;
+            let old = a.old;
+            let snapshots = client_receive::snapshots_with(s, old, stamp, handle);
+            Noting { snapshots, old }
+        }
+        _ => a,
     }
 }
 
-// The snapshots of an inbox, in their order.
+// The snapshots of an inbox, in their order. Only the worlds' snapshots change, so that the pass carries these and not the worlds.
 pub fn receive_snapshots(words: &[u32], start: ClientWorldSimulations) -> ClientWorldSimulations
     ensures { λ r. ⌜ r ≡ notedIn (now (words .entry)) start ⌝ }
 {
-    let mut r = reader::new(words);
+    let old = sides::last_completed_timestamp(start);
+    let snapshots = start.snapshots;
+    let r = note_in(words, Noting { snapshots, old });
+    let next = r.snapshots;
     let mut w = start;
+    w.snapshots = next;
+    w
+}
+
+// The snapshots of an inbox, in their order.
+pub fn note_in(words: &[u32], start: Noting) -> Noting
+    ensures { λ r. ⌜ r ≡ noteIn (now (words .entry)) start ⌝ }
+{
+    let mut r = reader::new(words);
+    let mut n = start;
     while reader::more(r) {
         let s = reader::next(r);
-        w = note_one(w, s.message);
+        n = note_next(n, s.message);
         r = reader::moved(r, s.next);
     }
-    w
+    n
 }

@@ -1,38 +1,20 @@
--- `receive_snapshots` meets its contract: it is a pass by a reader. Assumes nothing.
-use Rattle.client.proofs.ClientWorldSimulations as K
-use Rattle.client.proofs.ClientWorldSimulations.Laws as K′
-use contract.Running.{givenOf, tables, tablesOf}
-use denote.Triple.Spec.{tripleOf}
-use denote.Triple.Table.{entered, cited}
-use Rattle.inbox.proofs.Passing.{New, More, Next, Take, Moved, of-struct, still, pass-meets}
-use Rattle.inbox.proofs.reader.new.Symbol as new-def
-use Rattle.inbox.proofs.reader.new.Met as new-thm
-use Rattle.inbox.proofs.reader.more.Symbol as more-def
-use Rattle.inbox.proofs.reader.more.Met as more-thm
-use Rattle.inbox.proofs.reader.next.Symbol as next-def
-use Rattle.inbox.proofs.reader.next.Met as next-thm
-use Rattle.inbox.proofs.reader.moved.Symbol as moved-def
-use Rattle.inbox.proofs.reader.moved.Met as moved-thm
-use Rattle.inbox_passes.specs.Passes.{noteOne, notedIn}
-use Rattle.inbox_passes.proofs.Reading.{note-folds}
-use Rattle.inbox_passes.proofs.note_one.Symbol as take-def
-use Rattle.inbox_passes.proofs.note_one.Met as take-thm
-use Rattle.inbox_passes.proofs.receive_snapshots.Key.{name as #inbox-passes·receive-snapshots}
-use Rattle.inbox_passes.proofs.receive_snapshots as this
-use Rattle.inbox_passes.proofs.receive_snapshots.Statement as stated
-use Rattle.inbox_passes.proofs.receive_snapshots.Code as code
+-- `receive_snapshots` meets its contract: the snapshots that the pass gives are put back into the worlds. Assumes nothing.
+use borrow.Author.Needs.{needs}
+use Rattle.inbox_passes.proofs.Reading.{noted-end}
+use Rattle.inbox_passes.proofs.receive_snapshots.Statement.{statement}
+use Rattle.inbox_passes.proofs.receive_snapshots.Tie as tie
 
-pub receive-snapshots-spec : {M : Type 1} → stated.statement M
-unfolding code.routine tablesOf
-receive-snapshots-spec 𝓤 H 𝓜 𝓖 𝓡 =
-    entered 𝓤 H (tripleOf 𝓤 H (𝓖 .A) this.signature (this.spec 𝓤 H (𝓖 .A) (𝓜 .mem) (𝓡 .run)))
-    (tables 𝓤 H 𝓜 𝓡 code.env .C) (tables 𝓤 H 𝓜 𝓡 code.env .Λ) #inbox-passes·receive-snapshots code.function (code.unfolded 𝓤 H 𝓜 𝓡)
-    (pass-meets 𝓤 H (𝓖 .A) (givenOf 𝓤 H 𝓜 𝓖) (𝓜 .mem) (𝓡 .run)
-    (of-struct 𝓤 H (𝓖 .A) (givenOf 𝓤 H 𝓜 𝓖) K.the-type K′.the-laws K′.the-plain)
-    noteOne notedIn note-folds
-    (tablesOf 𝓤 H 𝓜 (tables 𝓤 H 𝓜 𝓡 code.env)) take-def.name
-    (cited 𝓤 H (New 𝓤 H (𝓖 .A) (𝓜 .mem) (𝓡 .run)) 𝓜 𝓡 code.env new-def.name new-def.routine code.calls-inbox·reader·new (new-thm.met 𝓤 H 𝓜 𝓖 𝓡))
-    (cited 𝓤 H (More 𝓤 H (𝓖 .A) (𝓜 .mem) (𝓡 .run)) 𝓜 𝓡 code.env more-def.name more-def.routine code.calls-inbox·reader·more (more-thm.met 𝓤 H 𝓜 𝓖 𝓡))
-    (cited 𝓤 H (Next 𝓤 H (𝓖 .A) (𝓜 .mem) (𝓡 .run)) 𝓜 𝓡 code.env next-def.name next-def.routine code.calls-inbox·reader·next (next-thm.met 𝓤 H 𝓜 𝓖 𝓡))
-    (cited 𝓤 H (Take 𝓤 H (𝓖 .A) (still K.the-row) noteOne) 𝓜 𝓡 code.env take-def.name take-def.routine code.calls-inbox-passes·note-one (take-thm.met 𝓤 H 𝓜 𝓖 𝓡))
-    (cited 𝓤 H (Moved 𝓤 H (𝓖 .A) (𝓜 .mem) (𝓡 .run)) 𝓜 𝓡 code.env moved-def.name moved-def.routine code.calls-inbox·reader·moved (moved-thm.met 𝓤 H 𝓜 𝓖 𝓡)))
+last-completed-timestamp-requires : tie.Need-last-completed-timestamp-requires
+last-completed-timestamp-requires c κs = search needs
+
+note-in-requires : tie.Need-note-in-requires
+note-in-requires c κs = search needs
+
+returns : tie.Need-returns
+returns c =
+    let n = c .before in
+    let l = n .before .before in
+    noted-end _ (l .before .before .args .start) (l .last-completed-timestamp .ensures) (n .note-in .ensures)
+
+pub receive-snapshots-spec : {M : Type 1} → statement M
+receive-snapshots-spec = tie.close (tie.spec last-completed-timestamp-requires note-in-requires returns)
