@@ -10,7 +10,8 @@ use lib.Dec.{ltb}
 use borrow.Author.Tests.{lt-ltb, le-ltb, ltb-true, ltb-false, eq-eqb, ne-eqb}
 use Rattle.inbox.specs.declared.Message.{Message}
 use Rattle.inbox.specs.declared.Message.the-variants.{Command, Snapshot, Clock, BadTime, WrongWord, CutShort}
-use Rattle.inbox.specs.Inbox.{messagesOf, numberOf, lowestOf, lowestWith, lowestIn, isRefused, some, refusalIn, refusalOf}
+use Rattle.inbox.specs.Inbox.{messagesOf, numberOf, lowestOf, isRefused, some, refusalIn, refusalOf}
+use Rattle.inbox.specs.Inner.{lowestWith, lowestIn}
 use Rattle.inbox.specs.Passes.{over}
 
 -- ---- the lower of two refusals, by the tests that pick it

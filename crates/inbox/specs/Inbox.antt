@@ -166,10 +166,6 @@ numberOf CutShort = 5
 abbrev pub lowestOf : ℕ → ℕ → ℕ
 lowestOf a b = cond (eqb a 0) b (cond (eqb b 0) a (cond (ltb b a) b a))
 
--- the lower of a refusal and the one that a message stands for
-abbrev pub lowestWith : ℕ → Message → ℕ
-lowestWith found m = lowestOf found (numberOf m)
-
 -- whether a message stands for the refusal n
 abbrev pub isRefused : ℕ → Message → Bool
 isRefused n m = eqb (numberOf m) n
@@ -182,10 +178,6 @@ some p (m ∷ ms) = p m || some p ms
 -- the lowest number of a list's messages: 4 anywhere, then 5, then 6, or 0
 unfoldable pub refusalIn : List Message → ℕ
 refusalIn ms = cond (some (isRefused 4) ms) 4 (cond (some (isRefused 5) ms) 5 (cond (some (isRefused 6) ms) 6 0))
-
--- the lowest of a refusal and those of an inbox's messages
-unfoldable pub lowestIn : List ℕ → ℕ → ℕ
-lowestIn ws found = lowestOf found (refusalIn (messagesOf ws))
 
 -- the refusal of an inbox: 3 over 4,096 words, then that of its messages; 0 where it is accepted
 unfoldable pub refusalOf : List ℕ → ℕ

@@ -1,3 +1,4 @@
 pub mod Inbox
 pub mod Reader
 pub mod Passes
+pub mod Inner

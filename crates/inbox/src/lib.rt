@@ -4,7 +4,8 @@
 ghost use mathlib.Core.Path.{_≡_};
 ghost use Prim.Native.Nat.{_+_, _≤_, _<_};
 ghost use lib.ListN.{length, drop};
-ghost use Rattle.inbox.specs.Inbox.{wordOf, headOf, joinedOf, bitsOf, timeOf, clockOf, stepOf, numberOf, lowestOf, lowestWith, lowestIn, refusalOf};
+ghost use Rattle.inbox.specs.Inbox.{wordOf, headOf, joinedOf, bitsOf, timeOf, clockOf, stepOf, numberOf, lowestOf, refusalOf};
+ghost use Rattle.inbox.specs.Inner.{lowestWith, lowestIn};
 use timestamp::Timestamp;
 
 pub mod reader;

@@ -7,7 +7,7 @@ use denote.Plain.{uint-tells, uint-lawful, uint-makes}
 use denote.Builtin.{u32}
 use denote.Triple.Spec.{tripleOf}
 use denote.Triple.Table.{entered, cited}
-use Rattle.inbox.specs.Inbox.{lowestWith, lowestIn}
+use Rattle.inbox.specs.Inner.{lowestWith, lowestIn}
 use Rattle.inbox.proofs.Refusals.{lowest-folds}
 use Rattle.inbox.proofs.Passing.{New, More, Next, Take, Moved, still, pass-meets}
 use Rattle.inbox.proofs.reader.new.Symbol as new-def
