@@ -32,7 +32,9 @@ use Rattle.client.specs.declared.Shown.{Shown}
 use Rattle.client.specs.declared.Framed.{Framed}
 use Rattle.client.specs.Sides.{newSideOf, oldSideOf, worldOf, withWorld, withWeight, withWorlds, withLedger, ledgerOf, counted, loads, applies, putOf, oldStampOf, newStampOf, Played, andThen, doneAt, Plays}
 use Rattle.client.specs.Status.{statusOf}
-use Rattle.client_publish.specs.Publish.{publishedOld, publishedBlended}
+use Rattle.client_publish.specs.declared.Stated.{Stated}
+use Rattle.client_publish.specs.Publish.{withState, publishedOld, publishedBlended}
+use Rattle.client_publish.specs.Inner.{States}
 use Rattle.client_frame.specs.Frame.{loadsOf, readiedWith, loadedAt, loadedOf, loadedQueued, clamped, blendedOn, resetNew, openedOf, steppedSide, caughtUpOf, withStep, steppedNew, caughtOf, simulatedOf, blendedBy, publishedBy, shownOf, isObsolete, tooFarOf, stopsOf, snapshotOf, openOf, frameOf, frameStops, Frames}
 use Rattle.client_frame.specs.Inner.{putBack}
 use Rattle.client.proofs.Happening.{plays-still, plays-as, plays-then, plays-done}
@@ -180,12 +182,16 @@ simulate-plays m s {a = a} hs h c e =
 -- ---- what is published
 
 -- by the weight
-pub published-blended : (b : Bool) (s : Scene) {was last : List ℕ} {place : ℕ} {r : Shown} → b ≡ true → Plays (publishedBlended s) was place r last → Plays (publishedBy b s) was place r last
+pub published-blended : (b : Bool) (s : Scene) {was last : List ℕ} {place : ℕ} {r : Stated} → b ≡ true → States (publishedBlended s) s was place r last → States (publishedBy b s) s was place r last
 published-blended b s e h = rw e h
 
 -- the old world
-pub published-old : (b : Bool) (s : Scene) {was last : List ℕ} {place : ℕ} {r : Shown} → b ≡ false → Plays (publishedOld s) was place r last → Plays (publishedBy b s) was place r last
+pub published-old : (b : Bool) (s : Scene) {was last : List ℕ} {place : ℕ} {r : Stated} → b ≡ false → States (publishedOld s) s was place r last → States (publishedBy b s) s was place r last
 published-old b s e h = rw e h
+
+-- the scene with the state
+pub stated-plays : {p : Played} (s : Scene) {was last : List ℕ} {place : ℕ} {r : Stated} {u : Scene} → States p s was place r last → u ≡ withState s (r .state) → Plays p was place (record { scene = u; at = r .at }) last
+stated-plays s h e = record { scene = e ∙ h .scene; puts = h .puts }
 
 -- the worlds step, and then something is published
 pub show-plays : (m : ℕ) (b : Bool) (s : Scene) {was mid last : List ℕ} {place : ℕ} {a r : Shown}

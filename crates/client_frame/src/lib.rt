@@ -2,6 +2,7 @@
 ghost use mathlib.Core.Path.{_≡_};
 ghost use Prim.Native.Nat.{_<_, _≤_};
 ghost use Rattle.client.specs.Sides.{Plays, oldStampOf, applies};
+ghost use Rattle.client_publish.specs.Inner.{States};
 ghost use Rattle.client_frame.specs.Frame.{loadsOf, readiedWith, loadedOf, clamped, blendedOn, resetNew, openedOf, steppedSide, caughtUpOf, caughtOf, simulatedOf, blendedBy, publishedBy, isObsolete, tooFarOf, stopsOf, shownOf, frameOf, frameStops, Frames};
 ghost use Rattle.client_frame.specs.Inner.{putBack};
 use client::ClientWorldSimulations;
@@ -15,6 +16,7 @@ use client::Shown;
 use client::Snapshots;
 use client::sides;
 use client::status;
+use client_publish::Stated;
 use command::CommandBuffer;
 use simulation::Simulation;
 use timestamp::Ordering;
@@ -338,15 +340,28 @@ pub fn is_blended(t: ReconciliationStatus, q: Queued) -> bool
     }
 }
 
-// What the frame publishes.
-pub fn publish(s: Scene, blended: bool, tape: &mut [u32], at: usize) -> Shown
+// The state that the frame publishes: by the weight, or the old world.
+pub fn publish_state(s: Scene, blended: bool, tape: &mut [u32], at: usize) -> Stated
     requires { ⌜ at < 3000000000 ⌝ }
-    ensures { λ r. ⌜ Plays (publishedBy blended s) (now (tape .entry)) at r (now (tape .exit)) ⌝ }
+    ensures { λ r. ⌜ States (publishedBy blended s) s (now (tape .entry)) at r (now (tape .exit)) ⌝ }
 {
     if blended {
         return client_publish::publish_blended_state(s, tape, at);
     }
     client_publish::publish_old_state(s, tape, at)
+}
+
+// What the frame publishes. The scene is built once, from the state.
+pub fn publish(s: Scene, blended: bool, tape: &mut [u32], at: usize) -> Shown
+    requires { ⌜ at < 3000000000 ⌝ }
+    ensures { λ r. ⌜ Plays (publishedBy blended s) (now (tape .entry)) at r (now (tape .exit)) ⌝ }
+{
+    let r = publish_state(s, blended, tape, at);
+    let state = r.state;
+    Shown {
+        scene: client_publish::with_state(s, state),
+        at: r.at,
+    }
 }
 
 // Whether a status is Fastforwarding with Obsolete.

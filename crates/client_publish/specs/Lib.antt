@@ -1,1 +1,2 @@
 pub mod Publish
+pub mod Inner

@@ -1,13 +1,12 @@
 // What a frame publishes: the old world, the new one, a mix of both, or nothing (src/world/display_state.rs of crystalorb).
 ghost use mathlib.Core.Path.{_≡_};
 ghost use Prim.Native.Nat.{_<_, _≤_};
-ghost use Rattle.client.specs.Sides.{Plays};
 ghost use Rattle.client_publish.specs.Publish.{withState, publishedNone, publishedSide, publishedMix, publishedOld, nearOne, publishedBoth, publishedBlended};
+ghost use Rattle.client_publish.specs.Inner.{States};
 use client::ClientWorldSimulations;
 use client::LastStamp;
 use client::Published;
 use client::Scene;
-use client::Shown;
 use client::sides;
 
 // The published states move on by one: the last one is now the one before.
@@ -30,48 +29,54 @@ pub fn with_state(s: Scene, state: LastStamp) -> Scene
     t
 }
 
+// The state that is published, and the next place on the tape. A scene is built from it once, by `with_state`.
+pub struct Stated {
+    pub state: LastStamp,
+    pub at: usize,
+}
+
 // Nothing is published: neither world has had a snapshot.
-pub fn publish_none(s: Scene, tape: &mut [u32], at: usize) -> Shown
+pub fn publish_none(s: Scene, tape: &mut [u32], at: usize) -> Stated
     requires { ⌜ at < 3000000000 ⌝ }
-    ensures { λ r. ⌜ Plays (publishedNone s) (now (tape .entry)) at r (now (tape .exit)) ⌝ }
+    ensures { λ r. ⌜ States (publishedNone s) s (now (tape .entry)) at r (now (tape .exit)) ⌝ }
 {
     let p = tape::put(tape, at, tape::none_word());
-    Shown {
-        scene: with_state(s, LastStamp::Never),
+    Stated {
+        state: LastStamp::Never,
         at: p,
     }
 }
 
 // The world of a side is published as it is.
-pub fn publish_side(s: Scene, side: u32, tape: &mut [u32], at: usize) -> Shown
+pub fn publish_side(s: Scene, side: u32, tape: &mut [u32], at: usize) -> Stated
     requires { ⌜ at < 3000000000 ⌝ }
-    ensures { λ r. ⌜ Plays (publishedSide s side) (now (tape .entry)) at r (now (tape .exit)) ⌝ }
+    ensures { λ r. ⌜ States (publishedSide s side) s (now (tape .entry)) at r (now (tape .exit)) ⌝ }
 {
     let stamp = sides::stamp_of(sides::get_side(s.worlds, side));
     let p = tape::put(tape, at, tape::publish_word(side));
-    Shown {
-        scene: with_state(s, LastStamp::Last(stamp)),
+    Stated {
+        state: LastStamp::Last(stamp),
         at: p,
     }
 }
 
 // A mix of both worlds is published, with the weight of the new one.
-pub fn publish_mix(s: Scene, weight: f64, tape: &mut [u32], at: usize) -> Shown
+pub fn publish_mix(s: Scene, weight: f64, tape: &mut [u32], at: usize) -> Stated
     requires { ⌜ at < 3000000000 ⌝ }
-    ensures { λ r. ⌜ Plays (publishedMix s weight) (now (tape .entry)) at r (now (tape .exit)) ⌝ }
+    ensures { λ r. ⌜ States (publishedMix s weight) s (now (tape .entry)) at r (now (tape .exit)) ⌝ }
 {
     let stamp = sides::last_completed_timestamp(s.worlds);
     let p = tape::put_mix(tape, at, weight);
-    Shown {
-        scene: with_state(s, LastStamp::Last(stamp)),
+    Stated {
+        state: LastStamp::Last(stamp),
         at: p,
     }
 }
 
 // The old world is published, where a snapshot has initialised it.
-pub fn publish_old_state(s: Scene, tape: &mut [u32], at: usize) -> Shown
+pub fn publish_old_state(s: Scene, tape: &mut [u32], at: usize) -> Stated
     requires { ⌜ at < 3000000000 ⌝ }
-    ensures { λ r. ⌜ Plays (publishedOld s) (now (tape .entry)) at r (now (tape .exit)) ⌝ }
+    ensures { λ r. ⌜ States (publishedOld s) s (now (tape .entry)) at r (now (tape .exit)) ⌝ }
 {
     let side = sides::old_side(s.worlds);
     let old = sides::get_side(s.worlds, side);
@@ -93,9 +98,9 @@ pub fn is_near_one(weight: f64) -> bool
 }
 
 // Both worlds are initialised: the old one at weight 0, the new one near weight 1, and a mix in between.
-pub fn publish_both(s: Scene, tape: &mut [u32], at: usize) -> Shown
+pub fn publish_both(s: Scene, tape: &mut [u32], at: usize) -> Stated
     requires { ⌜ at < 3000000000 ⌝ }
-    ensures { λ r. ⌜ Plays (publishedBoth s) (now (tape .entry)) at r (now (tape .exit)) ⌝ }
+    ensures { λ r. ⌜ States (publishedBoth s) s (now (tape .entry)) at r (now (tape .exit)) ⌝ }
 {
     let w = s.worlds;
     let t = w.weight;
@@ -109,9 +114,9 @@ pub fn publish_both(s: Scene, tape: &mut [u32], at: usize) -> Shown
 }
 
 // The worlds are published by the weight; with the old one not initialised the new one, and nothing where that is not either.
-pub fn publish_blended_state(s: Scene, tape: &mut [u32], at: usize) -> Shown
+pub fn publish_blended_state(s: Scene, tape: &mut [u32], at: usize) -> Stated
     requires { ⌜ at < 3000000000 ⌝ }
-    ensures { λ r. ⌜ Plays (publishedBlended s) (now (tape .entry)) at r (now (tape .exit)) ⌝ }
+    ensures { λ r. ⌜ States (publishedBlended s) s (now (tape .entry)) at r (now (tape .exit)) ⌝ }
 {
     let w = s.worlds;
     let old = sides::get_side(w, sides::old_side(w));

@@ -1,6 +1,6 @@
 -- `publish_side` meets its contract: the word of the side, and the state of its stamp. Assumes nothing.
 use borrow.Author.Needs.{needs}
-use Rattle.client_publish.proofs.Showing.{side-plays}
+use Rattle.client_publish.proofs.Showing.{side-states}
 use Rattle.client_publish.proofs.publish_side.Statement.{statement}
 use Rattle.client_publish.proofs.publish_side.Tie as tie
 
@@ -16,17 +16,14 @@ publish-word-requires c κs = search needs
 put-requires : tie.Need-put-requires
 put-requires c κs = search needs
 
-with-state-requires : tie.Need-with-state-requires
-with-state-requires c κs = search needs
-
 same-length : tie.Need-same-length
 same-length c = search needs
 
 returns : tie.Need-returns
 returns c =
-    let p = c .before .before .before in
+    let p = c .before .before in
     let s = p .before .before .before in
-    side-plays _ _ (s .before .get-side .ensures) (s .stamp-of .ensures) (p .before .publish-word .ensures) (p .put .ensures) (c .with-state .ensures)
+    side-states _ _ (s .before .get-side .ensures) (s .stamp-of .ensures) (p .before .publish-word .ensures) (p .put .ensures)
 
 pub publish-side-spec : {M : Type 1} → statement M
 publish-side-spec =
@@ -36,6 +33,5 @@ publish-side-spec =
     stamp-of-requires
     publish-word-requires
     put-requires
-    with-state-requires
     same-length
     returns)
