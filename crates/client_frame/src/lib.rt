@@ -4,7 +4,7 @@ ghost use Prim.Native.Nat.{_<_, _≤_};
 ghost use Rattle.client.specs.Sides.{Plays, oldStampOf, applies};
 ghost use Rattle.client_publish.specs.Inner.{States};
 ghost use Rattle.client_frame.specs.Frame.{loadsOf, readiedWith, loadedOf, clamped, blendedOn, resetNew, openedOf, steppedSide, caughtUpOf, caughtOf, simulatedOf, blendedBy, publishedBy, isObsolete, tooFarOf, stopsOf, shownOf, frameOf, frameStops, Frames};
-ghost use Rattle.client_frame.specs.Inner.{putBack};
+ghost use Rattle.client_frame.specs.Inner.{putBack, waitsOf};
 use client::ClientWorldSimulations;
 use client::FastforwardingHealth;
 use client::Framed;
@@ -276,8 +276,24 @@ pub fn put_back(s: Scene, side: u32, world: Simulation, l: Ledger, steps: u32) -
     }
 }
 
+// Whether a buffer stays as it is at a step to a stamp: nothing is due, and nothing leaves the range.
+pub fn waits(b: CommandBuffer, t: Timestamp) -> bool
+    ensures { λ r. ⌜ r ≡ waitsOf b t ⌝ }
+{
+    let n = b.len;
+    if n == 0 {
+        return true;
+    }
+    let d = command::drain_up_to(b, t);
+    if d.count != 0 {
+        return false;
+    }
+    let m = command::update_timestamp(b, t);
+    m.dropped == 0
+}
+
 // The new world steps until it has reached the old one's stamp, m times at most. It steps by itself and is put back at the end, so that a
-// step copies one world and not both.
+// step copies one world and not both. Where its buffer waits only its stamp moves, in place, so that such a step copies no world.
 pub fn catch_up(s: Scene, m: u32, tape: &mut [u32], at: usize) -> Shown
     requires { ⌜ (at < 2500000000) × (m ≤ 64) ⌝ }
     ensures { λ r. ⌜ Plays (caughtOf m (oldStampOf (s .worlds)) s) (now (tape .entry)) at r (now (tape .exit)) ⌝ }
@@ -290,19 +306,29 @@ pub fn catch_up(s: Scene, m: u32, tape: &mut [u32], at: usize) -> Shown
     let mut p = at;
     let mut k: u32 = 0;
     while k < m {
-        if has_caught_up(sides::stamp_of(t), old) {
+        let stamp = sides::stamp_of(t);
+        if has_caught_up(stamp, old) {
             return Shown {
                 scene: put_back(s, side, t, l, steps),
                 at: p,
             };
         }
-        let r = simulation::step(t, side, tape, p);
-        let u = r.world;
-        t = u;
-        l = count(l, r.applied, r.leftout);
         steps = std::num::wrapping_add_u32(steps, 1);
-        p = r.at;
         k += 1;
+        let next = stamp.add(1);
+        if waits(t.commands, next) {
+            let mut b = t.commands;
+            b.timestamp = next;
+            t.commands = b;
+            l = count(l, 0, 0);
+            p = tape::put(tape, p, tape::step_word(side));
+        } else {
+            let r = simulation::step(t, side, tape, p);
+            let u = r.world;
+            t = u;
+            l = count(l, r.applied, r.leftout);
+            p = r.at;
+        }
     }
     Shown {
         scene: put_back(s, side, t, l, steps),

@@ -5,6 +5,7 @@ use Prim.Native.Nat.{_-_}
 use Rattle.command.proofs.Lists.{mapped-length}
 use Rattle.client_frame.proofs.Bounds.{Few, few-slots}
 use Rattle.client_frame.proofs.Catching.{Apart, apart-start, apart-again, apart-up, apart-end, caught-as}
+use Rattle.client_frame.proofs.Waiting.{waits-does}
 use Rattle.client_frame.proofs.catch_up.Statement.{statement}
 use Rattle.client_frame.proofs.catch_up.Tie as tie
 
@@ -61,34 +62,73 @@ returns c =
     caught-as _ _ (n .before .last-completed-timestamp .ensures)
     (apart-up (l .loop .inv) (n .new-side .ensures) (t .stamp-of .ensures) (h .has-caught-up .ensures) (f .if1 .taken) (c .put-back .ensures))
 
-step-requires : tie.Need-step-requires Inv-loop μ-loop
-step-requires c κs = omega (arith, c .before .before .before .before .before .loop .inv .whole .at)
-
-count-requires : tie.Need-count-requires Inv-loop μ-loop
-count-requires c κs = search needs
-
 wrapping-add-u32-requires : tie.Need-wrapping-add-u32-requires Inv-loop μ-loop
 wrapping-add-u32-requires c κs = search needs
 
 add-k : tie.Need-add-k Inv-loop μ-loop
 add-k c =
-    let l = c .before .before .before .before .before .before .before .before .before .before in
+    let l = c .before .before .before .before in
     omega (arith, l .loop-test .taken, l .before .before .before .before .before .before .before .pre .1)
 
-loop-less : tie.Need-loop-less Inv-loop μ-loop
-loop-less c = omega (arith, c .before .before .before .before .before .before .before .before .before .before .loop-test .taken)
+add-requires : tie.Need-add-requires Inv-loop μ-loop
+add-requires c κs = search needs
 
+waits-requires : tie.Need-waits-requires Inv-loop μ-loop
+waits-requires c κs = search needs
+
+count-requires : tie.Need-count-requires Inv-loop μ-loop
+count-requires c κs = search needs
+
+step-word-requires : tie.Need-step-word-requires Inv-loop μ-loop
+step-word-requires c κs = search needs
+
+put-requires : tie.Need-put-requires Inv-loop μ-loop
+put-requires c κs =
+    let l = c .before .before .before .before .before .before .before .before .before .before .before in
+    omega (arith, l .before .loop .inv .whole .at, l .loop-test .taken, l .before .before .before .before .before .before .before .pre .0, l .before .before .before .before .before .before .before .pre .1)
+
+loop-less : tie.Need-loop-less Inv-loop μ-loop
+loop-less c = omega (arith, c .before .before .before .before .before .before .before .before .before .before .before .before .before .before .loop-test .taken)
+
+-- only the stamp has moved
 loop-again : tie.Need-loop-again Inv-loop μ-loop
 loop-again c =
-    let k = c .before in
-    let r = k .before .before .before .before in
-    let f = r .before .before in
+    let u = c .before .before in
+    let w = u .before in
+    let k = w .before .before in
+    let z = k .before .before in
+    let a = z .before .before in
+    let f = a .before .before in
     let h = f .before in
     let t = h .before in
     let l = t .before .before in
-    let n = l .before .before .before in
-    apart-again (l .loop .inv) (omega (arith, t .before .loop-test .taken)) (n .new-side .ensures) (t .stamp-of .ensures) (h .has-caught-up .ensures) (f .if1 .left)
-    (r .step .ensures) (k .count .ensures) (c .wrapping-add-u32 .ensures)
+    apart-again (l .loop .inv) (omega (arith, t .before .loop-test .taken)) (l .before .before .before .new-side .ensures) (t .stamp-of .ensures) (h .has-caught-up .ensures) (f .if1 .left)
+    (waits-does _ _ (t .stamp-of .ensures) (a .add .ensures) (z .before .waits .ensures) (z .if2 .taken) (w .step-word .ensures) (u .put .ensures))
+    (k .count .ensures)
+    (a .before .wrapping-add-u32 .ensures)
+
+step-requires : tie.Need-step-requires Inv-loop μ-loop
+step-requires c κs =
+    let l = c .before .before .before .before .before .before .before .before in
+    omega (arith, l .before .loop .inv .whole .at, l .loop-test .taken, l .before .before .before .before .before .before .before .pre .0, l .before .before .before .before .before .before .before .pre .1)
+
+count-requires-2 : tie.Need-count-requires-2 Inv-loop μ-loop
+count-requires-2 c κs = search needs
+
+loop-less-2 : tie.Need-loop-less-2 Inv-loop μ-loop
+loop-less-2 c = omega (arith, c .before .before .before .before .before .before .before .before .before .before .before .before .before .loop-test .taken)
+
+-- the world has stepped
+loop-again-2 : tie.Need-loop-again-2 Inv-loop μ-loop
+loop-again-2 c =
+    let r = c .before .before .before .before in
+    let a = r .before .before .before .before in
+    let f = a .before .before in
+    let h = f .before in
+    let t = h .before in
+    let l = t .before .before in
+    apart-again (l .loop .inv) (omega (arith, t .before .loop-test .taken)) (l .before .before .before .new-side .ensures) (t .stamp-of .ensures) (h .has-caught-up .ensures) (f .if1 .left)
+    (r .step .ensures) (c .count2 .ensures) (a .before .wrapping-add-u32 .ensures)
 
 put-back-requires-2 : tie.Need-put-back-requires-2 Inv-loop μ-loop
 put-back-requires-2 c κs = search needs
@@ -118,12 +158,19 @@ catch-up-spec =
     put-back-requires
     same-length
     returns
-    step-requires
-    count-requires
     wrapping-add-u32-requires
     add-k
+    add-requires
+    waits-requires
+    count-requires
+    step-word-requires
+    put-requires
     loop-less
     loop-again
+    step-requires
+    count-requires-2
+    loop-less-2
+    loop-again-2
     put-back-requires-2
     same-length-2
     returns-2)
