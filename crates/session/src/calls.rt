@@ -6,7 +6,7 @@ ghost use Rattle.clocksync.specs.Clock.{serverSecondsOf};
 ghost use Rattle.fixed_timestepper.specs.TimeKeeper.{Advances};
 ghost use Rattle.session_state.specs.declared.Stage.the-variants.{Ready};
 ghost use Rattle.session.specs.Issue.{unissued, issuedBy, issuedOf, issueOf};
-ghost use Rattle.session.specs.Inner.{refusedAtEnd, refusedAfter, acceptedBy, concludedBy, unendedWith};
+ghost use Rattle.session.specs.Inner.{refusedAtEnd, refusedAfter, acceptedBy, unendedWith};
 ghost use Rattle.session.specs.Calls.{openOf, timesOk, refusedAtOnce, refusedWith, syncedOf, clockUpdateOf, sceneOf, closedOf, stageAfter, serverTimeBy, updateOf, Updates, unreported, reportedOf, reportOf};
 use super::IssueAnswer;
 use super::OpenAnswer;
@@ -257,26 +257,6 @@ pub fn accept(
     }
 }
 
-// What an update comes to once its frames have ended.
-pub fn conclude(
-    session: Session,
-    clock: Clock,
-    request: bool,
-    a: Advanced,
-    tape: &mut [u32],
-) -> UpdateAnswer
-    ensures { λ r. ⌜ Updates (concludedBy session clock request a (now (tape .entry))) r (now (tape .exit)) ⌝ }
-{
-    let settings = session.settings;
-    let stop = a.stop;
-    let weight = client_skip::tween_weight(a.overshoot, settings.timestep);
-    let n = refused_after(stop, weight, a.at, tape.len());
-    if n != 0 {
-        return refuse(n, session, tape);
-    }
-    accept(session, clock, request, a, tape)
-}
-
 // The frames of an update and its skip, after its commands: its snapshots are received, and the worlds are played by the server's time
 // with the lag.
 pub fn play(
@@ -310,7 +290,8 @@ pub fn server_time(clock: Clock, seconds: f64) -> f64
 }
 
 // One update: time moves on by delta seconds to `seconds`, the inbox is read, and the words of what happens are put on the tape. While the
-// clock syncs there are no worlds; with worlds it is 22, 23, and then the frames.
+// clock syncs there are no worlds; with worlds it is 22, 23, the frames, and 25 to 28. It is one function, since each that gives an answer
+// on would copy the session once more.
 pub fn update(
     session: Session,
     delta: f64,
@@ -348,7 +329,13 @@ pub fn update(
     let ticked = t.clock;
     let settled = ticked.settle(settings, h);
     let a = play(session, r, settled, delta, seconds, inbox, tape);
-    conclude(session, settled, t.request, a, tape)
+    let stop = a.stop;
+    let weight = client_skip::tween_weight(a.overshoot, settings.timestep);
+    let k = refused_after(stop, weight, a.at, tape.len());
+    if k != 0 {
+        return refuse(k, session, tape);
+    }
+    accept(session, settled, t.request, a, tape)
 }
 
 // A refused issue: the session unchanged, everything else 0.

@@ -14,7 +14,7 @@ use Rattle.session_state.specs.declared.Stage.the-variants.{SyncingClock, Synci
 use Rattle.session.specs.declared.UpdateAnswer.{UpdateAnswer}
 use Rattle.session.specs.Calls.{refusedAtOnce, updateBy, worldsUpdateOf, updateOf, Updates}
 use Rattle.session_state.proofs.Stage as Stages
-use Rattle.session.proofs.Answering.{not-refused-few, updates-as, worlds-other, worlds-full, worlds-played, update-refused, update-by}
+use Rattle.session.proofs.Answering.{not-refused-few, updates-as, worlds-other, worlds-full, worlds-played, conclude-refused, conclude-accepted, update-refused, update-by}
 use Rattle.session.proofs.calls.update.Statement.{statement}
 use Rattle.session.proofs.calls.update.Tie as tie
 
@@ -110,23 +110,49 @@ play-requires c κs =
     let e = c .before .before .before .before .before .before .before .before .before .before .before .before .before in
     not-refused-few _ _ _ _ (e .before .refused-at-once .ensures) (e .if1 .left)
 
-conclude-requires : tie.Need-conclude-requires
-conclude-requires c κs = search needs
+tween-weight-requires : tie.Need-tween-weight-requires
+tween-weight-requires c κs = search needs
+
+refused-after-requires : tie.Need-refused-after-requires
+refused-after-requires c κs = search needs
+
+refuse-requires-4 : tie.Need-refuse-requires-4
+refuse-requires-4 c κs = search needs
 
 same-length-5 : tie.Need-same-length-5
 same-length-5 c = search needs
 
 returns-5 : tie.Need-returns-5
 returns-5 c =
-    let k = c .before .before in
-    let p = k .before .before .before .before in
+    let n = c .before .before .before .before .before in
+    let p = n .before .before .before .before in
     let t = p .before .before in
     let j = t .before .before .before in
     let i = j .before .before .before in
     let m = i .before .before .before .before .before in
     let e = m .before in
     update-with-worlds _ _ _ _ _ (e .before .refused-at-once .ensures) (e .if1 .left) (m .match .keys2)
-    (worlds-played _ _ _ _ _ (i .before .before .listen .ensures) (i .before .hear-all .ensures) (i .if2 .left) (j .before .before .scene-of .ensures) (j .before .receive-commands .ensures) (j .if3 .left) (t .before .before .tick .ensures) (t .settle .ensures) (p .play .ensures) (k .conclude .ensures))
+    (worlds-played _ _ _ _ _ (i .before .before .listen .ensures) (i .before .hear-all .ensures) (i .if2 .left) (j .before .before .scene-of .ensures) (j .before .receive-commands .ensures) (j .if3 .left) (t .before .before .tick .ensures) (t .settle .ensures) (p .play .ensures)
+    (conclude-refused _ _ _ _ _ (n .before .tween-weight .ensures) (n .refused-after .ensures) (c .before .before .before .before .if4 .taken) (c .before .before .refuse4 .ensures)))
+
+accept-requires : tie.Need-accept-requires
+accept-requires c κs = search needs
+
+same-length-6 : tie.Need-same-length-6
+same-length-6 c = search needs
+
+returns-6 : tie.Need-returns-6
+returns-6 c =
+    let n = c .before .before .before .before .before in
+    let p = n .before .before .before .before in
+    let t = p .before .before in
+    let j = t .before .before .before in
+    let i = j .before .before .before in
+    let m = i .before .before .before .before .before in
+    let e = m .before in
+    update-with-worlds _ _ _ _ _ (e .before .refused-at-once .ensures) (e .if1 .left) (m .match .keys2)
+    (worlds-played _ _ _ _ _ (i .before .before .listen .ensures) (i .before .hear-all .ensures) (i .if2 .left) (j .before .before .scene-of .ensures) (j .before .receive-commands .ensures) (j .if3 .left) (t .before .before .tick .ensures) (t .settle .ensures) (p .play .ensures)
+    (conclude-accepted _ _ _ _ _ (n .before .tween-weight .ensures) (n .refused-after .ensures) (c .before .before .before .before .if4 .left) (c .before .before .accept .ensures)))
 
 pub update-spec : {M : Type 1} → statement M
 update-spec =
@@ -153,6 +179,11 @@ update-spec =
     tick-requires
     settle-requires
     play-requires
-    conclude-requires
+    tween-weight-requires
+    refused-after-requires
+    refuse-requires-4
     same-length-5
-    returns-5)
+    returns-5
+    accept-requires
+    same-length-6
+    returns-6)
