@@ -37,12 +37,12 @@ catching-start m o from was place few =
     record { bound = omega arith; few = few; at = omega arith; len = refl; rest = λ r last h. plays-as (ap (λ (n : ℕ). caughtOf n o from) e) h }
 
 -- where the new world has not caught up, a step and the rest are one more turn
-turn : (n : ℕ) (o : Timestamp) (s : Scene) → caughtUpOf (newStampOf (s .worlds)) o ≡ false → andThen (steppedNew s) (caughtOf n o) ≡ caughtOf (suc n) o s
+pub turn : (n : ℕ) (o : Timestamp) (s : Scene) → caughtUpOf (newStampOf (s .worlds)) o ≡ false → andThen (steppedNew s) (caughtOf n o) ≡ caughtOf (suc n) o s
 unfolding caughtOf
 turn n o s e = rw e refl
 
 -- where it has, nothing is left
-stop : (n : ℕ) (o : Timestamp) (s : Scene) → caughtUpOf (newStampOf (s .worlds)) o ≡ true → still s ≡ caughtOf n o s
+pub stop : (n : ℕ) (o : Timestamp) (s : Scene) → caughtUpOf (newStampOf (s .worlds)) o ≡ true → still s ≡ caughtOf n o s
 unfolding caughtOf
 stop zero o s e = refl
 stop (suc n) o s e = rw e refl

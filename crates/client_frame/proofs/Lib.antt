@@ -2,3 +2,4 @@ pub mod Bounds
 pub mod Framing
 pub mod Waiting
 pub mod Catching
+pub mod Levelling

@@ -2,7 +2,7 @@
 use mathlib.Core.Path.{_≡_, refl, ap, sym, _∙_}
 use mathlib.Core.Bool.{Bool, true, false, _&&_}
 use mathlib.Core.List.{List, [], _∷_, _++_}
-use Prim.Native.Nat.{ℕ, _≤_}
+use Prim.Native.Nat.{ℕ}
 use native.Mathlib.Omega.{arith}
 use lib.Dec.{eqb}
 use lib.ListN.{length}
@@ -16,11 +16,10 @@ use Rattle.command.specs.declared.Entry.{Entry}
 use Rattle.command.specs.declared.CommandBuffer.{CommandBuffer}
 use Rattle.command.specs.declared.Drained.{Drained}
 use Rattle.command.specs.declared.Moved.{Moved}
-use Rattle.command.specs.Buffer.{held, around, movedOf, takenOf, restOf, drainedOf, commandWords}
+use Rattle.command.specs.Buffer.{around, movedOf, takenOf, restOf, drainedOf, commandWords}
 use Rattle.command.proofs.Holding.{held-len}
 use Rattle.command.proofs.Ledger.{moved-ledger, moved-lossless, taken-short, drained-lossless}
 use Rattle.simulation.specs.declared.Simulation.{Simulation}
-use Rattle.simulation.specs.declared.Stepped.{Stepped}
 use Rattle.simulation.specs.World.{worldWith, nextStamp, Done, Does, stepOf}
 use Rattle.client_frame.specs.Inner.{waitsOf}
 
@@ -52,7 +51,7 @@ module _ (b : CommandBuffer) (t : Timestamp) where
 -- ---- the step
 
 -- both of two tests
-both : (a b : Bool) → a && b ≡ true → (a ≡ true) × (b ≡ true)
+pub both : (a b : Bool) → a && b ≡ true → (a ≡ true) × (b ≡ true)
 both true b h = (refl, h)
 both false b h = let z : _≡_ {A = ℕ} 0 1 = cc in absurd (omega arith)
 

@@ -1,10 +1,12 @@
 // One frame (`step` of src/client.rs of crystalorb): what its status opens it with, a step of the old world, the catching up of the new one, and what is published.
 ghost use mathlib.Core.Path.{_≡_};
+ghost use mathlib.Core.Bool.{true};
 ghost use Prim.Native.Nat.{_<_, _≤_};
 ghost use Rattle.client.specs.Sides.{Plays, oldStampOf, applies};
+ghost use Rattle.tape.specs.Tape.{Puts};
 ghost use Rattle.client_publish.specs.Inner.{States};
 ghost use Rattle.client_frame.specs.Frame.{loadsOf, readiedWith, loadedOf, clamped, blendedOn, resetNew, openedOf, steppedSide, caughtUpOf, caughtOf, simulatedOf, blendedBy, publishedBy, isObsolete, tooFarOf, stopsOf, shownOf, frameOf, frameStops, Frames};
-ghost use Rattle.client_frame.specs.Inner.{putBack, waitsOf};
+ghost use Rattle.client_frame.specs.Inner.{putBack, waitsOf, loadsNothing, isLevel, levelWeight, levelWords};
 use client::ClientWorldSimulations;
 use client::FastforwardingHealth;
 use client::Framed;
@@ -474,5 +476,101 @@ pub fn step(s: Scene, m: u32, progress: f64, tape: &mut [u32], at: usize) -> Fra
         scene: after,
         at: b.at,
         stops: stops(t, q, w, e),
+    }
+}
+
+// Whether a frame of worlds with equal stamps loads nothing: it blends, or nothing is queued.
+pub fn loads_nothing(w: ClientWorldSimulations) -> bool
+    ensures { λ r. ⌜ r ≡ loadsNothing w ⌝ }
+{
+    if w.weight < 1.0 {
+        return true;
+    }
+    let s = w.snapshots;
+    let q = s.queued;
+    match q {
+        Queued::Nothing => true,
+        Queued::Held {
+            stamp: _,
+            handle: _,
+        } => false,
+    }
+}
+
+// Whether a frame with m catch-up steps at most is level: both worlds have one stamp, nothing loads, and both buffers wait, so that each
+// world makes one step that moves its stamp only.
+pub fn is_level(w: ClientWorldSimulations, m: u32) -> bool
+    ensures { λ r. ⌜ r ≡ isLevel w m ⌝ }
+{
+    if m == 0 {
+        return false;
+    }
+    let left = w.left;
+    let right = w.right;
+    let a = sides::stamp_of(left);
+    let b = sides::stamp_of(right);
+    if a.0 != b.0 {
+        return false;
+    }
+    if !loads_nothing(w) {
+        return false;
+    }
+    if !waits(left.commands, a.add(1)) {
+        return false;
+    }
+    waits(right.commands, b.add(1))
+}
+
+// The weight after a level frame: it moves on where the frame blends.
+pub fn level_weight(weight: f64, progress: f64) -> f64
+    ensures { λ r. ⌜ r ≡ levelWeight weight progress ⌝ }
+{
+    if weight < 1.0 {
+        return clamp(weight + progress);
+    }
+    weight
+}
+
+// The words of a level frame's steps: the old world's, then the new one's.
+pub fn put_steps(w: ClientWorldSimulations, tape: &mut [u32], at: usize) -> usize
+    requires { ⌜ at < 2000000000 ⌝ }
+    ensures { λ r. ⌜ Puts (now (tape .entry)) at (levelWords w) r (now (tape .exit)) ⌝ }
+{
+    let p = tape::put(tape, at, tape::step_word(sides::old_side(w)));
+    tape::put(tape, p, tape::step_word(sides::new_side(w)))
+}
+
+// A level frame: both stamps move on by one, and the worlds are published by the weight. The scene is changed in place, so that no buffer
+// is built anew.
+pub fn level_frame(s: Scene, m: u32, progress: f64, tape: &mut [u32], at: usize) -> Shown
+    requires { ⌜ (at < 2000000000) × (isLevel (s .worlds) m ≡ true) ⌝ }
+    ensures { λ r. ⌜ Plays (frameOf m progress s) (now (tape .entry)) at r (now (tape .exit)) ⌝ }
+{
+    let w = s.worlds;
+    let p = put_steps(w, tape, at);
+    let mut left = w.left;
+    let mut right = w.right;
+    let mut a = left.commands;
+    let mut b = right.commands;
+    let next = a.timestamp.add(1);
+    a.timestamp = next;
+    b.timestamp = next;
+    left.commands = a;
+    right.commands = b;
+    let mut v = w;
+    v.left = left;
+    v.right = right;
+    v.weight = level_weight(w.weight, progress);
+    let mut e = s;
+    e.worlds = v;
+    e.left = count(s.left, 0, 0);
+    e.right = count(s.right, 0, 0);
+    let steps = s.steps;
+    e.steps = std::num::wrapping_add_u32(steps, 1);
+    let r = client_publish::publish_blended_state(e, tape, p);
+    let state = r.state;
+    Shown {
+        scene: client_publish::with_state(e, state),
+        at: r.at,
     }
 }

@@ -1,0 +1,379 @@
+-- A level frame: both worlds make one step that moves their stamps only. Assumes nothing.
+use mathlib.Core.Path.{_≡_, refl, ap, sym, _∙_}
+use mathlib.Core.Bool.{Bool, true, false, cond, not, _&&_}
+use mathlib.Core.List.{List, [], _∷_}
+use Prim.Native.Nat.{ℕ, zero, suc, _+_, _%_, _^_}
+use native.Mathlib.Omega.{arith}
+use lib.Dec.{eqb}
+use lib.Ieee.{Float, binary64, add}
+use borrow.Author.Tests.{eq-eqb, ne-eqb, eqb-true, eqb-false, not-true}
+use Rattle.timestamp.specs.declared.Timestamp.{Timestamp}
+use Rattle.timestamp.specs.declared.Ordering.{Ordering}
+use Rattle.timestamp.specs.declared.Ordering.the-variants.{Less, Equal}
+use Rattle.timestamp.specs.Timestamps.{sumOf, differenceOf, signedOf, signOf, orderOf}
+use Rattle.tape.specs.Tape.{Puts}
+use Rattle.tape.specs.Words.{stepWord}
+use Rattle.tape.proofs.Writing.{puts-then, puts-as}
+use Rattle.command.specs.Buffer.{around}
+use Rattle.simulation.specs.declared.Simulation.{Simulation}
+use Rattle.simulation.specs.World.{worldWith, nextStamp, isLess}
+use Rattle.client.specs.declared.ReconciliationStatus.the-variants.{AwaitingSnapshot, Blending}
+use Rattle.client.specs.declared.Queued.{Queued}
+use Rattle.client.specs.declared.Queued.the-variants.{Nothing, Held}
+use Rattle.client.specs.declared.ClientWorldSimulations.{ClientWorldSimulations}
+use Rattle.client.specs.declared.Ledger.{Ledger}
+use Rattle.client.specs.declared.Scene.{Scene}
+use Rattle.client.specs.Sides.{newSideOf, oldSideOf, worldOf, withWorld, withWeight, withWorlds, withLedger, ledgerOf, stampOf, oldStampOf, newStampOf, applies, putOf, Played, still, andThen, doneAt, Plays}
+use Rattle.client.specs.Status.{statusOf}
+use Rattle.client.proofs.Happening.{plays-as, plays-then}
+use Rattle.client_publish.specs.declared.Stated.{Stated}
+use Rattle.client_publish.specs.Publish.{withState, publishedBlended}
+use Rattle.client_publish.specs.Inner.{States}
+use Rattle.client_frame.specs.Frame.{loadsOf, loadedQueued, clamped, blendedOn, openedOf, steppedSide, caughtUpOf, withStep, steppedNew, caughtOf, simulatedOf, blendedBy, shownOf, stopsOf, snapshotOf, openOf, frameOf, frameStops}
+use Rattle.client_frame.specs.Inner.{waitsOf, worldWaits, isNothing, isBlending, loadsNothing, isLevel, levelWeight, levelWords}
+use Rattle.client_frame.proofs.Framing.{stated-plays}
+use Rattle.client_frame.proofs.Waiting.{both, movedOn, step-waits}
+use Rattle.client_frame.proofs.Catching.{turn, stop}
+
+-- ---- the tests
+
+-- blending, nothing loads
+pub loads-blending : (w : ClientWorldSimulations) → isBlending (w .weight) ≡ true → true ≡ loadsNothing w
+unfolding loadsNothing
+loads-blending w h = rw h refl
+
+-- else what is queued decides
+pub loads-queued : (w : ClientWorldSimulations) {q : Queued} → isBlending (w .weight) ≡ false → w .snapshots .queued ≡ q → isNothing q ≡ loadsNothing w
+unfolding loadsNothing
+loads-queued w h e = rw (h, e) refl
+
+-- the parts of the test of a level frame
+pub record Level (w : ClientWorldSimulations) (m : ℕ) : Type 0 where
+  pub some : m ≡ 0 → ⊥
+  pub stamps : stampOf (w .left) .0 ≡ stampOf (w .right) .0
+  pub loads : loadsNothing w ≡ true
+  pub left : worldWaits (w .left) ≡ true
+  pub right : worldWaits (w .right) ≡ true
+
+pub level-parts : (w : ClientWorldSimulations) (m : ℕ) → isLevel w m ≡ true → Level w m
+unfolding isLevel
+level-parts w m h =
+    let a = both (not (eqb m 0)) _ h in
+    let b = both (eqb (stampOf (w .left) .0) (stampOf (w .right) .0)) _ (a .1) in
+    let c = both (loadsNothing w) _ (b .1) in
+    let d = both (worldWaits (w .left)) _ (c .1) in
+    record {
+      some = eqb-false _ _ (not-true _ (a .0));
+      stamps = eqb-true _ _ (b .0);
+      loads = c .0;
+      left = d .0;
+      right = d .1;
+    }
+
+-- the test by its parts
+level-is : (w : ClientWorldSimulations) (m : ℕ) {z e l x y : Bool}
+    → eqb m 0 ≡ z → eqb (stampOf (w .left) .0) (stampOf (w .right) .0) ≡ e → loadsNothing w ≡ l → worldWaits (w .left) ≡ x → worldWaits (w .right) ≡ y
+    → not z && (e && (l && (x && y))) ≡ isLevel w m
+unfolding isLevel
+level-is w m hz he hl hx hy = sym (λ i. not (hz i) && (he i && (hl i && (hx i && hy i))))
+
+-- no catch-up step
+pub level-none : (w : ClientWorldSimulations) (m : ℕ) → m ≡ 0 → false ≡ isLevel w m
+level-none w m e = level-is w m (eq-eqb _ _ e) refl refl refl refl
+
+-- whether a buffer waits for the next stamp
+waits-next : (w : Simulation) {t n : Timestamp} {x : Bool} → t ≡ stampOf w → n .0 ≡ sumOf (t .0) 1 → x ≡ waitsOf (w .commands) n → worldWaits w ≡ x
+waits-next w ht hn hx = sym (hx ∙ (λ i. waitsOf (w .commands) (record { 0 = (hn ∙ ap (λ (t : Timestamp). sumOf (t .0) 1) ht) i })))
+
+module _ (w : ClientWorldSimulations) (m : ℕ) {a b : Timestamp} (some : m ≡ 0 → ⊥) (ha : a ≡ stampOf (w .left)) (hb : b ≡ stampOf (w .right)) where
+  -- the test of the stamps
+  stamps-are : {e : Bool} → eqb (a .0) (b .0) ≡ e → eqb (stampOf (w .left) .0) (stampOf (w .right) .0) ≡ e
+  stamps-are h = (λ i. eqb (sym ha i .0) (sym hb i .0)) ∙ h
+
+  -- the stamps differ
+  pub level-apart : (a .0 ≡ b .0 → ⊥) → false ≡ isLevel w m
+  level-apart e = level-is w m (ne-eqb _ _ some) (stamps-are (ne-eqb _ _ e)) refl refl refl
+
+  -- the stamps are equal
+  module _ {l : Bool} (e : a .0 ≡ b .0) (hl : l ≡ loadsNothing w) where
+    -- something loads
+    pub level-loads : l ≡ false → false ≡ isLevel w m
+    level-loads f = level-is w m (ne-eqb _ _ some) (stamps-are (eq-eqb _ _ e)) (sym hl ∙ f) refl refl
+
+    -- nothing loads
+    module _ {n : Timestamp} {x : Bool} (hn : n .0 ≡ sumOf (a .0) 1) (f : l ≡ true) (hx : x ≡ waitsOf (w .left .commands) n) where
+      -- the left buffer does not wait
+      pub level-left : x ≡ false → false ≡ isLevel w m
+      level-left g = level-is w m (ne-eqb _ _ some) (stamps-are (eq-eqb _ _ e)) (sym hl ∙ f) (waits-next (w .left) ha hn hx ∙ g) refl
+
+      -- it does, and the right one decides
+      pub level-right : {k : Timestamp} {y : Bool} → x ≡ true → k .0 ≡ sumOf (b .0) 1 → y ≡ waitsOf (w .right .commands) k → y ≡ isLevel w m
+      level-right g hk hy = level-is w m (ne-eqb _ _ some) (stamps-are (eq-eqb _ _ e)) (sym hl ∙ f) (waits-next (w .left) ha hn hx ∙ g) (waits-next (w .right) hb hk hy)
+
+-- ---- the weight and the words
+
+-- a weight that blends moves on
+pub weight-on : (t progress : Float) {r : Float} → isBlending t ≡ true → r ≡ clamped (add binary64 t progress) → r ≡ levelWeight t progress
+unfolding levelWeight
+weight-on t progress h hr = rw h hr
+
+-- any other stays
+pub weight-kept : (t progress : Float) → isBlending t ≡ false → t ≡ levelWeight t progress
+unfolding levelWeight
+weight-kept t progress h = rw h refl
+
+-- the words of the two steps
+pub steps-put : (w : ClientWorldSimulations) {o n x y p q at : ℕ} {was mid last : List ℕ}
+    → o ≡ oldSideOf w → x ≡ stepWord o → Puts was at (x ∷ []) p mid → n ≡ newSideOf w → y ≡ stepWord n → Puts mid p (y ∷ []) q last → Puts was at (levelWords w) q last
+unfolding levelWords
+steps-put w ho hx hp hn hy hq = puts-as (λ i. (hx ∙ ap stepWord ho) i ∷ (hy ∙ ap stepWord hn) i ∷ []) (puts-then hp hq)
+
+-- ---- both worlds step
+
+-- a stamp is behind the next one
+stamp-behind : (t : ℕ) → orderOf t (sumOf t 1) ≡ Less
+unfolding orderOf signedOf
+stamp-behind t =
+    let e : differenceOf t (sumOf t 1) ≡ 65535 = omega arith in
+    ap (λ (d : ℕ). signOf (signedOf d)) e
+
+-- and level with itself
+stamp-level : (t : ℕ) → orderOf (sumOf t 1) (sumOf t 1) ≡ Equal
+unfolding orderOf signedOf
+stamp-level t =
+    let e : differenceOf (sumOf t 1) (sumOf t 1) ≡ 0 = omega arith in
+    ap (λ (d : ℕ). signOf (signedOf d)) e
+
+-- a world a step behind has not caught up
+one-behind : (n o t : Timestamp) → n .0 ≡ t .0 → o ≡ nextStamp t → caughtUpOf n o ≡ false
+unfolding caughtUpOf
+one-behind n o t hn ho =
+    let e : orderOf (n .0) (o .0) ≡ Less = (λ i. orderOf (hn i) (ho i .0)) ∙ stamp-behind (t .0) in
+    ap (λ (x : Ordering). cond (isLess x) false true) e
+
+-- and after its step it has
+none-behind : (n o t u : Timestamp) → n ≡ nextStamp t → o ≡ nextStamp u → t .0 ≡ u .0 → caughtUpOf n o ≡ true
+unfolding caughtUpOf
+none-behind n o t u hn ho e =
+    let eq : orderOf (n .0) (o .0) ≡ Equal = (λ i. orderOf (hn i .0) (ho i .0)) ∙ ap (λ (x : ℕ). orderOf (sumOf x 1) (sumOf (u .0) 1)) e ∙ stamp-level (u .0) in
+    ap (λ (x : Ordering). cond (isLess x) false true) eq
+
+-- the step of a side whose buffer waits
+waited-side : (s : Scene) (side : ℕ) → worldWaits (worldOf (s .worlds) side) ≡ true
+    → steppedSide s side ≡ record { scene = putOf s side (movedOn (worldOf (s .worlds) side)) 0 0; words = stepWord side ∷ [] }
+unfolding steppedSide doneAt
+waited-side s side h = ap (doneAt s side) (step-waits (worldOf (s .worlds) side) side h)
+
+-- the scene after the old world's step
+unfoldable midScene : Scene → Scene
+midScene s = putOf s (oldSideOf (s .worlds)) (movedOn (worldOf (s .worlds) (oldSideOf (s .worlds)))) 0 0
+
+-- the worlds with both stamps moved on
+abbrev movedBoth : ClientWorldSimulations → ClientWorldSimulations
+movedBoth w =
+    record { left = movedOn (w .left); right = movedOn (w .right); new = w .new; base = w .base; snapshots = w .snapshots; weight = w .weight; published = w .published }
+
+-- the scene after both worlds' steps
+abbrev levelled : Scene → Scene
+levelled s = record { worlds = movedBoth (s .worlds); left = applies (s .left) 0 0; right = applies (s .right) 0 0; steps = (s .steps + 1) % 2 ^ 32 }
+
+-- what the steps of a level frame leave of the sides
+record Sides (s : Scene) : Type 0 where
+  side : newSideOf (midScene s .worlds) ≡ newSideOf (s .worlds)
+  world : worldOf (midScene s .worlds) (newSideOf (s .worlds)) ≡ worldOf (s .worlds) (newSideOf (s .worlds))
+  new : newStampOf (midScene s .worlds) ≡ newStampOf (s .worlds)
+  old : oldStampOf (midScene s .worlds) ≡ nextStamp (oldStampOf (s .worlds))
+  last : newStampOf (levelled s .worlds) ≡ nextStamp (newStampOf (s .worlds))
+  scene : withStep (putOf (midScene s) (newSideOf (s .worlds)) (movedOn (worldOf (s .worlds) (newSideOf (s .worlds)))) 0 0) ≡ levelled s
+
+sides-by : (b : Bool) (s : Scene) → eqb (s .worlds .new) 0 ≡ b → Sides s
+unfolding midScene putOf newSideOf oldSideOf worldOf withWorld withLedger ledgerOf oldStampOf newStampOf
+sides-by true s e = record { side = simp e; world = simp e; new = simp e; old = simp e; last = simp e; scene = simp e }
+sides-by false s e = record { side = simp e; world = simp e; new = simp e; old = simp e; last = simp e; scene = simp e }
+
+-- a buffer of either side waits
+side-waits-by : (b : Bool) (w : ClientWorldSimulations) (side : ℕ) → eqb side 0 ≡ b → worldWaits (w .left) ≡ true → worldWaits (w .right) ≡ true → worldWaits (worldOf w side) ≡ true
+unfolding worldOf
+side-waits-by true w side e l r = rw e l
+side-waits-by false w side e l r = rw e r
+
+-- the stamps of old and new are those of left and right, or the other way round
+stamps-by : (b : Bool) (w : ClientWorldSimulations) → eqb (w .new) 0 ≡ b → stampOf (w .left) .0 ≡ stampOf (w .right) .0 → newStampOf w .0 ≡ oldStampOf w .0
+unfolding newStampOf oldStampOf worldOf newSideOf oldSideOf
+stamps-by true w e h = rw e h
+stamps-by false w e h = rw e (sym h)
+
+module _ (s : Scene) (equal : stampOf (s .worlds .left) .0 ≡ stampOf (s .worlds .right) .0) (left : worldWaits (s .worlds .left) ≡ true) (right : worldWaits (s .worlds .right) ≡ true) where
+  -- the sides of the two steps
+  sides : Sides s
+  sides = sides-by (eqb (s .worlds .new) 0) s refl
+
+  -- the stamps of the worlds
+  same : newStampOf (s .worlds) .0 ≡ oldStampOf (s .worlds) .0
+  same = stamps-by (eqb (s .worlds .new) 0) (s .worlds) refl equal
+
+  -- the world of either side waits
+  waiting : (side : ℕ) → worldWaits (worldOf (s .worlds) side) ≡ true
+  waiting side = side-waits-by (eqb side 0) (s .worlds) side refl left right
+
+  -- the old world's step
+  old-step : steppedSide s (oldSideOf (s .worlds)) ≡ record { scene = midScene s; words = stepWord (oldSideOf (s .worlds)) ∷ [] }
+  unfolding midScene
+  old-step = waited-side s (oldSideOf (s .worlds)) (waiting (oldSideOf (s .worlds)))
+
+  -- the new world's step
+  new-step : steppedNew (midScene s) ≡ record { scene = levelled s; words = stepWord (newSideOf (s .worlds)) ∷ [] }
+  unfolding steppedNew
+  new-step =
+      let k : ℕ = newSideOf (s .worlds) in
+      let m : Scene = midScene s in
+      let one : steppedSide m (newSideOf (m .worlds)) ≡ steppedSide m k = ap (steppedSide m) (sides .side) in
+      let two : steppedSide m k ≡ record { scene = putOf m k (movedOn (worldOf (m .worlds) k)) 0 0; words = stepWord k ∷ [] } =
+      waited-side m k (ap (λ (x : Simulation). worldWaits x) (sides .world) ∙ waiting k) in
+      let all : steppedSide m (newSideOf (m .worlds)) ≡ record { scene = putOf m k (movedOn (worldOf (s .worlds) k)) 0 0; words = stepWord k ∷ [] } =
+      one ∙ two ∙ (λ i. record { scene = putOf m k (movedOn (sides .world i)) 0 0; words = stepWord k ∷ [] }) in
+      (λ i. record { scene = withStep (all i .scene); words = all i .words }) ∙ (λ i. record { scene = sides .scene i; words = stepWord k ∷ [] })
+
+  -- the new world catches up with that one step
+  one-caught : (n : ℕ) → caughtOf (suc n) (oldStampOf (midScene s .worlds)) (midScene s) ≡ record { scene = levelled s; words = stepWord (newSideOf (s .worlds)) ∷ [] }
+  unfolding andThen
+  one-caught n =
+      let o : Timestamp = oldStampOf (midScene s .worlds) in
+      let new : newStampOf (midScene s .worlds) ≡ newStampOf (s .worlds) = sides .new in
+      let no : caughtUpOf (newStampOf (midScene s .worlds)) o ≡ false = one-behind _ o (oldStampOf (s .worlds)) (ap (λ (x : Timestamp). x .0) new ∙ same) (sides .old) in
+      let yes : caughtUpOf (newStampOf (levelled s .worlds)) o ≡ true = none-behind _ o (newStampOf (s .worlds)) (oldStampOf (s .worlds)) (sides .last) (sides .old) same in
+      sym (turn n o (midScene s) no) ∙ ap (λ (p : Played). andThen p (caughtOf n o)) new-step
+      ∙ (λ i. record { scene = sym (stop n o (levelled s) yes) i .scene; words = stepWord (newSideOf (s .worlds)) ∷ sym (stop n o (levelled s) yes) i .words })
+
+  -- both steps
+  both-step : (n : ℕ) → simulatedOf (suc n) s ≡ record { scene = levelled s; words = levelWords (s .worlds) }
+  unfolding simulatedOf andThen levelWords
+  both-step n =
+      ap (λ (p : Played). andThen p (λ (t : Scene). caughtOf (suc n) (oldStampOf (t .worlds)) t)) old-step
+      ∙ (λ i. record { scene = one-caught n i .scene; words = stepWord (oldSideOf (s .worlds)) ∷ one-caught n i .words })
+
+-- ---- the frame
+
+-- the scene with the weight of the frame
+abbrev reweighted : Float → Scene → Scene
+reweighted p s = withWorlds s (withWeight (s .worlds) (levelWeight (s .worlds .weight) p))
+
+-- the scene with a stamp of both worlds, a weight, ledgers and steps
+abbrev levelWith : Scene → Timestamp → Float → Ledger → Ledger → ℕ → Scene
+levelWith s n t l r k =
+    record {
+      worlds = record {
+        left = worldWith (around n (s .worlds .left .commands)) (s .worlds .left .init);
+        right = worldWith (around n (s .worlds .right .commands)) (s .worlds .right .init);
+        new = s .worlds .new;
+        base = s .worlds .base;
+        snapshots = s .worlds .snapshots;
+        weight = t;
+        published = s .worlds .published;
+      };
+      left = l;
+      right = r;
+      steps = k;
+    }
+
+-- what a level frame begins with: the weight moves on or not, it publishes by the weight, and it does not stop
+record Opens (p : Float) (s : Scene) : Type 0 where
+  begins : openOf p s ≡ still (reweighted p s)
+  blended : blendedBy (statusOf (s .worlds)) (snapshotOf s) ≡ true
+  goes : (e : ClientWorldSimulations) → stopsOf (statusOf (s .worlds)) (snapshotOf s) (s .worlds) e ≡ false
+
+-- a queue with nothing in it
+queue-empty : (q : Queued) → isNothing q ≡ true → q ≡ Nothing
+queue-empty Nothing h = refl
+queue-empty (Held t x) h = let z : _≡_ {A = ℕ} 0 1 = cc in absurd (omega arith)
+
+-- what is queued where the frame does not blend
+queue-none : (w : ClientWorldSimulations) → isBlending (w .weight) ≡ false → loadsNothing w ≡ true → w .snapshots .queued ≡ Nothing
+unfolding loadsNothing
+queue-none w b h = queue-empty (w .snapshots .queued) (ap (λ (x : Bool). cond x true (isNothing (w .snapshots .queued))) (sym b) ∙ h)
+
+-- equal stamps blend or await, by the weight
+status-level : (w : ClientWorldSimulations) (b : Bool) → newStampOf w .0 ≡ oldStampOf w .0 → isBlending (w .weight) ≡ b → statusOf w ≡ cond b (Blending (w .weight)) AwaitingSnapshot
+unfolding statusOf
+status-level w true e h = rw (eq-eqb _ _ e, h) refl
+status-level w false e h = rw (eq-eqb _ _ e, h) refl
+
+opens-by : (b : Bool) (p : Float) (s : Scene) → newStampOf (s .worlds) .0 ≡ oldStampOf (s .worlds) .0 → loadsNothing (s .worlds) ≡ true → isBlending (s .worlds .weight) ≡ b → Opens p s
+unfolding openOf openedOf blendedOn loadedQueued blendedBy stopsOf snapshotOf loadsOf
+opens-by true p s e l h =
+    let t : statusOf (s .worlds) ≡ Blending (s .worlds .weight) = status-level (s .worlds) true e h in
+    let on : clamped (add binary64 (s .worlds .weight) p) ≡ levelWeight (s .worlds .weight) p = weight-on (s .worlds .weight) p h refl in
+    record {
+      begins = (λ i. openedOf (t i) (snapshotOf s) p s) ∙ (λ i. still (withWorlds s (withWeight (s .worlds) (on i))));
+      blended = (λ i. blendedBy (t i) (snapshotOf s));
+      goes = λ x. (λ i. stopsOf (t i) (snapshotOf s) (s .worlds) x);
+    }
+opens-by false p s e l h =
+    let t : statusOf (s .worlds) ≡ AwaitingSnapshot = status-level (s .worlds) false e h in
+    let q : snapshotOf s ≡ Nothing = (λ i. loadsOf (t i) (s .worlds .snapshots .queued)) ∙ queue-none (s .worlds) h l in
+    record {
+      begins = (λ i. openedOf (t i) (q i) p s) ∙ (λ i. still (withWorlds s (withWeight (s .worlds) (weight-kept (s .worlds .weight) p h i))));
+      blended = (λ i. blendedBy (t i) (q i));
+      goes = λ x. (λ i. stopsOf (t i) (q i) (s .worlds) x);
+    }
+
+module _ (m : ℕ) (p : Float) (s : Scene) (level : isLevel (s .worlds) m ≡ true) where
+  -- its parts
+  parts : Level (s .worlds) m
+  parts = level-parts (s .worlds) m level
+
+  opens : Opens p s
+  opens =
+      let e : newStampOf (s .worlds) .0 ≡ oldStampOf (s .worlds) .0 = stamps-by (eqb (s .worlds .new) 0) (s .worlds) refl (parts .stamps) in
+      opens-by (isBlending (s .worlds .weight)) p s e (parts .loads) refl
+
+  -- the Rust does not stop in a level frame
+  pub level-stops : frameStops m p s ≡ false
+  unfolding frameStops
+  level-stops = opens .goes (frameOf m p s .scene .worlds)
+
+  -- the steps of a level frame
+  level-steps : (k : ℕ) → m ≡ k → simulatedOf k (reweighted p s) ≡ record { scene = levelled (reweighted p s); words = levelWords (s .worlds) }
+  unfolding levelWords newSideOf oldSideOf
+  level-steps zero e = absurd (parts .some e)
+  level-steps (suc n) e = both-step (reweighted p s) (parts .stamps) (parts .left) (parts .right) n
+
+  -- a level frame: both stamps move on, and the worlds are published by the weight
+  level-frame : andThen (record { scene = levelled (reweighted p s); words = levelWords (s .worlds) }) publishedBlended ≡ frameOf m p s
+  unfolding frameOf shownOf andThen
+  level-frame =
+      sym
+      ((λ i. andThen (opens .begins i) (shownOf m (opens .blended i)))
+      ∙ (λ i. andThen (level-steps m refl i) publishedBlended))
+
+  -- the scene of a level frame as the code builds it: the stamp n, the weight t, the ledgers l and r, and the steps k
+  level-scene : {n : Timestamp} {t : Float} {l r : Ledger} {k : ℕ}
+      → n .0 ≡ sumOf (stampOf (s .worlds .left) .0) 1 → t ≡ levelWeight (s .worlds .weight) p → l ≡ applies (s .left) 0 0 → r ≡ applies (s .right) 0 0 → k ≡ (s .steps + 1) % 2 ^ 32
+      → levelWith s n t l r k ≡ levelled (reweighted p s)
+  level-scene {n} hn ht hl hr hk =
+      let right : n .0 ≡ sumOf (stampOf (s .worlds .right) .0) 1 = hn ∙ ap (λ (x : ℕ). sumOf x 1) (parts .stamps) in
+      (λ i. record {
+        worlds = record {
+          left = worldWith (around (record { 0 = hn i }) (s .worlds .left .commands)) (s .worlds .left .init);
+          right = worldWith (around (record { 0 = right i }) (s .worlds .right .commands)) (s .worlds .right .init);
+          new = s .worlds .new;
+          base = s .worlds .base;
+          snapshots = s .worlds .snapshots;
+          weight = ht i;
+          published = s .worlds .published;
+        };
+        left = hl i;
+        right = hr i;
+        steps = hk i;
+      })
+
+  -- a level frame as the code leaves it
+  pub level-plays : {n : Timestamp} {t : Float} {l r : Ledger} {k at q : ℕ} {was mid last : List ℕ} {a : Stated} {u : Scene}
+      → Puts was at (levelWords (s .worlds)) q mid
+      → n .0 ≡ sumOf (stampOf (s .worlds .left) .0) 1 → t ≡ levelWeight (s .worlds .weight) p → l ≡ applies (s .left) 0 0 → r ≡ applies (s .right) 0 0 → k ≡ (s .steps + 1) % 2 ^ 32
+      → States (publishedBlended (levelWith s n t l r k)) (levelWith s n t l r k) mid q a last → u ≡ withState (levelWith s n t l r k) (a .state)
+      → Plays (frameOf m p s) was at (record { scene = u; at = a .at }) last
+  level-plays {n} {t} {l} {r} {k} {at} {q} {was} {mid} hp hn ht hl hr hk ha hu =
+      let e : Scene = levelWith s n t l r k in
+      let steps : Plays (record { scene = levelled (reweighted p s); words = levelWords (s .worlds) }) was at (record { scene = e; at = q }) mid = record { scene = level-scene hn ht hl hr hk; puts = hp } in
+      plays-as level-frame (plays-then publishedBlended steps (stated-plays e ha hu))
