@@ -5,7 +5,8 @@ use mathlib.Core.List.{List, [], _∷_}
 use Prim.Native.Nat.{ℕ, zero, suc, _+_, _%_, _^_}
 use native.Mathlib.Omega.{arith}
 use lib.Dec.{eqb}
-use lib.Ieee.{Float, binary64, add}
+use lib.IntN.{pos}
+use lib.Ieee.{Float, fin, binary64, add, eq}
 use borrow.Author.Tests.{eq-eqb, ne-eqb, eqb-true, eqb-false, not-true}
 use Rattle.timestamp.specs.declared.Timestamp.{Timestamp}
 use Rattle.timestamp.specs.declared.Ordering.{Ordering}
@@ -27,7 +28,7 @@ use Rattle.client.specs.Sides.{newSideOf, oldSideOf, worldOf, withWorld, withWe
 use Rattle.client.specs.Status.{statusOf}
 use Rattle.client.proofs.Happening.{plays-as, plays-then}
 use Rattle.client_publish.specs.declared.Stated.{Stated}
-use Rattle.client_publish.specs.Publish.{withState, publishedBlended}
+use Rattle.client_publish.specs.Publish.{withState, publishedNone, publishedSide, publishedMix, nearOne, publishedBoth, publishedBlended}
 use Rattle.client_publish.specs.Inner.{States}
 use Rattle.client_frame.specs.Frame.{loadsOf, loadedQueued, clamped, blendedOn, openedOf, steppedSide, caughtUpOf, withStep, steppedNew, caughtOf, simulatedOf, blendedBy, shownOf, stopsOf, snapshotOf, openOf, frameOf, frameStops}
 use Rattle.client_frame.specs.Inner.{waitsOf, worldWaits, isNothing, isBlending, loadsNothing, isLevel, levelWeight, levelWords}
@@ -184,12 +185,13 @@ record Sides (s : Scene) : Type 0 where
   new : newStampOf (midScene s .worlds) ≡ newStampOf (s .worlds)
   old : oldStampOf (midScene s .worlds) ≡ nextStamp (oldStampOf (s .worlds))
   last : newStampOf (levelled s .worlds) ≡ nextStamp (newStampOf (s .worlds))
+  client : oldStampOf (levelled s .worlds) ≡ nextStamp (oldStampOf (s .worlds))
   scene : withStep (putOf (midScene s) (newSideOf (s .worlds)) (movedOn (worldOf (s .worlds) (newSideOf (s .worlds)))) 0 0) ≡ levelled s
 
 sides-by : (b : Bool) (s : Scene) → eqb (s .worlds .new) 0 ≡ b → Sides s
 unfolding midScene putOf newSideOf oldSideOf worldOf withWorld withLedger ledgerOf oldStampOf newStampOf
-sides-by true s e = record { side = simp e; world = simp e; new = simp e; old = simp e; last = simp e; scene = simp e }
-sides-by false s e = record { side = simp e; world = simp e; new = simp e; old = simp e; last = simp e; scene = simp e }
+sides-by true s e = record { side = simp e; world = simp e; new = simp e; old = simp e; last = simp e; client = simp e; scene = simp e }
+sides-by false s e = record { side = simp e; world = simp e; new = simp e; old = simp e; last = simp e; client = simp e; scene = simp e }
 
 -- a buffer of either side waits
 side-waits-by : (b : Bool) (w : ClientWorldSimulations) (side : ℕ) → eqb side 0 ≡ b → worldWaits (w .left) ≡ true → worldWaits (w .right) ≡ true → worldWaits (worldOf w side) ≡ true
@@ -251,6 +253,40 @@ module _ (s : Scene) (equal : stampOf (s .worlds .left) .0 ≡ stampOf (s .world
   both-step n =
       ap (λ (p : Played). andThen p (λ (t : Scene). caughtOf (suc n) (oldStampOf (t .worlds)) t)) old-step
       ∙ (λ i. record { scene = one-caught n i .scene; words = stepWord (oldSideOf (s .worlds)) ∷ one-caught n i .words })
+
+-- ---- what is published
+
+-- what happens leaves the client's stamp
+record Stays (s : Scene) (p : Played) : Type 0 where
+  stamp : oldStampOf (p .scene .worlds) ≡ oldStampOf (s .worlds)
+
+either-stays : {s : Scene} (b : Bool) (p q : Played) → Stays s p → Stays s q → Stays s (cond b p q)
+either-stays true p q h k = h
+either-stays false p q h k = k
+
+-- a published side
+side-stays : (s : Scene) (side : ℕ) → Stays s (publishedSide s side)
+unfolding publishedSide oldStampOf worldOf oldSideOf
+side-stays s side = record { stamp = refl }
+
+-- a mix
+mix-stays : (s : Scene) → Stays s (publishedMix s (s .worlds .weight))
+unfolding publishedMix oldStampOf worldOf oldSideOf
+mix-stays s = record { stamp = refl }
+
+-- nothing published
+none-stays : (s : Scene) → Stays s (publishedNone s)
+unfolding publishedNone oldStampOf worldOf oldSideOf
+none-stays s = record { stamp = refl }
+
+-- what is published by the weight
+published-stays : (s : Scene) → Stays s (publishedBlended s)
+unfolding publishedBlended publishedBoth
+published-stays s =
+    let new : Stays s (publishedSide s (newSideOf (s .worlds))) = side-stays s (newSideOf (s .worlds)) in
+    either-stays (worldOf (s .worlds) (oldSideOf (s .worlds)) .init) _ _
+    (either-stays (eq (s .worlds .weight) (fin false 0 (pos 0))) _ _ (side-stays s (oldSideOf (s .worlds))) (either-stays (nearOne (s .worlds .weight)) _ _ new (mix-stays s)))
+    (either-stays (worldOf (s .worlds) (newSideOf (s .worlds)) .init) _ _ new (none-stays s))
 
 -- ---- the frame
 
@@ -345,6 +381,14 @@ module _ (m : ℕ) (p : Float) (s : Scene) (level : isLevel (s .worlds) m ≡ tr
       sym
       ((λ i. andThen (opens .begins i) (shownOf m (opens .blended i)))
       ∙ (λ i. andThen (level-steps m refl i) publishedBlended))
+
+  -- the client's stamp moves by one in a level frame
+  pub level-stamp : oldStampOf (frameOf m p s .scene .worlds) .0 ≡ sumOf (oldStampOf (s .worlds) .0) 1
+  unfolding andThen oldStampOf worldOf oldSideOf
+  level-stamp =
+      let all : oldStampOf (frameOf m p s .scene .worlds) ≡ nextStamp (oldStampOf (s .worlds)) =
+      ap (λ (x : Played). oldStampOf (x .scene .worlds)) (sym level-frame) ∙ published-stays (levelled (reweighted p s)) .stamp ∙ sides-by (eqb (s .worlds .new) 0) (reweighted p s) refl .client in
+      ap (λ (x : Timestamp). x .0) all
 
   -- the scene of a level frame as the code builds it: the stamp n, the weight t, the ledgers l and r, and the steps k
   level-scene : {n : Timestamp} {t : Float} {l r : Ledger} {k : ℕ}
