@@ -29,6 +29,10 @@ unfolding skipsOf
 skips-is stamp overshoot server c ho hd ha hb =
     ap (le (c .skip)) (sym (ha ∙ ap absOf (hd ∙ ap (λ (t : Timestamp). driftOf t overshoot (c .timestep) server) ho))) ∙ hb
 
+-- the test as it was told
+pub skip-told : (stamp : Timestamp) (overshoot server : Float) (c : Settings) {old : Timestamp} {a b : Bool} → old ≡ stamp → a ≡ skipsOf old overshoot server c → a ≡ b → skipsOf stamp overshoot server c ≡ b
+skip-told stamp overshoot server c ho ha hb = ap (λ (t : Timestamp). skipsOf t overshoot server c) (sym ho) ∙ sym ha ∙ hb
+
 -- an answer, by what the skip after the frames is
 by-run : (a : Advanced) (server : Float) (c : Settings) (q : Run) {was last : List ℕ} {r : Advanced} → q ≡ maybeSkipped (runBy a []) server c
     → r .scene ≡ q .played .scene → r .overshoot ≡ q .overshoot → r .frames ≡ a .frames → r .stop ≡ q .stop → Puts was (a .at) (q .played .words) (r .at) last → Skips a server c was r last

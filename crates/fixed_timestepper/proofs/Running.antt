@@ -50,7 +50,7 @@ over-with c from start {was} {tape} {s} {o} {p} {n} x r e =
     }
 
 -- the frame of a scene
-abbrev frame : Settings → Scene → Played
+abbrev pub frame : Settings → Scene → Played
 frame c s = frameOf (c .m) (blendProgressOf c) s
 
 -- a frame, and then the run from the scene after it
@@ -58,7 +58,7 @@ abbrev onward : ℕ → Settings → Scene → Float → Run
 onward k c s o = framed s (frame c s) (goesOn (frameStops (c .m) (blendProgressOf c) s) (frame c s .scene) (add binary64 o (c .timestep)) (runOf k c (frame c s .scene) (add binary64 o (c .timestep))))
 
 -- the overshoot is not negative
-done-at : (k : ℕ) (c : Settings) (s : Scene) (o : Float) → lt o nought ≡ false → runOf k c s o ≡ ended Done s o
+pub done-at : (k : ℕ) (c : Settings) (s : Scene) (o : Float) → lt o nought ≡ false → runOf k c s o ≡ ended Done s o
 unfolding runOf
 done-at zero c s o h = ap (λ (b : Bool). whileBelow b s o (ended TooManyFrames s o)) h
 done-at (suc k) c s o h = ap (λ (b : Bool). whileBelow b s o (onward k c s o)) h
@@ -81,7 +81,7 @@ running-full c from start {was} {tape} {s} {o} {p} {n} r h e =
 -- ---- one frame more
 
 -- a run with a frame in front
-goes-at : (k : ℕ) (c : Settings) (s : Scene) (o : Float) → lt o nought ≡ true
+pub goes-at : (k : ℕ) (c : Settings) (s : Scene) (o : Float) → lt o nought ≡ true
     → runOf (suc k) c s o ≡ onward k c s o
 unfolding runOf
 goes-at k c s o h = ap (λ (b : Bool). whileBelow b s o (onward k c s o)) h

@@ -1,9 +1,11 @@
 -- What inner functions of the code give, of a run as they hold it, its words being on the tape already. No contract of a call cites this module.
 -- Definitions only. Assumes nothing.
 use Prim.Native.Nat.{ℕ}
+use mathlib.Core.Bool.{Bool, true, false, cond, not}
 use mathlib.Core.List.{List, []}
 use mathlib.Core.Path.{_≡_}
-use lib.Ieee.{Float}
+use lib.Ieee.{Float, binary64, add, lt}
+use Rattle.timestamp.specs.declared.Timestamp.{Timestamp}
 use Rattle.timestamp.specs.Timestamps.{bitsOf}
 use Rattle.tape.specs.Tape.{Puts}
 use Rattle.settings.specs.declared.Settings.{Settings}
@@ -11,15 +13,25 @@ use Rattle.settings.specs.Settings.{lagFrameCountOf}
 use Rattle.settings.specs.Tweening.{shapedOf}
 use Rattle.client.specs.declared.ClientWorldSimulations.{ClientWorldSimulations}
 use Rattle.client.specs.declared.Scene.{Scene}
+use Rattle.simulation.specs.World.{nextStamp}
+use Rattle.client_frame.specs.Inner.{isLevel}
 use Rattle.client_skip.specs.Skip.{tweenOf, postUpdateOf}
 use Rattle.fixed_timestepper.specs.declared.Stop.{Stop}
 use Rattle.fixed_timestepper.specs.declared.Stop.the-variants.{Done, TooManyFrames, StatusStops, WeightStops}
 use Rattle.fixed_timestepper.specs.declared.Advanced.{Advanced}
-use Rattle.fixed_timestepper.specs.TimeKeeper.{Run, maybeSkipped, finishedOf, advancedOf}
+use Rattle.fixed_timestepper.specs.TimeKeeper.{nought, Run, skipsOf, maybeSkipped, finishedOf, advancedOf}
 
 -- the run that the code's answer stands for, its words being those and its trace left aside
 abbrev pub runBy : Advanced → List ℕ → Run
 runBy a ws = record { played = record { scene = a .scene; words = ws }; overshoot = a .overshoot; frames = a .frames; stop = a .stop; trace = [] }
+
+-- an overshoot asks for one frame and no more
+unfoldable pub isSingle : Float → Float → Bool
+isSingle o timestep = cond (lt o nought) (cond (lt (add binary64 o timestep) nought) false true) false
+
+-- an update of worlds with the stamp t, from the overshoot o, plays one level frame, and there is no skip after it
+unfoldable pub levelRun : ClientWorldSimulations → Timestamp → Float → Float → Settings → Bool
+levelRun w t o server c = cond (isSingle o (c .timestep)) (cond (isLevel w (c .m)) (not (skipsOf (nextStamp t) (add binary64 o (c .timestep)) server c)) false) false
 
 -- the skip after the frames of a run: what it adds to the tape, and the answer after it
 pub record Skips (a : Advanced) (server : Float) (c : Settings) (was : List ℕ) (r : Advanced) (last : List ℕ) : Type 0 where

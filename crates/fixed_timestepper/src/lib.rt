@@ -1,9 +1,11 @@
 // The stepping of the worlds by the clock: `TimeKeeper` of src/fixed_timestepper.rs of crystalorb. Every float operation is the Rust's,
 // in its order.
 ghost use mathlib.Core.Path.{_≡_};
+ghost use mathlib.Core.Bool.{true};
 ghost use Prim.Native.Nat.{_≤_, _<_};
-ghost use Rattle.fixed_timestepper.specs.TimeKeeper.{absOf, atLeastZero, logicalOf, driftOf, beyondDeadband, compensatedOf, runOf, Advances};
-ghost use Rattle.fixed_timestepper.specs.Inner.{Skips, endedOf, unendedOf};
+ghost use Rattle.fixed_timestepper.specs.TimeKeeper.{absOf, atLeastZero, logicalOf, driftOf, beyondDeadband, compensatedOf, runOf, skipsOf, Advances};
+ghost use Rattle.fixed_timestepper.specs.Inner.{isSingle, levelRun, Skips, endedOf, unendedOf};
+ghost use Rattle.client_frame.specs.Inner.{isLevel};
 use client::ClientWorldSimulations;
 use client::Scene;
 use client::sides;
@@ -142,6 +144,64 @@ pub fn advance(scene: Scene, overshoot: f64, settings: Settings, tape: &mut [u32
     }
 }
 
+// Whether an overshoot asks for one frame and no more.
+pub fn is_single(overshoot: f64, timestep: f64) -> bool
+    ensures { λ r. ⌜ r ≡ isSingle overshoot timestep ⌝ }
+{
+    if overshoot < 0.0 {
+        if overshoot + timestep < 0.0 {
+            return false;
+        }
+        return true;
+    }
+    false
+}
+
+// Whether there is a skip: the drift is at or beyond the threshold.
+pub fn skips(stamp: Timestamp, overshoot: f64, server: f64, settings: Settings) -> bool
+    ensures { λ r. ⌜ r ≡ skipsOf stamp overshoot server settings ⌝ }
+{
+    abs(timestamp_drift_seconds(stamp, overshoot, settings.timestep, server)) >= settings.skip
+}
+
+// Whether an update from a stamp and an overshoot plays one level frame and does not skip: nothing but numbers of the worlds changes in it.
+pub fn is_level(
+    worlds: ClientWorldSimulations,
+    stamp: Timestamp,
+    overshoot: f64,
+    server: f64,
+    settings: Settings,
+) -> bool
+    ensures { λ r. ⌜ r ≡ levelRun worlds stamp overshoot server settings ⌝ }
+{
+    let t = settings.timestep;
+    if !is_single(overshoot, t) {
+        return false;
+    }
+    if !client_frame::is_level(worlds, settings.m) {
+        return false;
+    }
+    !skips(stamp.add(1), overshoot + t, server, settings)
+}
+
+// The one frame of such an update.
+pub fn level_run(scene: Scene, overshoot: f64, settings: Settings, tape: &mut [u32]) -> Advanced
+    requires { ⌜ (isSingle overshoot (settings .timestep) ≡ true) × (isLevel (scene .worlds) (settings .m) ≡ true) ⌝ }
+    ensures { λ r. ⌜ Advances (runOf 65 settings scene overshoot) (now (tape .entry)) r (now (tape .exit)) ⌝ }
+{
+    let progress = settings.blend_progress_per_frame();
+    let f = client_frame::level_frame(scene, settings.m, progress, tape, 0);
+    let after = f.scene;
+    let done = Stop::Done;
+    Advanced {
+        scene: after,
+        overshoot: overshoot + settings.timestep,
+        frames: 1,
+        at: f.at,
+        stop: done,
+    }
+}
+
 // The skip where the drift is at or beyond the threshold: to the server's frame, rounded up.
 pub fn timeskip(a: Advanced, server: f64, settings: Settings, tape: &mut [u32]) -> Advanced
     requires { ⌜ a .at < 2500000000 ⌝ }
@@ -150,7 +210,7 @@ pub fn timeskip(a: Advanced, server: f64, settings: Settings, tape: &mut [u32]) 
     let t = settings.timestep;
     let scene = a.scene;
     let stamp = sides::last_completed_timestamp(scene.worlds);
-    if abs(timestamp_drift_seconds(stamp, a.overshoot, t, server)) >= settings.skip {
+    if skips(stamp, a.overshoot, server, settings) {
         let target = FloatTimestamp::from_seconds(server, t);
         let corrected = target.ceil();
         let overshoot = FloatTimestamp::from_timestamp(corrected)
@@ -202,7 +262,11 @@ pub fn update(
 {
     let stamp = sides::last_completed_timestamp(scene.worlds);
     let c = compensated_delta(stamp, overshoot, delta, server, settings);
-    let a = advance(scene, overshoot - c, settings, tape);
+    let start = overshoot - c;
+    if is_level(scene.worlds, stamp, start, server, settings) {
+        return level_run(scene, start, settings, tape);
+    }
+    let a = advance(scene, start, settings, tape);
     let stop = a.stop;
     match stop {
         Stop::Done => timeskip(a, server, settings, tape),

@@ -1,4 +1,4 @@
--- `update` meets its contract: the frames, and where they ended by themselves the skip. Assumes nothing.
+-- `update` meets its contract: one level frame, or the frames, and where they ended by themselves the skip. Assumes nothing.
 use borrow.Author.Needs.{needs}
 use native.Mathlib.Omega.{arith}
 use mathlib.Core.Path.{refl}
@@ -7,7 +7,8 @@ use Rattle.command.proofs.Lists.{mapped-length}
 use Rattle.client_frame.proofs.Bounds.{Few, few-slots}
 use Rattle.fixed_timestepper.specs.declared.Stop.the-variants.{TooManyFrames, StatusStops, WeightStops}
 use Rattle.fixed_timestepper.proofs.Running.{run-few}
-use Rattle.fixed_timestepper.proofs.Updating.{update-done, update-stopped}
+use Rattle.fixed_timestepper.proofs.Updating.{update-done, update-stopped, update-level}
+use Rattle.fixed_timestepper.proofs.Levels.{level-run-parts}
 use Rattle.fixed_timestepper.proofs.update.Statement.{statement}
 use Rattle.fixed_timestepper.proofs.update.Tie as tie
 
@@ -25,8 +26,29 @@ last-completed-timestamp-requires c κs = search needs
 compensated-delta-requires : tie.Need-compensated-delta-requires
 compensated-delta-requires c κs = search needs
 
+is-level-requires : tie.Need-is-level-requires
+is-level-requires c κs = search needs
+
+level-run-requires : tie.Need-level-run-requires
+level-run-requires c κs =
+    let l = c .before .before in
+    let k = level-run-parts _ _ _ _ _ (l .is-level .ensures) (c .before .if1 .taken) in
+    (k .0, k .1)
+
+same-length : tie.Need-same-length
+same-length c = search needs
+
+returns : tie.Need-returns
+returns c =
+    let r = c .before .before in
+    let l = r .before .before .before in
+    let d = l .before in
+    let k = level-run-parts _ _ _ _ _ (l .is-level .ensures) (r .before .before .if1 .taken) in
+    let s = d .before .before .before in
+    update-level (s .args .settings) (s .args .scene) (s .args .overshoot) (s .args .delta) (s .args .server) (d .before .last-completed-timestamp .ensures) (d .compensated-delta .ensures) refl (k .0) (k .1) (k .2) (r .level-run .ensures)
+
 advance-requires : tie.Need-advance-requires
-advance-requires c κs = search needs
+advance-requires c κs = c .before .before .before .before .before .before .pre
 
 enum-told : tie.Need-enum-told
 enum-told c = search needs
@@ -34,8 +56,9 @@ enum-told c = search needs
 timeskip-requires : tie.Need-timeskip-requires
 timeskip-requires c κs =
     let a = c .before .before .before .before .before in
-    let s = a .before .before .before .before .before in
-    omega (arith, a .advance .ensures .puts .at, run-few 65 (s .args .settings) (s .pre) (s .args .scene) (sub binary64 (s .args .overshoot) (a .before .before .compensated-delta .result)) (starts-few s))
+    let d = a .before .before .before .before in
+    let s = d .before .before .before in
+    omega (arith, a .advance .ensures .puts .at, run-few 65 (s .args .settings) (s .pre) (s .args .scene) (sub binary64 (s .args .overshoot) (d .compensated-delta .result)) (starts-few s))
 
 enum-told-2 : tie.Need-enum-told-2
 enum-told-2 c = search needs
@@ -46,23 +69,16 @@ enum-told-3 c = search needs
 enum-told-4 : tie.Need-enum-told-4
 enum-told-4 c = search needs
 
-same-length : tie.Need-same-length
-same-length c = search needs
-
-returns : tie.Need-returns
-returns c =
-    let k = c .before .before in
-    let e = k .before .before in
-    let a = e .before .before .before .before in
-    update-done _ _ _ _ _ (a .before .before .before .last-completed-timestamp .ensures) (a .before .before .compensated-delta .ensures) refl (a .advance .ensures) (e .enum-told .given .1) (k .timeskip .ensures)
-
 same-length-2 : tie.Need-same-length-2
 same-length-2 c = search needs
 
 returns-2 : tie.Need-returns-2
 returns-2 c =
-    let a = c .before .before .before .before in
-    update-stopped _ _ _ _ _ (a .before .before .before .last-completed-timestamp .ensures) (a .before .before .compensated-delta .ensures) refl TooManyFrames (a .advance .ensures) (c .enum-told2 .given .1) (λ r. refl)
+    let k = c .before .before in
+    let e = k .before .before in
+    let a = e .before .before .before .before in
+    let d = a .before .before .before .before in
+    update-done _ _ _ _ _ (d .before .last-completed-timestamp .ensures) (d .compensated-delta .ensures) refl (a .advance .ensures) (e .enum-told .given .1) (k .timeskip .ensures)
 
 same-length-3 : tie.Need-same-length-3
 same-length-3 c = search needs
@@ -70,7 +86,8 @@ same-length-3 c = search needs
 returns-3 : tie.Need-returns-3
 returns-3 c =
     let a = c .before .before .before .before in
-    update-stopped _ _ _ _ _ (a .before .before .before .last-completed-timestamp .ensures) (a .before .before .compensated-delta .ensures) refl StatusStops (a .advance .ensures) (c .enum-told3 .given .1) (λ r. refl)
+    let d = a .before .before .before .before in
+    update-stopped _ _ _ _ _ (d .before .last-completed-timestamp .ensures) (d .compensated-delta .ensures) refl TooManyFrames (a .advance .ensures) (c .enum-told2 .given .1) (λ r. refl)
 
 same-length-4 : tie.Need-same-length-4
 same-length-4 c = search needs
@@ -78,7 +95,17 @@ same-length-4 c = search needs
 returns-4 : tie.Need-returns-4
 returns-4 c =
     let a = c .before .before .before .before in
-    update-stopped _ _ _ _ _ (a .before .before .before .last-completed-timestamp .ensures) (a .before .before .compensated-delta .ensures) refl WeightStops (a .advance .ensures) (c .enum-told4 .given .1) (λ r. refl)
+    let d = a .before .before .before .before in
+    update-stopped _ _ _ _ _ (d .before .last-completed-timestamp .ensures) (d .compensated-delta .ensures) refl StatusStops (a .advance .ensures) (c .enum-told3 .given .1) (λ r. refl)
+
+same-length-5 : tie.Need-same-length-5
+same-length-5 c = search needs
+
+returns-5 : tie.Need-returns-5
+returns-5 c =
+    let a = c .before .before .before .before in
+    let d = a .before .before .before .before in
+    update-stopped _ _ _ _ _ (d .before .last-completed-timestamp .ensures) (d .compensated-delta .ensures) refl WeightStops (a .advance .ensures) (c .enum-told4 .given .1) (λ r. refl)
 
 pub update-spec : {M : Type 1} → statement M
 update-spec =
@@ -86,17 +113,21 @@ update-spec =
     (tie.spec
     last-completed-timestamp-requires
     compensated-delta-requires
+    is-level-requires
+    level-run-requires
+    same-length
+    returns
     advance-requires
     enum-told
     timeskip-requires
     enum-told-2
     enum-told-3
     enum-told-4
-    same-length
-    returns
     same-length-2
     returns-2
     same-length-3
     returns-3
     same-length-4
-    returns-4)
+    returns-4
+    same-length-5
+    returns-5)
