@@ -18,41 +18,56 @@ use Rattle.tape.proofs.Writing.{puts-then, puts-as}
 use Rattle.command.specs.Buffer.{around}
 use Rattle.simulation.specs.declared.Simulation.{Simulation}
 use Rattle.simulation.specs.World.{worldWith, nextStamp, isLess}
-use Rattle.client.specs.declared.ReconciliationStatus.the-variants.{AwaitingSnapshot, Blending}
+use Rattle.client.specs.declared.ReconciliationStatus.{ReconciliationStatus}
+use Rattle.client.specs.declared.ReconciliationStatus.the-variants.{AwaitingSnapshot, Fastforwarding, Blending}
 use Rattle.client.specs.declared.Queued.{Queued}
 use Rattle.client.specs.declared.Queued.the-variants.{Nothing, Held}
 use Rattle.client.specs.declared.ClientWorldSimulations.{ClientWorldSimulations}
 use Rattle.client.specs.declared.Ledger.{Ledger}
 use Rattle.client.specs.declared.Scene.{Scene}
 use Rattle.client.specs.Sides.{newSideOf, oldSideOf, worldOf, withWorld, withWeight, withWorlds, withLedger, ledgerOf, stampOf, oldStampOf, newStampOf, applies, putOf, Played, still, andThen, doneAt, Plays}
-use Rattle.client.specs.Status.{statusOf}
+use Rattle.client.specs.Status.{statusBy, statusOf}
 use Rattle.client.proofs.Happening.{plays-as, plays-then}
 use Rattle.client_publish.specs.declared.Stated.{Stated}
 use Rattle.client_publish.specs.Publish.{withState, publishedNone, publishedSide, publishedMix, nearOne, publishedBoth, publishedBlended}
 use Rattle.client_publish.specs.Inner.{States}
 use Rattle.client_frame.specs.Frame.{loadsOf, loadedQueued, clamped, blendedOn, openedOf, steppedSide, caughtUpOf, withStep, steppedNew, caughtOf, simulatedOf, blendedBy, shownOf, stopsOf, snapshotOf, openOf, frameOf, frameStops}
-use Rattle.client_frame.specs.Inner.{waitsOf, worldWaits, isNothing, isBlending, loadsNothing, isLevel, levelWeight, levelWords}
+use Rattle.client_frame.specs.Inner.{waitsOf, worldWaits, levelBy, isLevel, levelWeight, levelWords}
 use Rattle.client_frame.proofs.Framing.{stated-plays}
 use Rattle.client_frame.proofs.Waiting.{both, movedOn, step-waits}
 use Rattle.client_frame.proofs.Catching.{turn, stop}
 
 -- ---- the tests
 
--- blending, nothing loads
-pub loads-blending : (w : ClientWorldSimulations) → isBlending (w .weight) ≡ true → true ≡ loadsNothing w
-unfolding loadsNothing
-loads-blending w h = rw h refl
+-- a status that leaves both worlds level is one of equal stamps
+even-by : (e l v n : Bool) (t : Float) (q : Queued) → levelBy (statusBy e l v n t) q ≡ true → e ≡ true
+unfolding levelBy
+even-by true l v n t q h = refl
+even-by false l true n t q h = h
+even-by false l false true t q h = h
+even-by false l false false t q h = h
 
--- else what is queued decides
-pub loads-queued : (w : ClientWorldSimulations) {q : Queued} → isBlending (w .weight) ≡ false → w .snapshots .queued ≡ q → isNothing q ≡ loadsNothing w
-unfolding loadsNothing
-loads-queued w h e = rw (h, e) refl
+status-even : (w : ClientWorldSimulations) (q : Queued) → levelBy (statusOf w) q ≡ true → newStampOf w .0 ≡ oldStampOf w .0
+unfolding statusOf
+status-even w q h = eqb-true _ _ (even-by (eqb (newStampOf w .0) (oldStampOf w .0)) _ _ _ _ q h)
+
+-- a status blends by the worlds' weight
+weight-by : (e l v n : Bool) (t : Float) {x : Float} → statusBy e l v n t ≡ Blending x → x ≡ t
+weight-by true true v n t h = cc
+weight-by true false v n t h = cc
+weight-by false l true n t h = cc
+weight-by false l false true t h = cc
+weight-by false l false false t h = cc
+
+status-weight : (w : ClientWorldSimulations) {x : Float} → statusOf w ≡ Blending x → x ≡ w .weight
+unfolding statusOf
+status-weight w h = weight-by (eqb (newStampOf w .0) (oldStampOf w .0)) _ _ _ (w .weight) h
 
 -- the parts of the test of a level frame
 pub record Level (w : ClientWorldSimulations) (m : ℕ) : Type 0 where
   pub some : m ≡ 0 → ⊥
-  pub stamps : stampOf (w .left) .0 ≡ stampOf (w .right) .0
-  pub loads : loadsNothing w ≡ true
+  pub status : levelBy (statusOf w) (w .snapshots .queued) ≡ true
+  pub stamps : newStampOf w .0 ≡ oldStampOf w .0
   pub left : worldWaits (w .left) ≡ true
   pub right : worldWaits (w .right) ≡ true
 
@@ -60,68 +75,55 @@ pub level-parts : (w : ClientWorldSimulations) (m : ℕ) → isLevel w m ≡ tru
 unfolding isLevel
 level-parts w m h =
     let a = both (not (eqb m 0)) _ h in
-    let b = both (eqb (stampOf (w .left) .0) (stampOf (w .right) .0)) _ (a .1) in
-    let c = both (loadsNothing w) _ (b .1) in
-    let d = both (worldWaits (w .left)) _ (c .1) in
+    let b = both (levelBy (statusOf w) (w .snapshots .queued)) _ (a .1) in
+    let c = both (worldWaits (w .left)) _ (b .1) in
     record {
       some = eqb-false _ _ (not-true _ (a .0));
-      stamps = eqb-true _ _ (b .0);
-      loads = c .0;
-      left = d .0;
-      right = d .1;
+      status = b .0;
+      stamps = status-even w _ (b .0);
+      left = c .0;
+      right = c .1;
     }
 
 -- the test by its parts
-level-is : (w : ClientWorldSimulations) (m : ℕ) {z e l x y : Bool}
-    → eqb m 0 ≡ z → eqb (stampOf (w .left) .0) (stampOf (w .right) .0) ≡ e → loadsNothing w ≡ l → worldWaits (w .left) ≡ x → worldWaits (w .right) ≡ y
-    → not z && (e && (l && (x && y))) ≡ isLevel w m
+level-is : (w : ClientWorldSimulations) (m : ℕ) {z l x y : Bool}
+    → eqb m 0 ≡ z → levelBy (statusOf w) (w .snapshots .queued) ≡ l → worldWaits (w .left) ≡ x → worldWaits (w .right) ≡ y → not z && (l && (x && y)) ≡ isLevel w m
 unfolding isLevel
-level-is w m hz he hl hx hy = sym (λ i. not (hz i) && (he i && (hl i && (hx i && hy i))))
+level-is w m hz hl hx hy = sym (λ i. not (hz i) && (hl i && (hx i && hy i)))
 
 -- no catch-up step
 pub level-none : (w : ClientWorldSimulations) (m : ℕ) → m ≡ 0 → false ≡ isLevel w m
-level-none w m e = level-is w m (eq-eqb _ _ e) refl refl refl refl
+level-none w m e = level-is w m (eq-eqb _ _ e) refl refl refl
 
 -- whether a buffer waits for the next stamp
 waits-next : (w : Simulation) {t n : Timestamp} {x : Bool} → t ≡ stampOf w → n .0 ≡ sumOf (t .0) 1 → x ≡ waitsOf (w .commands) n → worldWaits w ≡ x
 waits-next w ht hn hx = sym (hx ∙ (λ i. waitsOf (w .commands) (record { 0 = (hn ∙ ap (λ (t : Timestamp). sumOf (t .0) 1) ht) i })))
 
-module _ (w : ClientWorldSimulations) (m : ℕ) {a b : Timestamp} (some : m ≡ 0 → ⊥) (ha : a ≡ stampOf (w .left)) (hb : b ≡ stampOf (w .right)) where
-  -- the test of the stamps
-  stamps-are : {e : Bool} → eqb (a .0) (b .0) ≡ e → eqb (stampOf (w .left) .0) (stampOf (w .right) .0) ≡ e
-  stamps-are h = (λ i. eqb (sym ha i .0) (sym hb i .0)) ∙ h
+module _ (w : ClientWorldSimulations) (m : ℕ) {t : ReconciliationStatus} {l : Bool} (some : m ≡ 0 → ⊥) (ht : t ≡ statusOf w) (hl : l ≡ levelBy t (w .snapshots .queued)) where
+  -- the test of the status
+  status-is : levelBy (statusOf w) (w .snapshots .queued) ≡ l
+  status-is = sym (hl ∙ ap (λ (x : ReconciliationStatus). levelBy x (w .snapshots .queued)) ht)
 
-  -- the stamps differ
-  pub level-apart : (a .0 ≡ b .0 → ⊥) → false ≡ isLevel w m
-  level-apart e = level-is w m (ne-eqb _ _ some) (stamps-are (ne-eqb _ _ e)) refl refl refl
+  -- the status does not leave the worlds level
+  pub level-status : l ≡ false → false ≡ isLevel w m
+  level-status f = level-is w m (ne-eqb _ _ some) (status-is ∙ f) refl refl
 
-  -- the stamps are equal
-  module _ {l : Bool} (e : a .0 ≡ b .0) (hl : l ≡ loadsNothing w) where
-    -- something loads
-    pub level-loads : l ≡ false → false ≡ isLevel w m
-    level-loads f = level-is w m (ne-eqb _ _ some) (stamps-are (eq-eqb _ _ e)) (sym hl ∙ f) refl refl
+  -- it does
+  module _ {a n : Timestamp} {x : Bool} (f : l ≡ true) (ha : a ≡ stampOf (w .left)) (hn : n .0 ≡ sumOf (a .0) 1) (hx : x ≡ waitsOf (w .left .commands) n) where
+    -- the left buffer does not wait
+    pub level-left : x ≡ false → false ≡ isLevel w m
+    level-left g = level-is w m (ne-eqb _ _ some) (status-is ∙ f) (waits-next (w .left) ha hn hx ∙ g) refl
 
-    -- nothing loads
-    module _ {n : Timestamp} {x : Bool} (hn : n .0 ≡ sumOf (a .0) 1) (f : l ≡ true) (hx : x ≡ waitsOf (w .left .commands) n) where
-      -- the left buffer does not wait
-      pub level-left : x ≡ false → false ≡ isLevel w m
-      level-left g = level-is w m (ne-eqb _ _ some) (stamps-are (eq-eqb _ _ e)) (sym hl ∙ f) (waits-next (w .left) ha hn hx ∙ g) refl
-
-      -- it does, and the right one decides
-      pub level-right : {k : Timestamp} {y : Bool} → x ≡ true → k .0 ≡ sumOf (b .0) 1 → y ≡ waitsOf (w .right .commands) k → y ≡ isLevel w m
-      level-right g hk hy = level-is w m (ne-eqb _ _ some) (stamps-are (eq-eqb _ _ e)) (sym hl ∙ f) (waits-next (w .left) ha hn hx ∙ g) (waits-next (w .right) hb hk hy)
+    -- it does, and the right one decides
+    pub level-right : {b k : Timestamp} {y : Bool} → x ≡ true → b ≡ stampOf (w .right) → k .0 ≡ sumOf (b .0) 1 → y ≡ waitsOf (w .right .commands) k → y ≡ isLevel w m
+    level-right g hb hk hy = level-is w m (ne-eqb _ _ some) (status-is ∙ f) (waits-next (w .left) ha hn hx ∙ g) (waits-next (w .right) hb hk hy)
 
 -- ---- the weight and the words
 
--- a weight that blends moves on
-pub weight-on : (t progress : Float) {r : Float} → isBlending t ≡ true → r ≡ clamped (add binary64 t progress) → r ≡ levelWeight t progress
+-- the weight of a status that blends moves on
+pub weight-on : (t : ReconciliationStatus) (weight progress : Float) {x r : Float} → t ≡ Blending x → r ≡ clamped (add binary64 x progress) → r ≡ levelWeight t weight progress
 unfolding levelWeight
-weight-on t progress h hr = rw h hr
-
--- any other stays
-pub weight-kept : (t progress : Float) → isBlending t ≡ false → t ≡ levelWeight t progress
-unfolding levelWeight
-weight-kept t progress h = rw h refl
+weight-on t weight progress h hr = rw h hr
 
 -- the words of the two steps
 pub steps-put : (w : ClientWorldSimulations) {o n x y p q at : ℕ} {was mid last : List ℕ}
@@ -199,20 +201,16 @@ unfolding worldOf
 side-waits-by true w side e l r = rw e l
 side-waits-by false w side e l r = rw e r
 
--- the stamps of old and new are those of left and right, or the other way round
-stamps-by : (b : Bool) (w : ClientWorldSimulations) → eqb (w .new) 0 ≡ b → stampOf (w .left) .0 ≡ stampOf (w .right) .0 → newStampOf w .0 ≡ oldStampOf w .0
+-- the stamps of left and right are those of new and old, or the other way round
+stamps-by : (b : Bool) (w : ClientWorldSimulations) → eqb (w .new) 0 ≡ b → newStampOf w .0 ≡ oldStampOf w .0 → stampOf (w .left) .0 ≡ stampOf (w .right) .0
 unfolding newStampOf oldStampOf worldOf newSideOf oldSideOf
-stamps-by true w e h = rw e h
-stamps-by false w e h = rw e (sym h)
+stamps-by true w e h = rw e at h
+stamps-by false w e h = sym (rw e at h)
 
-module _ (s : Scene) (equal : stampOf (s .worlds .left) .0 ≡ stampOf (s .worlds .right) .0) (left : worldWaits (s .worlds .left) ≡ true) (right : worldWaits (s .worlds .right) ≡ true) where
+module _ (s : Scene) (same : newStampOf (s .worlds) .0 ≡ oldStampOf (s .worlds) .0) (left : worldWaits (s .worlds .left) ≡ true) (right : worldWaits (s .worlds .right) ≡ true) where
   -- the sides of the two steps
   sides : Sides s
   sides = sides-by (eqb (s .worlds .new) 0) s refl
-
-  -- the stamps of the worlds
-  same : newStampOf (s .worlds) .0 ≡ oldStampOf (s .worlds) .0
-  same = stamps-by (eqb (s .worlds .new) 0) (s .worlds) refl equal
 
   -- the world of either side waits
   waiting : (side : ℕ) → worldWaits (worldOf (s .worlds) side) ≡ true
@@ -292,7 +290,7 @@ published-stays s =
 
 -- the scene with the weight of the frame
 abbrev reweighted : Float → Scene → Scene
-reweighted p s = withWorlds s (withWeight (s .worlds) (levelWeight (s .worlds .weight) p))
+reweighted p s = withWorlds s (withWeight (s .worlds) (levelWeight (statusOf (s .worlds)) (s .worlds .weight) p))
 
 -- the scene with a stamp of both worlds, a weight, ledgers and steps
 abbrev levelWith : Scene → Timestamp → Float → Ledger → Ledger → ℕ → Scene
@@ -318,40 +316,27 @@ record Opens (p : Float) (s : Scene) : Type 0 where
   blended : blendedBy (statusOf (s .worlds)) (snapshotOf s) ≡ true
   goes : (e : ClientWorldSimulations) → stopsOf (statusOf (s .worlds)) (snapshotOf s) (s .worlds) e ≡ false
 
--- a queue with nothing in it
-queue-empty : (q : Queued) → isNothing q ≡ true → q ≡ Nothing
-queue-empty Nothing h = refl
-queue-empty (Held t x) h = let z : _≡_ {A = ℕ} 0 1 = cc in absurd (omega arith)
-
--- what is queued where the frame does not blend
-queue-none : (w : ClientWorldSimulations) → isBlending (w .weight) ≡ false → loadsNothing w ≡ true → w .snapshots .queued ≡ Nothing
-unfolding loadsNothing
-queue-none w b h = queue-empty (w .snapshots .queued) (ap (λ (x : Bool). cond x true (isNothing (w .snapshots .queued))) (sym b) ∙ h)
-
--- equal stamps blend or await, by the weight
-status-level : (w : ClientWorldSimulations) (b : Bool) → newStampOf w .0 ≡ oldStampOf w .0 → isBlending (w .weight) ≡ b → statusOf w ≡ cond b (Blending (w .weight)) AwaitingSnapshot
-unfolding statusOf
-status-level w true e h = rw (eq-eqb _ _ e, h) refl
-status-level w false e h = rw (eq-eqb _ _ e, h) refl
-
-opens-by : (b : Bool) (p : Float) (s : Scene) → newStampOf (s .worlds) .0 ≡ oldStampOf (s .worlds) .0 → loadsNothing (s .worlds) ≡ true → isBlending (s .worlds .weight) ≡ b → Opens p s
-unfolding openOf openedOf blendedOn loadedQueued blendedBy stopsOf snapshotOf loadsOf
-opens-by true p s e l h =
-    let t : statusOf (s .worlds) ≡ Blending (s .worlds .weight) = status-level (s .worlds) true e h in
-    let on : clamped (add binary64 (s .worlds .weight) p) ≡ levelWeight (s .worlds .weight) p = weight-on (s .worlds .weight) p h refl in
+-- by the status and what is queued
+opens-by : (t : ReconciliationStatus) (q : Queued) (p : Float) (s : Scene) → statusOf (s .worlds) ≡ t → s .worlds .snapshots .queued ≡ q → levelBy t q ≡ true → Opens p s
+unfolding openOf openedOf blendedOn loadedQueued blendedBy stopsOf snapshotOf loadsOf levelBy levelWeight
+opens-by AwaitingSnapshot Nothing p s t e h =
+    let q : snapshotOf s ≡ Nothing = (λ i. loadsOf (t i) (e i)) in
     record {
-      begins = (λ i. openedOf (t i) (snapshotOf s) p s) ∙ (λ i. still (withWorlds s (withWeight (s .worlds) (on i))));
-      blended = (λ i. blendedBy (t i) (snapshotOf s));
-      goes = λ x. (λ i. stopsOf (t i) (snapshotOf s) (s .worlds) x);
-    }
-opens-by false p s e l h =
-    let t : statusOf (s .worlds) ≡ AwaitingSnapshot = status-level (s .worlds) false e h in
-    let q : snapshotOf s ≡ Nothing = (λ i. loadsOf (t i) (s .worlds .snapshots .queued)) ∙ queue-none (s .worlds) h l in
-    record {
-      begins = (λ i. openedOf (t i) (q i) p s) ∙ (λ i. still (withWorlds s (withWeight (s .worlds) (weight-kept (s .worlds .weight) p h i))));
+      begins = (λ i. openedOf (t i) (q i) p s) ∙ (λ i. still (withWorlds s (withWeight (s .worlds) (levelWeight (sym t i) (s .worlds .weight) p))));
       blended = (λ i. blendedBy (t i) (q i));
       goes = λ x. (λ i. stopsOf (t i) (q i) (s .worlds) x);
     }
+opens-by AwaitingSnapshot (Held x k) p s t e h = let z : _≡_ {A = ℕ} 0 1 = cc in absurd (omega arith)
+opens-by (Blending x) q p s t e h =
+    let w : s .worlds .weight ≡ x = sym (status-weight (s .worlds) t) in
+    record {
+      begins = (λ i. openedOf (t i) (snapshotOf s) p s)
+          ∙ (λ i. still (withWorlds s (withWeight (s .worlds) (clamped (add binary64 (w i) p)))))
+          ∙ (λ i. still (withWorlds s (withWeight (s .worlds) (levelWeight (sym t i) (s .worlds .weight) p))));
+      blended = (λ i. blendedBy (t i) (snapshotOf s));
+      goes = λ y. (λ i. stopsOf (t i) (snapshotOf s) (s .worlds) y);
+    }
+opens-by (Fastforwarding f) q p s t e h = let z : _≡_ {A = ℕ} 0 1 = cc in absurd (omega arith)
 
 module _ (m : ℕ) (p : Float) (s : Scene) (level : isLevel (s .worlds) m ≡ true) where
   -- its parts
@@ -359,9 +344,7 @@ module _ (m : ℕ) (p : Float) (s : Scene) (level : isLevel (s .worlds) m ≡ tr
   parts = level-parts (s .worlds) m level
 
   opens : Opens p s
-  opens =
-      let e : newStampOf (s .worlds) .0 ≡ oldStampOf (s .worlds) .0 = stamps-by (eqb (s .worlds .new) 0) (s .worlds) refl (parts .stamps) in
-      opens-by (isBlending (s .worlds .weight)) p s e (parts .loads) refl
+  opens = opens-by (statusOf (s .worlds)) (s .worlds .snapshots .queued) p s refl refl (parts .status)
 
   -- the Rust does not stop in a level frame
   pub level-stops : frameStops m p s ≡ false
@@ -370,7 +353,7 @@ module _ (m : ℕ) (p : Float) (s : Scene) (level : isLevel (s .worlds) m ≡ tr
 
   -- the steps of a level frame
   level-steps : (k : ℕ) → m ≡ k → simulatedOf k (reweighted p s) ≡ record { scene = levelled (reweighted p s); words = levelWords (s .worlds) }
-  unfolding levelWords newSideOf oldSideOf
+  unfolding levelWords newSideOf oldSideOf newStampOf oldStampOf worldOf
   level-steps zero e = absurd (parts .some e)
   level-steps (suc n) e = both-step (reweighted p s) (parts .stamps) (parts .left) (parts .right) n
 
@@ -392,10 +375,10 @@ module _ (m : ℕ) (p : Float) (s : Scene) (level : isLevel (s .worlds) m ≡ tr
 
   -- the scene of a level frame as the code builds it: the stamp n, the weight t, the ledgers l and r, and the steps k
   level-scene : {n : Timestamp} {t : Float} {l r : Ledger} {k : ℕ}
-      → n .0 ≡ sumOf (stampOf (s .worlds .left) .0) 1 → t ≡ levelWeight (s .worlds .weight) p → l ≡ applies (s .left) 0 0 → r ≡ applies (s .right) 0 0 → k ≡ (s .steps + 1) % 2 ^ 32
+      → n .0 ≡ sumOf (stampOf (s .worlds .left) .0) 1 → t ≡ levelWeight (statusOf (s .worlds)) (s .worlds .weight) p → l ≡ applies (s .left) 0 0 → r ≡ applies (s .right) 0 0 → k ≡ (s .steps + 1) % 2 ^ 32
       → levelWith s n t l r k ≡ levelled (reweighted p s)
   level-scene {n} hn ht hl hr hk =
-      let right : n .0 ≡ sumOf (stampOf (s .worlds .right) .0) 1 = hn ∙ ap (λ (x : ℕ). sumOf x 1) (parts .stamps) in
+      let right : n .0 ≡ sumOf (stampOf (s .worlds .right) .0) 1 = hn ∙ ap (λ (x : ℕ). sumOf x 1) (stamps-by (eqb (s .worlds .new) 0) (s .worlds) refl (parts .stamps)) in
       (λ i. record {
         worlds = record {
           left = worldWith (around (record { 0 = hn i }) (s .worlds .left .commands)) (s .worlds .left .init);
@@ -412,12 +395,13 @@ module _ (m : ℕ) (p : Float) (s : Scene) (level : isLevel (s .worlds) m ≡ tr
       })
 
   -- a level frame as the code leaves it
-  pub level-plays : {n : Timestamp} {t : Float} {l r : Ledger} {k at q : ℕ} {was mid last : List ℕ} {a : Stated} {u : Scene}
-      → Puts was at (levelWords (s .worlds)) q mid
-      → n .0 ≡ sumOf (stampOf (s .worlds .left) .0) 1 → t ≡ levelWeight (s .worlds .weight) p → l ≡ applies (s .left) 0 0 → r ≡ applies (s .right) 0 0 → k ≡ (s .steps + 1) % 2 ^ 32
+  pub level-plays : {f : ReconciliationStatus} {n : Timestamp} {t : Float} {l r : Ledger} {k at q : ℕ} {was mid last : List ℕ} {a : Stated} {u : Scene}
+      → f ≡ statusOf (s .worlds) → Puts was at (levelWords (s .worlds)) q mid
+      → n .0 ≡ sumOf (stampOf (s .worlds .left) .0) 1 → t ≡ levelWeight f (s .worlds .weight) p → l ≡ applies (s .left) 0 0 → r ≡ applies (s .right) 0 0 → k ≡ (s .steps + 1) % 2 ^ 32
       → States (publishedBlended (levelWith s n t l r k)) (levelWith s n t l r k) mid q a last → u ≡ withState (levelWith s n t l r k) (a .state)
       → Plays (frameOf m p s) was at (record { scene = u; at = a .at }) last
-  level-plays {n} {t} {l} {r} {k} {at} {q} {was} {mid} hp hn ht hl hr hk ha hu =
+  level-plays {f} {n} {t} {l} {r} {k} {at} {q} {was} {mid} hf hp hn ht hl hr hk ha hu =
       let e : Scene = levelWith s n t l r k in
-      let steps : Plays (record { scene = levelled (reweighted p s); words = levelWords (s .worlds) }) was at (record { scene = e; at = q }) mid = record { scene = level-scene hn ht hl hr hk; puts = hp } in
+      let weight : t ≡ levelWeight (statusOf (s .worlds)) (s .worlds .weight) p = ht ∙ ap (λ (x : ReconciliationStatus). levelWeight x (s .worlds .weight) p) hf in
+      let steps : Plays (record { scene = levelled (reweighted p s); words = levelWords (s .worlds) }) was at (record { scene = e; at = q }) mid = record { scene = level-scene hn weight hl hr hk; puts = hp } in
       plays-as level-frame (plays-then publishedBlended steps (stated-plays e ha hu))

@@ -1,11 +1,10 @@
 -- What inner functions of the code give: a world that steps apart from its scene is put back, a buffer that stays as it is at a step, and a frame of two such. No contract of a call cites this module.
 -- Definitions only. Assumes nothing.
 use Prim.Native.Nat.{ℕ}
-use mathlib.Core.Bool.{Bool, true, false, cond, not, _&&_}
+use mathlib.Core.Bool.{Bool, true, false, not, _&&_}
 use mathlib.Core.List.{List, [], _∷_}
 use lib.Dec.{eqb}
-use lib.IntN.{pos}
-use lib.Ieee.{Float, fin, binary64, add, lt}
+use lib.Ieee.{Float, binary64, add}
 use lib.ListN.{length}
 use Rattle.timestamp.specs.declared.Timestamp.{Timestamp}
 use Rattle.tape.specs.Words.{stepWord}
@@ -13,12 +12,15 @@ use Rattle.command.specs.declared.CommandBuffer.{CommandBuffer}
 use Rattle.command.specs.Buffer.{movedOf, takenOf}
 use Rattle.simulation.specs.declared.Simulation.{Simulation}
 use Rattle.simulation.specs.World.{nextStamp}
+use Rattle.client.specs.declared.ReconciliationStatus.{ReconciliationStatus}
+use Rattle.client.specs.declared.ReconciliationStatus.the-variants.{AwaitingSnapshot, Fastforwarding, Blending}
 use Rattle.client.specs.declared.Queued.{Queued}
 use Rattle.client.specs.declared.Queued.the-variants.{Nothing, Held}
 use Rattle.client.specs.declared.ClientWorldSimulations.{ClientWorldSimulations}
 use Rattle.client.specs.declared.Ledger.{Ledger}
 use Rattle.client.specs.declared.Scene.{Scene}
 use Rattle.client.specs.Sides.{newSideOf, oldSideOf, withWorld, stampOf, withLedger}
+use Rattle.client.specs.Status.{statusOf}
 use Rattle.client_frame.specs.Frame.{clamped}
 
 -- the scene with a world and its ledger at a side, and another count of steps
@@ -33,26 +35,22 @@ waitsOf b t = eqb (length (takenOf b t)) 0 && eqb (movedOf b t .dropped) 0
 abbrev pub worldWaits : Simulation → Bool
 worldWaits w = waitsOf (w .commands) (nextStamp (stampOf w))
 
--- nothing is queued
-abbrev pub isNothing : Queued → Bool
-isNothing Nothing = true
-isNothing (Held t h) = false
+-- a frame of this status, with q queued, leaves both worlds level: it blends, or it awaits and nothing is queued
+unfoldable pub levelBy : ReconciliationStatus → Queued → Bool
+levelBy AwaitingSnapshot Nothing = true
+levelBy AwaitingSnapshot (Held t h) = false
+levelBy (Blending t) q = true
+levelBy (Fastforwarding h) q = false
 
--- a weight is below 1, so that equal stamps blend
-abbrev pub isBlending : Float → Bool
-isBlending t = lt t (fin false 1 (pos 0))
-
--- a frame of worlds with equal stamps loads nothing: it blends, or nothing is queued
-unfoldable pub loadsNothing : ClientWorldSimulations → Bool
-loadsNothing w = cond (isBlending (w .weight)) true (isNothing (w .snapshots .queued))
-
--- a frame with m catch-up steps at most is level: it has one, both stamps are equal, nothing loads, and both buffers wait
+-- a frame with m catch-up steps at most is level: it has one, its status leaves both worlds level, and both buffers wait
 unfoldable pub isLevel : ClientWorldSimulations → ℕ → Bool
-isLevel w m = not (eqb m 0) && (eqb (stampOf (w .left) .0) (stampOf (w .right) .0) && (loadsNothing w && (worldWaits (w .left) && worldWaits (w .right))))
+isLevel w m = not (eqb m 0) && (levelBy (statusOf w) (w .snapshots .queued) && (worldWaits (w .left) && worldWaits (w .right)))
 
--- the weight after a level frame: it moves on where the frame blends
-unfoldable pub levelWeight : Float → Float → Float
-levelWeight t progress = cond (isBlending t) (clamped (add binary64 t progress)) t
+-- the weight after a level frame of this status: the one it blends with moves on, any other stays
+unfoldable pub levelWeight : ReconciliationStatus → Float → Float → Float
+levelWeight AwaitingSnapshot weight progress = weight
+levelWeight (Blending t) weight progress = clamped (add binary64 t progress)
+levelWeight (Fastforwarding h) weight progress = weight
 
 -- the words of a level frame's steps
 unfoldable pub levelWords : ClientWorldSimulations → List ℕ

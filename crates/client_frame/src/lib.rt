@@ -6,7 +6,7 @@ ghost use Rattle.client.specs.Sides.{Plays, oldStampOf, applies};
 ghost use Rattle.tape.specs.Tape.{Puts};
 ghost use Rattle.client_publish.specs.Inner.{States};
 ghost use Rattle.client_frame.specs.Frame.{loadsOf, readiedWith, loadedOf, clamped, blendedOn, resetNew, openedOf, steppedSide, caughtUpOf, caughtOf, simulatedOf, blendedBy, publishedBy, isObsolete, tooFarOf, stopsOf, shownOf, frameOf, frameStops, Frames};
-ghost use Rattle.client_frame.specs.Inner.{putBack, waitsOf, loadsNothing, isLevel, levelWeight, levelWords};
+ghost use Rattle.client_frame.specs.Inner.{putBack, waitsOf, levelBy, isLevel, levelWeight, levelWords};
 use client::ClientWorldSimulations;
 use client::FastforwardingHealth;
 use client::Framed;
@@ -479,56 +479,54 @@ pub fn step(s: Scene, m: u32, progress: f64, tape: &mut [u32], at: usize) -> Fra
     }
 }
 
-// Whether a frame of worlds with equal stamps loads nothing: it blends, or nothing is queued.
-pub fn loads_nothing(w: ClientWorldSimulations) -> bool
-    ensures { λ r. ⌜ r ≡ loadsNothing w ⌝ }
+// Whether a frame of this status, with q queued, leaves both worlds level: it blends, or it awaits and nothing is queued.
+pub fn stays_level(t: ReconciliationStatus, q: Queued) -> bool
+    ensures { λ r. ⌜ r ≡ levelBy t q ⌝ }
 {
-    if w.weight < 1.0 {
-        return true;
-    }
-    let s = w.snapshots;
-    let q = s.queued;
-    match q {
-        Queued::Nothing => true,
-        Queued::Held {
-            stamp: _,
-            handle: _,
-        } => false,
+    match t {
+        ReconciliationStatus::AwaitingSnapshot => match q {
+            Queued::Nothing => true,
+            Queued::Held {
+                stamp: _,
+                handle: _,
+            } => false,
+        },
+        ReconciliationStatus::Blending(_) => true,
+        ReconciliationStatus::Fastforwarding(_) => false,
     }
 }
 
-// Whether a frame with m catch-up steps at most is level: both worlds have one stamp, nothing loads, and both buffers wait, so that each
-// world makes one step that moves its stamp only.
+// Whether a frame with m catch-up steps at most is level: its status leaves both worlds level, and both buffers wait, so that each world
+// makes one step that moves its stamp only.
 pub fn is_level(w: ClientWorldSimulations, m: u32) -> bool
     ensures { λ r. ⌜ r ≡ isLevel w m ⌝ }
 {
     if m == 0 {
         return false;
     }
+    let t = status::infer_current_reconciliation_status(w);
+    let s = w.snapshots;
+    let q = s.queued;
+    if !stays_level(t, q) {
+        return false;
+    }
     let left = w.left;
+    if !waits(left.commands, sides::stamp_of(left).add(1)) {
+        return false;
+    }
     let right = w.right;
-    let a = sides::stamp_of(left);
-    let b = sides::stamp_of(right);
-    if a.0 != b.0 {
-        return false;
-    }
-    if !loads_nothing(w) {
-        return false;
-    }
-    if !waits(left.commands, a.add(1)) {
-        return false;
-    }
-    waits(right.commands, b.add(1))
+    waits(right.commands, sides::stamp_of(right).add(1))
 }
 
-// The weight after a level frame: it moves on where the frame blends.
-pub fn level_weight(weight: f64, progress: f64) -> f64
-    ensures { λ r. ⌜ r ≡ levelWeight weight progress ⌝ }
+// The weight after a level frame of this status: the one that it blends with moves on, any other stays.
+pub fn level_weight(t: ReconciliationStatus, weight: f64, progress: f64) -> f64
+    ensures { λ r. ⌜ r ≡ levelWeight t weight progress ⌝ }
 {
-    if weight < 1.0 {
-        return clamp(weight + progress);
+    match t {
+        ReconciliationStatus::AwaitingSnapshot => weight,
+        ReconciliationStatus::Blending(x) => clamp(x + progress),
+        ReconciliationStatus::Fastforwarding(_) => weight,
     }
-    weight
 }
 
 // The words of a level frame's steps: the old world's, then the new one's.
@@ -547,6 +545,7 @@ pub fn level_frame(s: Scene, m: u32, progress: f64, tape: &mut [u32], at: usize)
     ensures { λ r. ⌜ Plays (frameOf m progress s) (now (tape .entry)) at r (now (tape .exit)) ⌝ }
 {
     let w = s.worlds;
+    let t = status::infer_current_reconciliation_status(w);
     let p = put_steps(w, tape, at);
     let mut left = w.left;
     let mut right = w.right;
@@ -560,7 +559,7 @@ pub fn level_frame(s: Scene, m: u32, progress: f64, tape: &mut [u32], at: usize)
     let mut v = w;
     v.left = left;
     v.right = right;
-    v.weight = level_weight(w.weight, progress);
+    v.weight = level_weight(t, w.weight, progress);
     let mut e = s;
     e.worlds = v;
     e.left = count(s.left, 0, 0);

@@ -8,6 +8,10 @@ use Rattle.client_frame.proofs.Levelling.{level-plays}
 use Rattle.client_frame.proofs.level_frame.Statement.{statement}
 use Rattle.client_frame.proofs.level_frame.Tie as tie
 
+infer-current-reconciliation-status-requires :
+    tie.Need-infer-current-reconciliation-status-requires
+infer-current-reconciliation-status-requires c κs = search needs
+
 put-steps-requires : tie.Need-put-steps-requires
 put-steps-requires c κs = search needs
 
@@ -30,7 +34,7 @@ publish-blended-state-requires : tie.Need-publish-blended-state-requires
 unfolding levelWords
 publish-blended-state-requires c κs =
     let p = c .before .before .before .before .before .before .before .before .before .before .before .before in
-    omega (arith, p .put-steps .ensures .at, p .before .before .before .before .pre .0)
+    omega (arith, p .put-steps .ensures .at, p .before .before .before .before .before .pre .0)
 
 with-state-requires : tie.Need-with-state-requires
 with-state-requires c κs = search needs
@@ -50,13 +54,15 @@ returns c =
     let t = x .before in
     let n = t .before in
     let p = n .before .before .before .before .before .before .before in
-    level-plays _ _ _ (p .before .before .before .before .pre .1) (p .put-steps .ensures) (n .add .ensures) (t .level-weight .ensures) (x .count .ensures) (y .count2 .ensures) (k .wrapping-add-u32 .ensures)
+    let f = p .before .before in
+    level-plays _ _ _ (f .before .before .before .pre .1) (f .infer-current-reconciliation-status .ensures) (p .put-steps .ensures) (n .add .ensures) (t .level-weight .ensures) (x .count .ensures) (y .count2 .ensures) (k .wrapping-add-u32 .ensures)
     (r .publish-blended-state .ensures) (c .with-state .ensures)
 
 pub level-frame-spec : {M : Type 1} → statement M
 level-frame-spec =
     tie.close
     (tie.spec
+    infer-current-reconciliation-status-requires
     put-steps-requires
     add-requires
     level-weight-requires
