@@ -2,4 +2,3 @@ pub mod Bounds
 pub mod Framing
 pub mod Waiting
 pub mod Catching
-pub mod Levelling

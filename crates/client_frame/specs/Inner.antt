@@ -1,27 +1,16 @@
--- What inner functions of the code give: a world that steps apart from its scene is put back, a buffer that stays as it is at a step, and a frame of two such. No contract of a call cites this module.
+-- What inner functions of the code give: a world that steps apart from its scene is put back, and a buffer that a step leaves as it is. No contract of a call cites this module.
 -- Definitions only. Assumes nothing.
 use Prim.Native.Nat.{ℕ}
-use mathlib.Core.Bool.{Bool, true, false, not, _&&_}
-use mathlib.Core.List.{List, [], _∷_}
+use mathlib.Core.Bool.{Bool, _&&_}
 use lib.Dec.{eqb}
-use lib.Ieee.{Float, binary64, add}
 use lib.ListN.{length}
 use Rattle.timestamp.specs.declared.Timestamp.{Timestamp}
-use Rattle.tape.specs.Words.{stepWord}
 use Rattle.command.specs.declared.CommandBuffer.{CommandBuffer}
 use Rattle.command.specs.Buffer.{movedOf, takenOf}
 use Rattle.simulation.specs.declared.Simulation.{Simulation}
-use Rattle.simulation.specs.World.{nextStamp}
-use Rattle.client.specs.declared.ReconciliationStatus.{ReconciliationStatus}
-use Rattle.client.specs.declared.ReconciliationStatus.the-variants.{AwaitingSnapshot, Fastforwarding, Blending}
-use Rattle.client.specs.declared.Queued.{Queued}
-use Rattle.client.specs.declared.Queued.the-variants.{Nothing, Held}
-use Rattle.client.specs.declared.ClientWorldSimulations.{ClientWorldSimulations}
 use Rattle.client.specs.declared.Ledger.{Ledger}
 use Rattle.client.specs.declared.Scene.{Scene}
-use Rattle.client.specs.Sides.{newSideOf, oldSideOf, withWorld, stampOf, withLedger}
-use Rattle.client.specs.Status.{statusOf}
-use Rattle.client_frame.specs.Frame.{clamped}
+use Rattle.client.specs.Sides.{withWorld, withLedger}
 
 -- the scene with a world and its ledger at a side, and another count of steps
 unfoldable pub putBack : Scene → ℕ → Simulation → Ledger → ℕ → Scene
@@ -30,28 +19,3 @@ putBack s side w l n = withLedger (record { worlds = withWorld (s .worlds) side 
 -- a buffer stays as it is at a step to the stamp t: nothing is due, and nothing leaves the range
 unfoldable pub waitsOf : CommandBuffer → Timestamp → Bool
 waitsOf b t = eqb (length (takenOf b t)) 0 && eqb (movedOf b t .dropped) 0
-
--- a world's buffer stays as it is at its next step
-abbrev pub worldWaits : Simulation → Bool
-worldWaits w = waitsOf (w .commands) (nextStamp (stampOf w))
-
--- a frame of this status, with q queued, leaves both worlds level: it blends, or it awaits and nothing is queued
-unfoldable pub levelBy : ReconciliationStatus → Queued → Bool
-levelBy AwaitingSnapshot Nothing = true
-levelBy AwaitingSnapshot (Held t h) = false
-levelBy (Blending t) q = true
-levelBy (Fastforwarding h) q = false
-
--- a frame with m catch-up steps at most is level: it has one, its status leaves both worlds level, and both buffers wait
-unfoldable pub isLevel : ClientWorldSimulations → ℕ → Bool
-isLevel w m = not (eqb m 0) && (levelBy (statusOf w) (w .snapshots .queued) && (worldWaits (w .left) && worldWaits (w .right)))
-
--- the weight after a level frame of this status: the one it blends with moves on, any other stays
-unfoldable pub levelWeight : ReconciliationStatus → Float → Float → Float
-levelWeight AwaitingSnapshot weight progress = weight
-levelWeight (Blending t) weight progress = clamped (add binary64 t progress)
-levelWeight (Fastforwarding h) weight progress = weight
-
--- the words of a level frame's steps
-unfoldable pub levelWords : ClientWorldSimulations → List ℕ
-levelWords w = stepWord (oldSideOf w) ∷ stepWord (newSideOf w) ∷ []

@@ -6,7 +6,7 @@ ghost use Rattle.client.specs.Sides.{Plays, oldStampOf, applies};
 ghost use Rattle.tape.specs.Tape.{Puts};
 ghost use Rattle.client_publish.specs.Inner.{States};
 ghost use Rattle.client_frame.specs.Frame.{loadsOf, readiedWith, loadedOf, clamped, blendedOn, resetNew, openedOf, steppedSide, caughtUpOf, caughtOf, simulatedOf, blendedBy, publishedBy, isObsolete, tooFarOf, stopsOf, shownOf, frameOf, frameStops, Frames};
-ghost use Rattle.client_frame.specs.Inner.{putBack, waitsOf, levelBy, isLevel, levelWeight, levelWords};
+ghost use Rattle.client_frame.specs.Inner.{putBack, waitsOf};
 use client::ClientWorldSimulations;
 use client::FastforwardingHealth;
 use client::Framed;
@@ -476,100 +476,5 @@ pub fn step(s: Scene, m: u32, progress: f64, tape: &mut [u32], at: usize) -> Fra
         scene: after,
         at: b.at,
         stops: stops(t, q, w, e),
-    }
-}
-
-// Whether a frame of this status, with q queued, leaves both worlds level: it blends, or it awaits and nothing is queued.
-pub fn stays_level(t: ReconciliationStatus, q: Queued) -> bool
-    ensures { λ r. ⌜ r ≡ levelBy t q ⌝ }
-{
-    match t {
-        ReconciliationStatus::AwaitingSnapshot => match q {
-            Queued::Nothing => true,
-            Queued::Held {
-                stamp: _,
-                handle: _,
-            } => false,
-        },
-        ReconciliationStatus::Blending(_) => true,
-        ReconciliationStatus::Fastforwarding(_) => false,
-    }
-}
-
-// Whether a frame with m catch-up steps at most is level: its status leaves both worlds level, and both buffers wait, so that each world
-// makes one step that moves its stamp only.
-pub fn is_level(w: ClientWorldSimulations, m: u32) -> bool
-    ensures { λ r. ⌜ r ≡ isLevel w m ⌝ }
-{
-    if m == 0 {
-        return false;
-    }
-    let t = status::infer_current_reconciliation_status(w);
-    let s = w.snapshots;
-    let q = s.queued;
-    if !stays_level(t, q) {
-        return false;
-    }
-    let left = w.left;
-    if !waits(left.commands, sides::stamp_of(left).add(1)) {
-        return false;
-    }
-    let right = w.right;
-    waits(right.commands, sides::stamp_of(right).add(1))
-}
-
-// The weight after a level frame of this status: the one that it blends with moves on, any other stays.
-pub fn level_weight(t: ReconciliationStatus, weight: f64, progress: f64) -> f64
-    ensures { λ r. ⌜ r ≡ levelWeight t weight progress ⌝ }
-{
-    match t {
-        ReconciliationStatus::AwaitingSnapshot => weight,
-        ReconciliationStatus::Blending(x) => clamp(x + progress),
-        ReconciliationStatus::Fastforwarding(_) => weight,
-    }
-}
-
-// The words of a level frame's steps: the old world's, then the new one's.
-pub fn put_steps(w: ClientWorldSimulations, tape: &mut [u32], at: usize) -> usize
-    requires { ⌜ at < 2000000000 ⌝ }
-    ensures { λ r. ⌜ Puts (now (tape .entry)) at (levelWords w) r (now (tape .exit)) ⌝ }
-{
-    let p = tape::put(tape, at, tape::step_word(sides::old_side(w)));
-    tape::put(tape, p, tape::step_word(sides::new_side(w)))
-}
-
-// A level frame: both stamps move on by one, and the worlds are published by the weight. The scene is changed in place, so that no buffer
-// is built anew.
-pub fn level_frame(s: Scene, m: u32, progress: f64, tape: &mut [u32], at: usize) -> Shown
-    requires { ⌜ (at < 2000000000) × (isLevel (s .worlds) m ≡ true) ⌝ }
-    ensures { λ r. ⌜ Plays (frameOf m progress s) (now (tape .entry)) at r (now (tape .exit)) ⌝ }
-{
-    let w = s.worlds;
-    let t = status::infer_current_reconciliation_status(w);
-    let p = put_steps(w, tape, at);
-    let mut left = w.left;
-    let mut right = w.right;
-    let mut a = left.commands;
-    let mut b = right.commands;
-    let next = a.timestamp.add(1);
-    a.timestamp = next;
-    b.timestamp = next;
-    left.commands = a;
-    right.commands = b;
-    let mut v = w;
-    v.left = left;
-    v.right = right;
-    v.weight = level_weight(t, w.weight, progress);
-    let mut e = s;
-    e.worlds = v;
-    e.left = count(s.left, 0, 0);
-    e.right = count(s.right, 0, 0);
-    let steps = s.steps;
-    e.steps = std::num::wrapping_add_u32(steps, 1);
-    let r = client_publish::publish_blended_state(e, tape, p);
-    let state = r.state;
-    Shown {
-        scene: client_publish::with_state(e, state),
-        at: r.at,
     }
 }

@@ -19,10 +19,10 @@ use Rattle.client.specs.declared.ClientWorldSimulations.{ClientWorldSimulations
 use Rattle.client.specs.declared.Ledger.{Ledger}
 use Rattle.client.specs.declared.Scene.{Scene}
 use Rattle.client.specs.declared.Received.{Received}
-use Rattle.client.specs.Sides.{newSideOf, oldSideOf, worldOf, withWorld, withSnapshots, withLedger, ledgerOf, counted, takes, oldStampOf}
+use Rattle.client.specs.Sides.{newSideOf, oldSideOf, worldOf, withWorld, withLedger, ledgerOf, counted, takes}
 use Rattle.client.specs.Status.{laterOf}
 use Rattle.client_receive.specs.Inner.{anyFull}
-use Rattle.client_receive.specs.Receive.{fullBy, offeredBase, offeredSide, receivedOf, fromFutureOf, freshOf, notedOf, snapshotsBy, snapshotsOf, notesOf}
+use Rattle.client_receive.specs.Receive.{fullBy, offeredBase, offeredSide, receivedOf, fromFutureOf, freshOf, notedOf, snapshotsBy, snapshotsOf}
 
 -- ---- commands
 
@@ -148,8 +148,3 @@ module _ (s : Snapshots) (old t : Timestamp) (h : ℕ) where
   unfolding snapshotsBy
   snapshots-stale hf e hg d hl =
       ap (λ (x : LastStamp). record { queued = s .queued; lastqueued = x; lastreceived = Last t }) hl ∙ snapshots-is (sym hf ∙ e) (sym hg ∙ d)
-
--- a snapshot that arrived
-pub notes-is : (w : ClientWorldSimulations) (t : Timestamp) (h : ℕ) {old : Timestamp} {s : Snapshots} → old ≡ oldStampOf w → s ≡ snapshotsOf (w .snapshots) old t h → withSnapshots w s ≡ notesOf w t h
-unfolding notesOf
-notes-is w t h ho hs = ap (λ (x : Snapshots). withSnapshots w x) (hs ∙ ap (λ (x : Timestamp). snapshotsOf (w .snapshots) x t h) ho)

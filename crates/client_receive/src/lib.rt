@@ -1,9 +1,9 @@
-// Commands and snapshots that arrive: `receive_command` and `receive_snapshot` of src/client.rs of crystalorb.
+// Commands and snapshots that arrive: `receive_command` and what `receive_snapshot` decides, of src/client.rs of crystalorb.
 ghost use mathlib.Core.Path.{_≡_};
 ghost use Rattle.command.specs.Buffer.{takenBy};
 ghost use Rattle.client.specs.Sides.{takes};
 ghost use Rattle.client_receive.specs.Inner.{anyFull};
-ghost use Rattle.client_receive.specs.Receive.{fullBy, receivedOf, fromFutureOf, freshOf, notedOf, snapshotsOf, notesOf};
+ghost use Rattle.client_receive.specs.Receive.{fullBy, receivedOf, fromFutureOf, freshOf, notedOf, snapshotsOf};
 use client::ClientWorldSimulations;
 use client::LastStamp;
 use client::Ledger;
@@ -152,20 +152,4 @@ pub fn snapshots_with(s: Snapshots, old: Timestamp, stamp: Timestamp, handle: u3
         lastqueued: noted(q, last),
         lastreceived: received,
     }
-}
-
-// A snapshot arrives.
-pub fn receive_snapshot(
-    w: ClientWorldSimulations,
-    stamp: Timestamp,
-    handle: u32,
-) -> ClientWorldSimulations
-    ensures { λ r. ⌜ r ≡ notesOf w stamp handle ⌝ }
-{
-    let old = sides::last_completed_timestamp(w);
-    let s = w.snapshots;
-    let next = snapshots_with(s, old, stamp, handle);
-    let mut t = w;
-    t.snapshots = next;
-    t
 }

@@ -15,8 +15,8 @@ use Rattle.client.specs.declared.Scene.{Scene}
 use Rattle.client.specs.declared.Shown.{Shown}
 use Rattle.client.specs.Sides.{oldStampOf, Plays}
 use Rattle.client_frame.specs.Frame.{frameOf, frameStops}
-use Rattle.client_frame.specs.Inner.{isLevel}
-use Rattle.client_frame.proofs.Levelling.{level-stops, level-stamp}
+use Rattle.client_level.specs.Level.{isLevel}
+use Rattle.client_level.proofs.Levelling.{level-stops, level-stamp}
 use Rattle.fixed_timestepper.specs.declared.Stop.the-variants.{Done}
 use Rattle.fixed_timestepper.specs.declared.Advanced.{Advanced}
 use Rattle.fixed_timestepper.specs.TimeKeeper.{nought, Run, ended, framed, goesOn, runOf, skipsOf, Advances}

@@ -14,7 +14,7 @@ use Rattle.settings.specs.Tweening.{shapedOf}
 use Rattle.client.specs.declared.ClientWorldSimulations.{ClientWorldSimulations}
 use Rattle.client.specs.declared.Scene.{Scene}
 use Rattle.simulation.specs.World.{nextStamp}
-use Rattle.client_frame.specs.Inner.{isLevel}
+use Rattle.client_level.specs.Level.{isLevel}
 use Rattle.client_skip.specs.Skip.{tweenOf, postUpdateOf}
 use Rattle.fixed_timestepper.specs.declared.Stop.{Stop}
 use Rattle.fixed_timestepper.specs.declared.Stop.the-variants.{Done, TooManyFrames, StatusStops, WeightStops}

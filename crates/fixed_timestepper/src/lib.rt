@@ -5,7 +5,7 @@ ghost use mathlib.Core.Bool.{true};
 ghost use Prim.Native.Nat.{_≤_, _<_};
 ghost use Rattle.fixed_timestepper.specs.TimeKeeper.{absOf, atLeastZero, logicalOf, driftOf, beyondDeadband, compensatedOf, runOf, skipsOf, Advances};
 ghost use Rattle.fixed_timestepper.specs.Inner.{isSingle, levelRun, Skips, endedOf, unendedOf};
-ghost use Rattle.client_frame.specs.Inner.{isLevel};
+ghost use Rattle.client_level.specs.Level.{isLevel};
 use client::ClientWorldSimulations;
 use client::Scene;
 use client::sides;
@@ -178,7 +178,7 @@ pub fn is_level(
     if !is_single(overshoot, t) {
         return false;
     }
-    if !client_frame::is_level(worlds, settings.m) {
+    if !client_level::is_level(worlds, settings.m) {
         return false;
     }
     !skips(stamp.add(1), overshoot + t, server, settings)
@@ -190,7 +190,7 @@ pub fn level_run(scene: Scene, overshoot: f64, settings: Settings, tape: &mut [u
     ensures { λ r. ⌜ Advances (runOf 65 settings scene overshoot) (now (tape .entry)) r (now (tape .exit)) ⌝ }
 {
     let progress = settings.blend_progress_per_frame();
-    let f = client_frame::level_frame(scene, settings.m, progress, tape, 0);
+    let f = client_level::level_frame(scene, settings.m, progress, tape, 0);
     let after = f.scene;
     let done = Stop::Done;
     Advanced {

@@ -3,10 +3,10 @@ use borrow.Author.Needs.{needs}
 use native.Mathlib.Omega.{arith}
 use mathlib.Core.Path.{_∙_}
 use Rattle.tape.proofs.Writing.{puts-length}
-use Rattle.client_frame.specs.Inner.{levelWords}
-use Rattle.client_frame.proofs.Levelling.{level-plays}
-use Rattle.client_frame.proofs.level_frame.Statement.{statement}
-use Rattle.client_frame.proofs.level_frame.Tie as tie
+use Rattle.client_level.specs.Level.{levelWords}
+use Rattle.client_level.proofs.Levelling.{level-plays}
+use Rattle.client_level.proofs.level_frame.Statement.{statement}
+use Rattle.client_level.proofs.level_frame.Tie as tie
 
 infer-current-reconciliation-status-requires :
     tie.Need-infer-current-reconciliation-status-requires

@@ -1,8 +1,8 @@
 -- `stays_level` meets its contract: the status and what is queued decide. Assumes nothing.
 use borrow.Author.Needs.{needs}
-use Rattle.client_frame.specs.Inner.{levelBy}
-use Rattle.client_frame.proofs.stays_level.Statement.{statement}
-use Rattle.client_frame.proofs.stays_level.Tie as tie
+use Rattle.client_level.specs.Level.{levelBy}
+use Rattle.client_level.proofs.stays_level.Statement.{statement}
+use Rattle.client_level.proofs.stays_level.Tie as tie
 
 enum-told : tie.Need-enum-told
 enum-told c = search needs

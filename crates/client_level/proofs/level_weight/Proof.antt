@@ -1,9 +1,9 @@
 -- `level_weight` meets its contract: the status decides. Assumes nothing.
 use borrow.Author.Needs.{needs}
-use Rattle.client_frame.specs.Inner.{levelWeight}
-use Rattle.client_frame.proofs.Levelling.{weight-on}
-use Rattle.client_frame.proofs.level_weight.Statement.{statement}
-use Rattle.client_frame.proofs.level_weight.Tie as tie
+use Rattle.client_level.specs.Level.{levelWeight}
+use Rattle.client_level.proofs.Levelling.{weight-on}
+use Rattle.client_level.proofs.level_weight.Statement.{statement}
+use Rattle.client_level.proofs.level_weight.Tie as tie
 
 enum-told : tie.Need-enum-told
 enum-told c = search needs

@@ -1,8 +1,8 @@
 -- `put_steps` meets its contract: one word after the other. Assumes nothing.
 use borrow.Author.Needs.{needs}
-use Rattle.client_frame.proofs.Levelling.{steps-put}
-use Rattle.client_frame.proofs.put_steps.Statement.{statement}
-use Rattle.client_frame.proofs.put_steps.Tie as tie
+use Rattle.client_level.proofs.Levelling.{steps-put}
+use Rattle.client_level.proofs.put_steps.Statement.{statement}
+use Rattle.client_level.proofs.put_steps.Tie as tie
 
 old-side-requires : tie.Need-old-side-requires
 old-side-requires c κs = search needs

@@ -1,9 +1,9 @@
 -- `is_level` meets its contract: one test after another. Assumes nothing.
 use borrow.Author.Needs.{needs}
 use borrow.Author.Tests.{not-true, not-false}
-use Rattle.client_frame.proofs.Levelling.{level-none, level-status, level-left, level-right}
-use Rattle.client_frame.proofs.is_level.Statement.{statement}
-use Rattle.client_frame.proofs.is_level.Tie as tie
+use Rattle.client_level.proofs.Levelling.{level-none, level-status, level-left, level-right}
+use Rattle.client_level.proofs.is_level.Statement.{statement}
+use Rattle.client_level.proofs.is_level.Tie as tie
 
 returns : tie.Need-returns
 returns c = level-none _ _ (c .if1 .taken)
