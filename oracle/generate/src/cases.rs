@@ -39,10 +39,10 @@ pub const ALL: &[Case] = &[
         p_catch_up,
     ),
     case(
-        "stop26-healthy-half-lap",
+        "stop26-healthy-half-cycle",
         "26: Healthy with N - O = -32,768, refused again while nothing changes; \
          one frame less and one frame more are no 26.",
-        stop26_healthy_half_lap,
+        stop26_healthy_half_cycle,
     ),
     case(
         "stop26-obsolete-ahead",
@@ -51,7 +51,7 @@ pub const ALL: &[Case] = &[
     ),
     case(
         "stop26-healthy-ends-obsolete",
-        "26: a frame that began Healthy ends Obsolete, half a lap past a queued snapshot.",
+        "26: a frame that began Healthy ends Obsolete, half a cycle past a queued snapshot.",
         stop26_healthy_ends_obsolete,
     ),
     case(
@@ -82,9 +82,9 @@ pub const ALL: &[Case] = &[
         skip_back,
     ),
     case(
-        "skip-half-lap",
-        "A skip of exactly half a lap counts as earlier and leaves out every waiting command.",
-        skip_half_lap,
+        "skip-half-cycle",
+        "A skip of exactly half a cycle counts as earlier and leaves out every waiting command.",
+        skip_half_cycle,
     ),
     case(
         "skip-forward",
@@ -347,7 +347,7 @@ const SLOW: Settings = Settings {
     ..P
 };
 
-fn stop26_healthy_half_lap(out: &mut Out) {
+fn stop26_healthy_half_cycle(out: &mut Out) {
     for near in [0, -1, 1] {
         let mut rng = unused();
         let mut run = exact(out, &mut rng, SLOW, 1, 2, 100);
@@ -395,7 +395,7 @@ fn stop26_healthy_ends_obsolete(out: &mut Out) {
     // A snapshot that a skip back leaves ahead of the old world resets last queued.
     let inbox = text::snapshot(run.stamp(), 6);
     run.update(0, run.old - 3, &inbox);
-    // One just after the reset stamp is queued, almost half a lap behind.
+    // One just after the reset stamp is queued, almost half a cycle behind.
     let inbox = text::snapshot(run.stamp().wrapping_sub(32_765), 8);
     run.play(1, &inbox);
     for _ in 0..12 {
@@ -503,7 +503,7 @@ fn skip_back(out: &mut Out) {
     run.run.report();
 }
 
-fn skip_half_lap(out: &mut Out) {
+fn skip_half_cycle(out: &mut Out) {
     let mut rng = unused();
     let mut run = exact(out, &mut rng, P, 4, 10, 100);
     make_ready(&mut run);
@@ -653,7 +653,7 @@ fn inbox_lengths(out: &mut Out) {
         .flat_map(|_| text::clock(7, 103.0, 103.0))
         .collect();
     run.play(1, &clocks);
-    // Half a lap away: read and taken by no buffer.
+    // Half a cycle away: read and taken by no buffer.
     let far: Vec<u32> = (0..2_048).flat_map(|_| text::command(-32_000, 1)).collect();
     run.play(1, &far);
     let mut one_more = far;

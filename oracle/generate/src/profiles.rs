@@ -64,7 +64,7 @@ pub const ALL: &[Profile] = &[
     profile(
         "skip",
         12,
-        "skips forward and back, of half a lap and around the wrap, with waiting commands",
+        "skips forward and back, of half a cycle and around the wrap, with waiting commands",
         skips::skip,
     ),
     profile(
@@ -76,13 +76,13 @@ pub const ALL: &[Profile] = &[
     profile(
         "far",
         12,
-        "commands and snapshots at the edges of the range and half a lap away, with skips",
+        "commands and snapshots at the edges of the range and half a cycle away, with skips",
         skips::far,
     ),
     profile(
         "snapshots",
         14,
-        "snapshots late, stale, in the future and half a lap away, with small skips",
+        "snapshots late, stale, in the future and half a cycle away, with small skips",
         snapshots::snapshots,
     ),
     profile(
@@ -190,7 +190,7 @@ fn exact_settings(rng: &mut Rng) -> Settings {
     }
 }
 
-/// Stamps of interest around a stamp: near, at the edges of the range, and half a lap away.
+/// Stamps of interest around a stamp: near, at the edges of the range, and half a cycle away.
 fn stamp_around(rng: &mut Rng, around: i16) -> i16 {
     let difference = match rng.below(12) {
         0..=5 => rng.between(-8, 8),

@@ -35,7 +35,7 @@ fn stage_change(before: StageName, after: StageName) -> Option<&'static str> {
 
 fn skip_name(skip: Skip) -> &'static str {
     match skip.to.wrapping_sub(skip.from) {
-        i16::MIN => "skip-half-lap",
+        i16::MIN => "skip-half-cycle",
         0 => "skip-0",
         distance if distance > 0 => "skip-forward",
         _ => "skip-back",
@@ -58,7 +58,7 @@ impl Statistics {
     pub fn refused(&mut self, number: u32, kind: Option<Stop26>) {
         *self.refusals.entry(number).or_default() += 1;
         let kind = kind.map(|kind| match kind {
-            Stop26::HealthyToOvershot => "26-Healthy-half-lap-behind",
+            Stop26::HealthyToOvershot => "26-Healthy-half-cycle-behind",
             Stop26::ObsoleteToOvershot => "26-Obsolete-loads-ahead",
             Stop26::HealthyToObsolete => "26-Healthy-ends-Obsolete",
         });

@@ -63,7 +63,7 @@ pub fn buffers(out: &mut Out, rng: &mut Rng) {
     exact.play(1, &inbox);
 }
 
-/// Well-formed words: clock messages of 7 words and messages of 2 with stamps half a lap away,
+/// Well-formed words: clock messages of 7 words and messages of 2 with stamps half a cycle away,
 /// which no buffer takes.
 fn words_of_length(rng: &mut Rng, run_id: u32, old: i16, length: usize) -> Vec<u32> {
     let mut words = Vec::new();

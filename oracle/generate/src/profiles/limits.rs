@@ -219,10 +219,10 @@ fn stamp_call(rng: &mut Rng) -> String {
         2 => rng.any_float(),
         3 => {
             // Around a wrap, down to the last bits below it.
-            let lap = 65_536.0 * rng.between(-2, 2) as f64 + 32_768.0;
+            let cycle = 65_536.0 * rng.between(-2, 2) as f64 + 32_768.0;
             let near = rng.pick(&[0.0, 0.5, 1.0, -0.5, -1.0, 1.5]);
             let tiny = 2.0_f64.powi(-(rng.between(30, 40) as i32));
-            (lap + near - tiny) * timestep
+            (cycle + near - tiny) * timestep
         }
         4 => rng.range(-4.0e9, 4.0e9),
         _ => rng.range(-1.0e5, 1.0e5) * timestep,

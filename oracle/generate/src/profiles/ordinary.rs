@@ -108,8 +108,8 @@ pub fn wrap(out: &mut Out, rng: &mut Rng) {
     let style = style(rng);
     let mut run = Run::new(out, rng, settings);
     run.seconds = run.rng.range(0.0, 100.0);
-    let laps = run.rng.between(-3, 3);
-    let frame = 65_536 * laps + 32_768 - run.rng.between(0, 60);
+    let cycles = run.rng.between(-3, 3);
+    let frame = 65_536 * cycles + 32_768 - run.rng.between(0, 60);
     run.offset = frame as f64 * settings.timestep - run.seconds - settings.lag;
     if run.rng.once_in(2) {
         run.offset += run.rng.unit() * settings.timestep;

@@ -1,4 +1,4 @@
-//! Skips forward and back, half a lap, landings before the wrap, and commands far away.
+//! Skips forward and back, half a cycle, landings before the wrap, and commands far away.
 
 use super::{exact_settings, mixed_inbox, stamp_around};
 use crate::{
@@ -57,13 +57,13 @@ fn jump(exact: &mut Exact) -> (i64, i64) {
         2 => (1, old + exact.run.rng.between(100, 32_700)),
         3 | 4 => (0, old - exact.run.rng.between(1, 100)),
         5 => (0, old - exact.run.rng.between(100, 32_700)),
-        // Exactly half a lap: the frames of the update come first.
+        // Exactly half a cycle: the frames of the update come first.
         6 => (max, old + max + 32_768),
         7 => (1, old + exact.run.rng.between(32_760, 32_776)),
         8 => (1, old + 65_536 + exact.run.rng.between(-3, 3)),
         _ => {
-            let lap = old.div_euclid(65_536) * 65_536;
-            (1, lap + 32_768 + exact.run.rng.between(-2, 2))
+            let cycle = old.div_euclid(65_536) * 65_536;
+            (1, cycle + 32_768 + exact.run.rng.between(-2, 2))
         }
     }
 }
@@ -129,16 +129,16 @@ pub fn land(out: &mut Out, rng: &mut Rng) {
     let always = rng.once_in(3);
     settings.skip = if always { 0.0 } else { 2.0 * timestep };
     settings.update_max = rng.pick(&[0.0, 1.0, 4.0]) * timestep;
-    // In the first lap and without lag the last bits of a frame count are exact in seconds.
-    let first_lap = rng.once_in(3);
-    let lap = if first_lap {
+    // In the first cycle and without lag the last bits of a frame count are exact in seconds.
+    let first_cycle = rng.once_in(3);
+    let cycle = if first_cycle {
         settings.lag = 0.0;
         0.0
     } else {
         65_536.0 * rng.between(-2, 4) as f64
     };
     let mut run = Run::new(out, rng, settings);
-    let start = lap + 32_768.0 - run.rng.pick(&[3.0, 4.0, 100.0, 20_000.0, 50_000.0]);
+    let start = cycle + 32_768.0 - run.rng.pick(&[3.0, 4.0, 100.0, 20_000.0, 50_000.0]);
     run.seconds = start * timestep;
     run.open();
     run.sync(timestep);
@@ -147,10 +147,10 @@ pub fn land(out: &mut Out, rng: &mut Rng) {
             let inbox = mixed_inbox(run.rng, start as i16, 3);
             run.update(timestep, &inbox);
         }
-        let frames = if first_lap {
+        let frames = if first_cycle {
             last_bits(run.rng)
         } else {
-            lap + before_wrap(run.rng)
+            cycle + before_wrap(run.rng)
         };
         let seconds = frames * timestep - run.settings.lag;
         for _ in 0..run.rng.between(1, 3) {

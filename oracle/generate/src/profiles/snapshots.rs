@@ -1,4 +1,4 @@
-//! Snapshots late, stale, in the future and half a lap away, at every status.
+//! Snapshots late, stale, in the future and half a cycle away, at every status.
 
 use super::{exact_settings, stamp_around};
 use crate::{

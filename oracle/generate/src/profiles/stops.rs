@@ -11,7 +11,7 @@ pub fn stops(out: &mut Out, rng: &mut Rng) {
     match rng.below(3) {
         0 => {
             let near = rng.pick(&[0, 0, 0, 1, -1]);
-            healthy_half_lap(out, rng, near);
+            healthy_half_cycle(out, rng, near);
         }
         1 => {
             let ahead = rng.pick(&[1, 2, 2, 3, 5]);
@@ -45,8 +45,8 @@ fn repeat(exact: &mut Exact, times: i64) {
     exact.run.report();
 }
 
-/// The new world falls half a lap behind by a skip, give or take `near` frames.
-pub fn healthy_half_lap(out: &mut Out, rng: &mut Rng, near: i64) {
+/// The new world falls half a cycle behind by a skip, give or take `near` frames.
+pub fn healthy_half_cycle(out: &mut Out, rng: &mut Rng, near: i64) {
     let settings = slow_settings(rng);
     let start = rng.between(-40_000, 40_000);
     let mut exact = Exact::begin(out, rng, settings, 1, 2, start);
@@ -79,8 +79,8 @@ pub fn obsolete_ahead(out: &mut Out, rng: &mut Rng, ahead: i64) {
     repeat(&mut exact, times);
 }
 
-/// The new world runs half a lap past a snapshot that is still queued. The largest lag puts the
-/// last queued stamp almost half a lap back, so that such a snapshot is let in.
+/// The new world runs half a cycle past a snapshot that is still queued. The largest lag puts the
+/// last queued stamp almost half a cycle back, so that such a snapshot is let in.
 pub fn healthy_ends_obsolete(out: &mut Out, rng: &mut Rng) {
     let mut settings = slow_settings(rng);
     settings.timestep = rng.pick(&[1.0 / 512.0, 1.0 / 1024.0]);
