@@ -6,7 +6,7 @@ use Prim.Native.Nat.{ℕ}
 use native.Mathlib.Omega.{arith}
 use lib.Dec.{eqb}
 use lib.ListN.{length}
-use borrow.Author.Tests.{eq-eqb, ne-eqb, eqb-true}
+use borrow.Author.Tests.{eqb-true}
 use Rattle.timestamp.specs.declared.Timestamp.{Timestamp}
 use Rattle.timestamp.specs.Timestamps.{sumOf}
 use Rattle.tape.specs.Tape.{Puts}
@@ -14,41 +14,11 @@ use Rattle.tape.specs.Words.{stepWord}
 use Rattle.tape.proofs.Writing.{puts-as}
 use Rattle.command.specs.declared.Entry.{Entry}
 use Rattle.command.specs.declared.CommandBuffer.{CommandBuffer}
-use Rattle.command.specs.declared.Drained.{Drained}
-use Rattle.command.specs.declared.Moved.{Moved}
-use Rattle.command.specs.Buffer.{around, movedOf, takenOf, restOf, drainedOf, commandWords}
-use Rattle.command.proofs.Holding.{held-len}
-use Rattle.command.proofs.Ledger.{moved-ledger, moved-lossless, taken-short, drained-lossless}
+use Rattle.command.specs.Buffer.{around, movedOf, takenOf, restOf, commandWords}
+use Rattle.command.specs.Ranks.{waitsOf}
+use Rattle.command.proofs.Ledger.{moved-lossless, drained-lossless}
 use Rattle.simulation.specs.declared.Simulation.{Simulation}
 use Rattle.simulation.specs.World.{worldWith, nextStamp, Done, Does, stepOf}
-use Rattle.client_frame.specs.Inner.{waitsOf}
-
--- ---- the test
-
-module _ (b : CommandBuffer) (t : Timestamp) where
-  -- an empty buffer waits
-  pub waits-empty : b .len ≡ 0 → true ≡ waitsOf b t
-  unfolding waitsOf
-  waits-empty e =
-      let taken : length (takenOf b t) ≡ 0 = omega (arith, taken-short b t, held-len b) in
-      let dropped : movedOf b t .dropped ≡ 0 = omega (arith, moved-ledger b t, held-len b) in
-      rw (eq-eqb _ _ taken, eq-eqb _ _ dropped) refl
-
-  -- one with something due does not
-  pub waits-due : {d : Drained} → d ≡ drainedOf b t → (d .count ≡ 0 → ⊥) → false ≡ waitsOf b t
-  unfolding waitsOf
-  waits-due hd e =
-      let due : length (takenOf b t) ≡ 0 → ⊥ = λ z. e (ap (λ (x : Drained). x .count) hd ∙ z) in
-      rw (ne-eqb _ _ due) refl
-
-  -- with nothing due the range decides
-  pub waits-range : {d : Drained} {m : Moved} → d ≡ drainedOf b t → d .count ≡ 0 → m ≡ movedOf b t → eqb (m .dropped) 0 ≡ waitsOf b t
-  unfolding waitsOf
-  waits-range hd e hm =
-      let none : length (takenOf b t) ≡ 0 = ap (λ (x : Drained). x .count) (sym hd) ∙ e in
-      rw (eq-eqb _ _ none) (ap (λ (x : Moved). eqb (x .dropped) 0) hm)
-
--- ---- the step
 
 -- both of two tests
 pub both : (a b : Bool) → a && b ≡ true → (a ≡ true) × (b ≡ true)

@@ -6,7 +6,7 @@ ghost use Rattle.client.specs.Sides.{Plays, oldStampOf, applies};
 ghost use Rattle.tape.specs.Tape.{Puts};
 ghost use Rattle.client_publish.specs.Inner.{States};
 ghost use Rattle.client_frame.specs.Frame.{loadsOf, readiedWith, loadedOf, clamped, blendedOn, resetNew, openedOf, steppedSide, caughtUpOf, caughtOf, simulatedOf, blendedBy, publishedBy, isObsolete, tooFarOf, stopsOf, shownOf, frameOf, frameStops, Frames};
-ghost use Rattle.client_frame.specs.Inner.{putBack, waitsOf};
+ghost use Rattle.client_frame.specs.Inner.{putBack};
 use client::ClientWorldSimulations;
 use client::FastforwardingHealth;
 use client::Framed;
@@ -278,22 +278,6 @@ pub fn put_back(s: Scene, side: u32, world: Simulation, l: Ledger, steps: u32) -
     }
 }
 
-// Whether a buffer stays as it is at a step to a stamp: nothing is due, and nothing leaves the range.
-pub fn waits(b: CommandBuffer, t: Timestamp) -> bool
-    ensures { λ r. ⌜ r ≡ waitsOf b t ⌝ }
-{
-    let n = b.len;
-    if n == 0 {
-        return true;
-    }
-    let d = command::drain_up_to(b, t);
-    if d.count != 0 {
-        return false;
-    }
-    let m = command::update_timestamp(b, t);
-    m.dropped == 0
-}
-
 // The new world steps until it has reached the old one's stamp, m times at most. It steps by itself and is put back at the end, so that a
 // step copies one world and not both. Where its buffer waits only its stamp moves, in place, so that such a step copies no world.
 pub fn catch_up(s: Scene, m: u32, tape: &mut [u32], at: usize) -> Shown
@@ -318,7 +302,7 @@ pub fn catch_up(s: Scene, m: u32, tape: &mut [u32], at: usize) -> Shown
         steps = std::num::wrapping_add_u32(steps, 1);
         k += 1;
         let next = stamp.add(1);
-        if waits(t.commands, next) {
+        if command::waits(t.commands, next) {
             let mut b = t.commands;
             b.timestamp = next;
             t.commands = b;

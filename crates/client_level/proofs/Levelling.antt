@@ -32,7 +32,7 @@ use Rattle.client_publish.specs.declared.Stated.{Stated}
 use Rattle.client_publish.specs.Publish.{withState, publishedNone, publishedSide, publishedMix, nearOne, publishedBoth, publishedBlended}
 use Rattle.client_publish.specs.Inner.{States}
 use Rattle.client_frame.specs.Frame.{loadsOf, loadedQueued, clamped, blendedOn, openedOf, steppedSide, caughtUpOf, withStep, steppedNew, caughtOf, simulatedOf, blendedBy, shownOf, stopsOf, snapshotOf, openOf, frameOf, frameStops}
-use Rattle.client_frame.specs.Inner.{waitsOf}
+use Rattle.command.specs.Ranks.{waitsOf}
 use Rattle.client_level.specs.Level.{worldWaits, levelBy, isLevel, levelWeight, levelWords}
 use Rattle.client_frame.proofs.Framing.{stated-plays}
 use Rattle.client_frame.proofs.Waiting.{both, movedOn, step-waits}

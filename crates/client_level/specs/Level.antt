@@ -16,7 +16,7 @@ use Rattle.client.specs.declared.ClientWorldSimulations.{ClientWorldSimulations
 use Rattle.client.specs.Sides.{newSideOf, oldSideOf, stampOf}
 use Rattle.client.specs.Status.{statusOf}
 use Rattle.client_frame.specs.Frame.{clamped}
-use Rattle.client_frame.specs.Inner.{waitsOf}
+use Rattle.command.specs.Ranks.{waitsOf}
 
 -- a world's buffer stays as it is at its next step
 abbrev pub worldWaits : Simulation → Bool

@@ -47,11 +47,11 @@ pub fn is_level(w: ClientWorldSimulations, m: u32) -> bool
         return false;
     }
     let left = w.left;
-    if !client_frame::waits(left.commands, sides::stamp_of(left).add(1)) {
+    if !command::waits(left.commands, sides::stamp_of(left).add(1)) {
         return false;
     }
     let right = w.right;
-    client_frame::waits(right.commands, sides::stamp_of(right).add(1))
+    command::waits(right.commands, sides::stamp_of(right).add(1))
 }
 
 // The weight after a level frame of this status: the one that it blends with moves on, any other stays.

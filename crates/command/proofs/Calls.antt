@@ -57,10 +57,10 @@ moved-is b t {lo} {hi} el eh e f = rw (f, e, sifted-by (around t b) t lo hi (inR
 
 -- ---- drains
 
-not-due : (s : Timestamp) (lo hi : ℕ) → lo ≡ 32769 → hi ≡ 65536 → (e : Entry) → between s lo hi e ≡ not (dueOf s e)
+pub not-due : (s : Timestamp) (lo hi : ℕ) → lo ≡ 32769 → hi ≡ 65536 → (e : Entry) → between s lo hi e ≡ not (dueOf s e)
 not-due s lo hi el eh e = span-from s lo hi eh e ∙ ap not (span-due s 0 lo refl el e)
 
-not-not : (t : Bool) → not (not t) ≡ t
+pub not-not : (t : Bool) → not (not t) ≡ t
 not-not true = refl
 not-not false = refl
 

@@ -6,3 +6,4 @@ pub mod Calls
 pub mod Ordered
 pub mod Ledger
 pub mod Soundness
+pub mod Waiting

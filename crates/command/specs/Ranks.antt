@@ -3,7 +3,7 @@
 use Prim.Native.Nat.{ℕ, _+_, _≤_}
 use mathlib.Core.Path.{_≡_}
 use mathlib.Core.Bool.{Bool, not, _&&_}
-use lib.Dec.{leb, ltb}
+use lib.Dec.{eqb, leb, ltb}
 use lib.ListN.{length}
 use Rattle.timestamp.specs.declared.Timestamp.{Timestamp}
 use Rattle.timestamp.specs.Timestamps.{differenceOf, sumOf}
@@ -11,7 +11,7 @@ use Rattle.command.specs.declared.Entry.{Entry}
 use Rattle.command.specs.declared.CommandBuffer.{CommandBuffer}
 use Rattle.command.specs.declared.Drained.{Drained}
 use Rattle.command.specs.Lists.{filterB}
-use Rattle.command.specs.Buffer.{held, laid, leaving}
+use Rattle.command.specs.Buffer.{held, laid, leaving, movedOf, takenOf}
 
 -- the rank of a stamp around m: their signed difference, plus 32,768
 unfoldable pub rankOf : ℕ → ℕ → ℕ
@@ -35,6 +35,10 @@ unfoldable pub siftedOf : CommandBuffer → Timestamp → ℕ → ℕ → Draine
 siftedOf b m lo hi =
     let gone = filterB (λ e. not (between m lo hi e)) (held b) in
     record { buffer = leaving gone (filterB (between m lo hi) (held b)) b; count = length gone }
+
+-- a buffer stays as it is at a step to the stamp t: nothing is due, and nothing leaves the range
+unfoldable pub waitsOf : CommandBuffer → Timestamp → Bool
+waitsOf b t = eqb (length (takenOf b t)) 0 && eqb (movedOf b t .dropped) 0
 
 -- an entry of rank k is in range and not before rank lo, and its handle is within 24 bits
 unfoldable pub soundRank : ℕ → ℕ → ℕ → Bool

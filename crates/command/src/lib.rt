@@ -14,7 +14,7 @@ ghost use Rattle.tape.specs.Tape.{Puts};
 ghost use Rattle.command.specs.Lists.{filterB};
 ghost use Rattle.command.specs.Buffer.{held, laid, insertedOf, movedOf, drainedOf, drainedAllOf, commandWords, Applies, AppliesAll};
 ghost use Rattle.command.specs.Soundness.{soundBuffer};
-ghost use Rattle.command.specs.Ranks.{rankOf, spanned, between, siftedOf, soundRank, HasRoom};
+ghost use Rattle.command.specs.Ranks.{rankOf, spanned, between, siftedOf, waitsOf, soundRank, HasRoom};
 
 // A command's handle, with the stamp of the frame that it is for.
 pub struct Entry {
@@ -95,6 +95,17 @@ pub fn update_timestamp(buffer: CommandBuffer, t: Timestamp) -> Moved
         buffer: rest,
         dropped,
     }
+}
+
+// Whether a step to a stamp leaves the buffer as it is: nothing is due, and nothing leaves the range. One that holds nothing is not read.
+pub fn waits(buffer: CommandBuffer, t: Timestamp) -> bool
+    ensures { λ r. ⌜ r ≡ waitsOf buffer t ⌝ }
+{
+    let n = buffer.len;
+    if n == 0 {
+        return true;
+    }
+    count_outside(buffer, t, 32769, 49151) == 0
 }
 
 // Takes an entry that is in range, if there is room, after all entries that are not later than it.
