@@ -14,12 +14,12 @@ use Rattle.settings.specs.Settings.{lagFrameCountOf}
 use Rattle.settings.specs.Tweening.{shapedOf}
 use Rattle.client.specs.declared.Shown.{Shown}
 use Rattle.client.specs.declared.ClientWorldSimulations.{ClientWorldSimulations}
-use Rattle.client.specs.Sides.{oldStampOf, withWorlds, andThen, Plays}
-use Rattle.client_skip.specs.Skip.{skippedOf, tweenOf, weightOk, postUpdateOf}
+use Rattle.client.specs.Sides.{oldStampOf, andThen, Plays}
+use Rattle.client_skip.specs.Skip.{skippedOf, tweenOf, postUpdateOf}
 use Rattle.fixed_timestepper.specs.declared.Stop.{Stop}
-use Rattle.fixed_timestepper.specs.declared.Stop.the-variants.{Done, WeightStops}
+use Rattle.fixed_timestepper.specs.declared.Stop.the-variants.{Done}
 use Rattle.fixed_timestepper.specs.declared.Advanced.{Advanced}
-use Rattle.fixed_timestepper.specs.TimeKeeper.{absOf, driftOf, correctedOf, correctedOvershoot, Run, skipsOf, skipped, maybeSkipped, finishedOf}
+use Rattle.fixed_timestepper.specs.TimeKeeper.{absOf, driftOf, correctedOf, correctedOvershoot, Run, skipsOf, skipped, maybeSkipped}
 use Rattle.fixed_timestepper.specs.Inner.{runBy, Skips, endedOf}
 
 -- the test for a skip, by the calls that make it

@@ -4,6 +4,7 @@ use mathlib.Core.Bool.{Bool, true, false, cond, not, false≢true}
 use mathlib.Core.List.{List, append-nil}
 use Prim.Native.Nat.{ℕ}
 use lib.Ieee.{Float, binary64, add, lt}
+use borrow.Author.Tests.{not-true, not-false}
 use Rattle.timestamp.specs.declared.Timestamp.{Timestamp}
 use Rattle.timestamp.specs.Timestamps.{sumOf}
 use Rattle.tape.proofs.Writing.{puts-as}
@@ -14,7 +15,6 @@ use Rattle.client.specs.declared.ClientWorldSimulations.{ClientWorldSimulations
 use Rattle.client.specs.declared.Scene.{Scene}
 use Rattle.client.specs.declared.Shown.{Shown}
 use Rattle.client.specs.Sides.{oldStampOf, Plays}
-use Rattle.client_frame.specs.Frame.{frameOf, frameStops}
 use Rattle.client_level.specs.Level.{isLevel}
 use Rattle.client_level.proofs.Levelling.{level-stops, level-stamp}
 use Rattle.fixed_timestepper.specs.declared.Stop.the-variants.{Done}
@@ -38,15 +38,6 @@ single-one o t h k = λ i. cond (sym h i) (cond (sym k i) false true) false
 pub single-none : (o t : Float) → lt o nought ≡ false → false ≡ isSingle o t
 unfolding isSingle
 single-none o t h = λ i. cond (sym h i) (cond (lt (add binary64 o t) nought) false true) false
-
--- a test that is not met
-not-true : (b : Bool) → not b ≡ true → b ≡ false
-not-true true h = absurd (false≢true h)
-not-true false h = refl
-
-not-false : (b : Bool) → not b ≡ false → b ≡ true
-not-false true h = refl
-not-false false h = absurd (false≢true (sym h))
 
 module _ (w : ClientWorldSimulations) (t : Timestamp) (o server : Float) (c : Settings) {p : Bool} (hp : p ≡ isSingle o (c .timestep)) where
   -- not one frame

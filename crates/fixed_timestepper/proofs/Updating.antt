@@ -5,21 +5,17 @@ use mathlib.Core.List.{List, [], _++_, append-nil}
 use Prim.Native.Nat.{ℕ}
 use lib.Ieee.{Float, binary64, add, sub}
 use Rattle.timestamp.specs.declared.Timestamp.{Timestamp}
-use Rattle.timestamp.specs.Timestamps.{bitsOf}
 use Rattle.tape.specs.Tape.{Puts}
 use Rattle.tape.proofs.Writing.{puts-then, puts-as}
 use Rattle.settings.specs.declared.Settings.{Settings}
-use Rattle.settings.specs.Settings.{lagFrameCountOf}
-use Rattle.settings.specs.Tweening.{shapedOf}
 use Rattle.client.specs.declared.Scene.{Scene}
-use Rattle.client.specs.Sides.{oldStampOf, withWorlds, andThen}
+use Rattle.client.specs.Sides.{oldStampOf, andThen}
 use Rattle.simulation.specs.World.{nextStamp}
 use Rattle.client_level.specs.Level.{isLevel}
-use Rattle.client_skip.specs.Skip.{skippedOf, tweenOf, weightOk, postUpdateOf}
 use Rattle.fixed_timestepper.specs.declared.Stop.{Stop}
 use Rattle.fixed_timestepper.specs.declared.Stop.the-variants.{Done, TooManyFrames, StatusStops, WeightStops}
 use Rattle.fixed_timestepper.specs.declared.Advanced.{Advanced}
-use Rattle.fixed_timestepper.specs.TimeKeeper.{Run, runOf, correctedOf, correctedOvershoot, compensatedOf, skipsOf, skipped, maybeSkipped, endsWith, finishedOf, concluded, advancedOf, updatedOf, Advances}
+use Rattle.fixed_timestepper.specs.TimeKeeper.{Run, runOf, compensatedOf, skipsOf, skipped, maybeSkipped, concluded, advancedOf, updatedOf, Advances}
 use Rattle.fixed_timestepper.specs.Inner.{isSingle, runBy, Skips, skippedBy, unendedOf, endedBy}
 use Rattle.fixed_timestepper.proofs.Levels.{level-done, level-stays}
 

@@ -284,11 +284,6 @@ module _ (s : Session) (c : Clock) (request : Bool) (u : Run) {was mid : List �
         tape = t i;
       }
 
-  -- a reply of a refusal
-  refused-is : (n : ℕ) (x : Reply) → eqb n 0 ≡ false → refusedWith n s (length was) .reply ≡ x → replyBy n ≡ x
-  unfolding replyBy
-  refused-is n x z e = when-false _ _ z ∙ (λ i. refusedWith n s (long i) .reply) ∙ e
-
   -- what the reply to the run is
   replyOf : Run → Reply
   replyOf q = concludedOf (q .stop) s c request q (length was) .reply

@@ -24,11 +24,11 @@ abbrev pub unendedWith : Session → Received → Clock → Float → Float → 
 unendedWith s r c delta seconds inbox =
     unendedOf (s .settings) (sceneWith r inbox) (s .overshoot) delta (add binary64 (serverTimeBy (serverSecondsOf (c .offset) seconds) seconds) (s .settings .lag))
 
--- the refusal, by the tween weight and by how many words exceed a tape, of an update whose frames ended by themselves
+-- the refusal of an update whose frames ended by themselves, or 0: 27 by the tween weight t, then 28 where its n words exceed a tape of so many
 unfoldable pub refusedAtEnd : Float → ℕ → ℕ → ℕ
 refusedAtEnd t n len = cond (weightOk t) (cond (leb n len) 0 28) (stopNumber WeightStops)
 
--- the refusal of an update once its frames have ended
+-- the refusal of an update once its frames have ended, or 0: 25 and 26 by why they ended
 unfoldable pub refusedAfter : Stop → Float → ℕ → ℕ → ℕ
 refusedAfter Done t n len = refusedAtEnd t n len
 refusedAfter TooManyFrames t n len = stopNumber TooManyFrames

@@ -1,5 +1,4 @@
 -- `is_single` meets its contract: below 0, and not below 0 a timestep later. Assumes nothing.
-use borrow.Author.Needs.{needs}
 use lib.Ieee.{ofBits}
 use Rattle.fixed_timestepper.proofs.Levels.{single-more, single-one, single-none}
 use Rattle.fixed_timestepper.proofs.is_single.Statement.{statement}
