@@ -28,6 +28,7 @@ settles-as {x} e f g h =
 
 -- one call
 pub call-settles : (x : ℕ) (s : Session) (c : Call) → x < 2 → hasWorlds (s .stage) ≡ true → Answered s c → Settles x s (sessionOf c) (ledgerOn x c) (appliedOn x c)
+unfolding commandsOn
 call-settles x s (Update d t box was r last) p w a =
     settles-as (a .session) (λ i. cond (eqb x 0) (a .left i) (a .right i)) (ap (commandsOn x) (a .tape)) (update-settles x s d t box (length was) p w)
 call-settles x s (Issue n r) p w a =

@@ -24,7 +24,7 @@ use Rattle.session_state.specs.Sound.{soundOf}
 use Rattle.session.specs.Calls.{Answer, updateOf}
 use Rattle.session.specs.Issue.{issueOf}
 use Rattle.session_laws.proofs.TraceReading.{Keeps, issue-keeps}
-use Rattle.demand.specs.Calls.{Call, Update, Issue, Answered, sessionOf, Chain, endOf, framesOf, caughtOf, markedOf, markedOn, happened, traceOf, sum}
+use Rattle.demand.specs.Calls.{Call, Update, Issue, Answered, outcomeOf, sessionOf, Chain, endOf, framesOf, caughtOf, markedOf, markedOn, happened, traceOf, sum}
 use Rattle.demand.specs.Demand.{framesIn, distancesIn, wordsIn, oldSteps, newSteps, Taped, Tapes, Walk, AllSound, Balanced, worldsExist, Stamp, Typed, Told, Demand3}
 use Rattle.demand.proofs.TraceLaw.{Linked, lastIn, linked-append, last-append, catch-up}
 use Rattle.demand.proofs.TraceCounts.{trace-on, trace-old, trace-most, steps-law, frames-append, distances-append, new-append, old-append}
@@ -79,7 +79,7 @@ call-under c s k q x e h u = subst (λ (y : Settings). Holds y s (sessionOf k) (
 
 call-taped : (s : Session) (k : Call) → worldsExist (s .stage) ≡ true → soundOf s ≡ true → Fitting (s .worlds) → Answered s k → Taped s k
 call-taped s (Update d t box was r last) x e h u = u .tape ∙ updated s d t box (length was) x e h .tape
-call-taped s (Issue n r) x e h u = tt
+call-taped s (Issue n r) x e h u = refl
 
 words-on : (c : Settings) (x : ℕ) (es : List Event) (n : ℕ) → x < 2 → stepsOn x (wordsIn c es ++ replicate n 0) ≡ oldSteps c x es + newSteps c x es
 words-on c x es n h = steps-on-append x (wordsIn c es) (replicate n 0) ∙ plus _ _ _ (steps-on-zeros x n) (trace-on c x es h)
@@ -88,14 +88,7 @@ words-on c x es n h = steps-on-append x (wordsIn c es) (replicate n 0) ∙ plus 
     plus a z b e f = omega arith
 
 call-on : (s : Session) (k : Call) (x : ℕ) → x < 2 → Taped s k → markedOn x k ≡ oldSteps (s .settings) x (happened s k) + newSteps (s .settings) x (happened s k)
-call-on s (Update d t box was r last) x h e =
-    let es : List Event = updateOf s d t box (length was) .trace in
-    ap (stepsOn x) e ∙ words-on (s .settings) x es (length was - length (wordsIn (s .settings) es)) h
-call-on s (Issue n r) x h e = refl
-
-call-marks : (k : Call) → markedOf k ≡ markedOn 0 k + markedOn 1 k
-call-marks (Update d t box was r last) = steps-both last
-call-marks (Issue n r) = refl
+call-on s k x h e = ap (stepsOn x) e ∙ words-on (s .settings) x (happened s k) (outcomeOf k .room - length (wordsIn (s .settings) (happened s k))) h
 
 -- ---- the list
 
@@ -158,7 +151,7 @@ on-list c x hx (k ∷ cs) s q y e h so ch =
 
 marks-list : (cs : List Call) → sum markedOf cs ≡ sum (markedOn 0) cs + sum (markedOn 1) cs
 marks-list [] = refl
-marks-list (k ∷ cs) = plus _ _ _ _ _ _ (call-marks k) (marks-list cs)
+marks-list (k ∷ cs) = plus _ _ _ _ _ _ (steps-both (outcomeOf k .tape)) (marks-list cs)
   where
     plus : (w a b p m n : ℕ) → w ≡ a + b → p ≡ m + n → w + p ≡ (a + m) + (b + n)
     plus w a b p m n e f = omega arith

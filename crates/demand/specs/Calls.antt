@@ -1,5 +1,5 @@
 -- Lists of calls: document 01, "Contracts and cases". Each call is handed the session that the call before it returned; each update has its own inbox and tape.
--- Definitions only. Assumes nothing.
+-- Only `Answered`, `outcomeOf` and `happened` go by the kind of a call. Definitions only. Assumes nothing.
 use mathlib.Core.Bool.{cond}
 use mathlib.Core.List.{List, [], _∷_, _++_}
 use mathlib.Core.Path.{_≡_}
@@ -21,15 +21,69 @@ pub data Call : Type 0 where
   Update : (delta seconds : Float) (inbox was : List ℕ) (answer : UpdateAnswer) (last : List ℕ) → Call
   Issue : (handle : ℕ) (answer : IssueAnswer) → Call
 
+-- ---- by the kind of a call
+
 -- what the contracts of the code say of one call that was handed the session s
 abbrev pub Answered : Session → Call → Type 0
 Answered s (Update d t box was r last) = Updates (updateOf s d t box (length was) .reply) r last
 Answered s (Issue h r) = r ≡ issueOf s h
 
+-- what a call came to: the session that it returned, F, C, both ledgers, and its tape as it came back, of so many words; a call that has no tape has one of no words
+pub record Outcome : Type 0 where
+  pub session : Session
+  pub frames : ℕ
+  pub caught : ℕ
+  pub left : Ledger
+  pub right : Ledger
+  pub room : ℕ
+  pub tape : List ℕ
+
+-- what a call came to, as its answer says it
+abbrev pub outcomeOf : Call → Outcome
+outcomeOf (Update d t box was r last) =
+    record { session = r .session; frames = r .frames; caught = r .steps; left = r .left; right = r .right; room = length was; tape = last }
+outcomeOf (Issue h r) = record { session = r .session; frames = 0; caught = 0; left = r .left; right = r .right; room = 0; tape = [] }
+
+-- what happened to the worlds in one call that was handed the session s
+abbrev pub happened : Session → Call → List Event
+happened s (Update d t box was r last) = updateOf s d t box (length was) .trace
+happened s (Issue h r) = []
+
+-- ---- read off what a call came to
+
 -- the session that a call returned
 abbrev pub sessionOf : Call → Session
-sessionOf (Update d t box was r last) = r .session
-sessionOf (Issue h r) = r .session
+sessionOf c = outcomeOf c .session
+
+-- F of a call
+abbrev pub framesOf : Call → ℕ
+framesOf c = outcomeOf c .frames
+
+-- C of a call
+abbrev pub caughtOf : Call → ℕ
+caughtOf c = outcomeOf c .caught
+
+-- the ledger of a side in an outcome
+abbrev pub ledgerIn : ℕ → Outcome → Ledger
+ledgerIn x o = cond (eqb x 0) (o .left) (o .right)
+
+-- the ledger of a side
+abbrev pub ledgerOn : ℕ → Call → Ledger
+ledgerOn x c = ledgerIn x (outcomeOf c)
+
+-- the step words on a call's tape as it was returned
+abbrev pub markedOf : Call → ℕ
+markedOf c = stepWords (outcomeOf c .tape)
+
+-- those of one side
+abbrev pub markedOn : ℕ → Call → ℕ
+markedOn x c = stepsOn x (outcomeOf c .tape)
+
+-- the command words of one side on a call's tape as it was returned
+abbrev pub appliedOn : ℕ → Call → ℕ
+appliedOn x c = commandsOn x (outcomeOf c .tape)
+
+-- ---- lists of calls
 
 -- the calls of a list, each handed the session that the call before it returned
 abbrev pub Chain : Session → List Call → Type 0
@@ -40,41 +94,6 @@ Chain s (c ∷ cs) = Answered s c × Chain (sessionOf c) cs
 abbrev pub endOf : Session → List Call → Session
 endOf s [] = s
 endOf s (c ∷ cs) = endOf (sessionOf c) cs
-
--- F of a call, as its answer says it
-abbrev pub framesOf : Call → ℕ
-framesOf (Update d t box was r last) = r .frames
-framesOf (Issue h r) = 0
-
--- C of a call, as its answer says it
-abbrev pub caughtOf : Call → ℕ
-caughtOf (Update d t box was r last) = r .steps
-caughtOf (Issue h r) = 0
-
--- the ledger of a side, as a call's answer says it
-abbrev pub ledgerOn : ℕ → Call → Ledger
-ledgerOn x (Update d t box was r last) = cond (eqb x 0) (r .left) (r .right)
-ledgerOn x (Issue h r) = cond (eqb x 0) (r .left) (r .right)
-
--- the step words on a call's tape as it was returned
-abbrev pub markedOf : Call → ℕ
-markedOf (Update d t box was r last) = stepWords last
-markedOf (Issue h r) = 0
-
--- those of one side
-abbrev pub markedOn : ℕ → Call → ℕ
-markedOn x (Update d t box was r last) = stepsOn x last
-markedOn x (Issue h r) = 0
-
--- the command words of one side on a call's tape as it was returned
-abbrev pub appliedOn : ℕ → Call → ℕ
-appliedOn x (Update d t box was r last) = commandsOn x last
-appliedOn x (Issue h r) = 0
-
--- what happened to the worlds in one call that was handed the session s
-abbrev pub happened : Session → Call → List Event
-happened s (Update d t box was r last) = updateOf s d t box (length was) .trace
-happened s (Issue h r) = []
 
 -- what happened in the calls, joined
 abbrev pub traceOf : Session → List Call → List Event

@@ -26,7 +26,7 @@ use Rattle.session_state.specs.declared.Session.{Session}
 use Rattle.session_state.specs.declared.Stage.{Stage}
 use Rattle.session_state.specs.declared.Stage.the-variants.{SyncingClock, SyncingInitialState, Ready}
 use Rattle.session_state.specs.Sound.{soundOf}
-use Rattle.demand.specs.Calls.{Call, Update, Issue, Chain, endOf, traceOf, happened, sum, sessionOf, framesOf, caughtOf, ledgerOn, markedOf, markedOn, appliedOn}
+use Rattle.demand.specs.Calls.{Call, Chain, endOf, traceOf, outcomeOf, happened, sum, sessionOf, framesOf, caughtOf, ledgerOn, markedOf, markedOn, appliedOn}
 
 -- ---- a frame of the trace, by the scene before it
 
@@ -143,11 +143,10 @@ newSteps c x (SkipFrom s t ∷ es) = newSteps c x es
 
 -- ---- the tapes
 
--- the tape of an update as it came back: the words of what happened, and zeros
+-- the tape of a call as it came back: the words of what happened, and zeros
 abbrev pub Taped : Session → Call → Type 0
-Taped s (Update d t box was r last) =
-    last ≡ wordsIn (s .settings) (happened s (Update d t box was r last)) ++ replicate (length was - length (wordsIn (s .settings) (happened s (Update d t box was r last)))) 0
-Taped s (Issue h r) = Unit {0}
+Taped s c =
+    outcomeOf c .tape ≡ wordsIn (s .settings) (happened s c) ++ replicate (outcomeOf c .room - length (wordsIn (s .settings) (happened s c))) 0
 
 -- so of every call
 abbrev pub Tapes : Session → List Call → Type 0
