@@ -1,9 +1,9 @@
-pub mod SoundChain
 pub mod TraceLaw
 pub mod TraceCounts
 pub mod TraceRuns
-pub mod TraceCalls
-pub mod TraceTold
-pub mod LedgerList
+pub mod OneCall
+pub mod OneUpdate
+pub mod OneIssue
+pub mod Lists
 pub mod Demand
 pub mod Tied

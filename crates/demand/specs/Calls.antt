@@ -38,11 +38,15 @@ pub record Outcome : Type 0 where
   pub room : ℕ
   pub tape : List ℕ
 
+-- a call in which nothing happens to the worlds, and that has no tape
+abbrev pub quiet : Session → Ledger → Ledger → Outcome
+quiet s l r = record { session = s; frames = 0; caught = 0; left = l; right = r; room = 0; tape = [] }
+
 -- what a call came to, as its answer says it
 abbrev pub outcomeOf : Call → Outcome
 outcomeOf (Update d t box was r last) =
     record { session = r .session; frames = r .frames; caught = r .steps; left = r .left; right = r .right; room = length was; tape = last }
-outcomeOf (Issue h r) = record { session = r .session; frames = 0; caught = 0; left = r .left; right = r .right; room = 0; tape = [] }
+outcomeOf (Issue h r) = quiet (r .session) (r .left) (r .right)
 
 -- what happened to the worlds in one call that was handed the session s
 abbrev pub happened : Session → Call → List Event
