@@ -141,14 +141,14 @@ caught = frameOne .trace ++ (frameTwo .trace ++ (frameThree .trace ++ frameFour 
 -- the loads of the frames of a trace
 abbrev pub loadsIn : List Event → List Load
 loadsIn [] = []
-loadsIn (FrameFrom s ∷ es) = loadIn s ∷ loadsIn es
+loadsIn (FrameFrom r s ∷ es) = loadIn s ∷ loadsIn es
 loadsIn (SkipFrom s t ∷ es) = loadsIn es
 
 -- how far behind the new world is after each frame of a trace, by the definition of a frame
-abbrev pub behindsIn : Settings → List Event → List ℕ
-behindsIn c [] = []
-behindsIn c (FrameFrom s ∷ es) = behindAfter c s ∷ behindsIn c es
-behindsIn c (SkipFrom s t ∷ es) = behindsIn c es
+abbrev pub behindsIn : List Event → List ℕ
+behindsIn [] = []
+behindsIn (FrameFrom r s ∷ es) = behindAfter r s ∷ behindsIn es
+behindsIn (SkipFrom s t ∷ es) = behindsIn es
 
 -- how far behind it is in the session of each answer
 abbrev pub behindsAfter : List Answer → List ℕ
@@ -195,7 +195,7 @@ pub record Marked : Type 0 where
   -- m = 3, g = 7: the first of four frames loads 7 behind, and the others load nothing
   pub loads : loadsIn caught ≡ Loaded 7 ∷ NoLoad ∷ NoLoad ∷ NoLoad ∷ []
   -- behind 5, 3, 1, 0 after them
-  pub behind : behindsIn (settingsWith 3) caught ≡ 5 ∷ 3 ∷ 1 ∷ 0 ∷ []
+  pub behind : behindsIn caught ≡ 5 ∷ 3 ∷ 1 ∷ 0 ∷ []
   -- and so in the sessions that the four updates return
   pub left-behind : behindsAfter (frameOne ∷ frameTwo ∷ frameThree ∷ frameFour ∷ []) ≡ 5 ∷ 3 ∷ 1 ∷ 0 ∷ []
   -- the run: it is opened, and the clock message at 1 s is of these words

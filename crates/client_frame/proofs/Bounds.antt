@@ -29,6 +29,7 @@ use Rattle.client.specs.declared.Scene.{Scene}
 use Rattle.client.specs.Sides.{newSideOf, oldSideOf, worldOf, withWorld, withLedger, stampOf, putOf, oldStampOf, newStampOf, Played, still, andThen, doneAt}
 use Rattle.client.specs.Status.{statusOf}
 use Rattle.client_publish.specs.Publish.{withState, publishedNone, publishedSide, publishedMix, publishedOld, nearOne, publishedBoth, publishedBlended}
+use Rattle.client_frame.specs.declared.Rules.{Rules}
 use Rattle.client_frame.specs.Frame.{readiedWith, loadedAt, loadedOf, loadedQueued, blendedOn, resetNew, openedOf, steppedSide, caughtUpOf, steppedNew, unless, caughtOf, simulatedOf, blendedBy, publishedBy, shownOf, snapshotOf, openOf, frameOf}
 
 -- how many commands a world holds
@@ -253,9 +254,11 @@ unfolding shownOf
 shown-short m b s h = then-short (simulatedOf m s) (publishedBy b) (simulated-short m s h) (published-short b (simulatedOf m s .scene))
 
 -- a frame, with m catch-up steps at most
-pub frame-short : (m : ℕ) (p : Float) (s : Scene) → Few (s .worlds) → Short (64 + (65 + m * 65 + 4)) (frameOf m p s)
+pub frame-short : (rules : Rules) (s : Scene) → Few (s .worlds) → Short (64 + (65 + rules .m * 65 + 4)) (frameOf rules s)
 unfolding frameOf openOf
-frame-short m p s h =
+frame-short rules s h =
+    let m : ℕ = rules .m in
+    let p : Float = rules .progress in
     let t : ReconciliationStatus = statusOf (s .worlds) in
     let q : Queued = snapshotOf s in
     then-short (openedOf t q p s) (shownOf m (blendedBy t q)) (opened-short t q p s h) (shown-short m (blendedBy t q) (openedOf t q p s .scene))

@@ -35,6 +35,7 @@ use Rattle.client.specs.Status.{statusOf}
 use Rattle.client_publish.specs.declared.Stated.{Stated}
 use Rattle.client_publish.specs.Publish.{withState, publishedOld, publishedBlended}
 use Rattle.client_publish.specs.Inner.{States}
+use Rattle.client_frame.specs.declared.Rules.{Rules}
 use Rattle.client_frame.specs.Frame.{loadsOf, readiedWith, loadedAt, loadedOf, loadedQueued, clamped, blendedOn, resetNew, openedOf, steppedSide, caughtUpOf, withStep, steppedNew, caughtOf, simulatedOf, blendedBy, publishedBy, shownOf, isObsolete, tooFarOf, stopsOf, snapshotOf, openOf, frameOf, frameStops, Frames}
 use Rattle.client_frame.specs.Inner.{putBack}
 use Rattle.client.proofs.Happening.{plays-still, plays-as, plays-then, plays-done}
@@ -249,11 +250,13 @@ module _ (t : ReconciliationStatus) (q : Queued) (w e : ClientWorldSimulations) 
 -- ---- the frame
 
 -- one frame: its status, the snapshot that it loads, its beginning, its steps and what it publishes, and whether it stops
-pub frame-plays : (m : ℕ) (p : Float) (s : Scene) {t : ReconciliationStatus} {q : Queued} {b stop : Bool} {was mid last : List ℕ} {place : ℕ} {a r : Shown}
-    → t ≡ statusOf (s .worlds) → q ≡ loadsOf t (s .worlds .snapshots .queued) → Plays (openedOf t q p s) was place a mid → b ≡ blendedBy t q → Plays (shownOf m b (a .scene)) mid (a .at) r last
-    → stop ≡ stopsOf t q (s .worlds) (r .scene .worlds) → Frames (frameOf m p s) (frameStops m p s) was place (record { scene = r .scene; at = r .at; stops = stop }) last
+pub frame-plays : (rules : Rules) (s : Scene) {t : ReconciliationStatus} {q : Queued} {b stop : Bool} {was mid last : List ℕ} {place : ℕ} {a r : Shown}
+    → t ≡ statusOf (s .worlds) → q ≡ loadsOf t (s .worlds .snapshots .queued) → Plays (openedOf t q (rules .progress) s) was place a mid → b ≡ blendedBy t q → Plays (shownOf (rules .m) b (a .scene)) mid (a .at) r last
+    → stop ≡ stopsOf t q (s .worlds) (r .scene .worlds) → Frames (frameOf rules s) (frameStops rules s) was place (record { scene = r .scene; at = r .at; stops = stop }) last
 unfolding frameOf frameStops openOf snapshotOf
-frame-plays m p s {t} {q} {b} {stop} {was} {mid} {last} {place} {a} {r} ht hq ha hb hr hs =
+frame-plays rules s {t} {q} {b} {stop} {was} {mid} {last} {place} {a} {r} ht hq ha hb hr hs =
+    let m : ℕ = rules .m in
+    let p : Float = rules .progress in
     let queued : Queued = s .worlds .snapshots .queued in
     let loaded : q ≡ loadsOf (statusOf (s .worlds)) queued = hq ∙ ap (λ (x : ReconciliationStatus). loadsOf x queued) ht in
     let opens : Plays (openedOf (statusOf (s .worlds)) (loadsOf (statusOf (s .worlds)) queued) p s) was place a mid = plays-as (λ i. openedOf (ht i) (loaded i) p s) ha in

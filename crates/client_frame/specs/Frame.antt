@@ -25,6 +25,7 @@ use Rattle.client.specs.declared.Framed.{Framed}
 use Rattle.client.specs.Sides.{newSideOf, oldSideOf, worldOf, withWorld, withWeight, withWorlds, withLedger, ledgerOf, loads, oldStampOf, newStampOf, Played, still, andThen, doneAt}
 use Rattle.client.specs.Status.{statusOf}
 use Rattle.client_publish.specs.Publish.{publishedOld, publishedBlended}
+use Rattle.client_frame.specs.declared.Rules.{Rules}
 
 -- the snapshot that a frame of this status loads
 unfoldable pub loadsOf : ReconciliationStatus → Queued → Queued
@@ -162,16 +163,16 @@ unfoldable pub snapshotOf : Scene → Queued
 snapshotOf s = loadsOf (statusOf (s .worlds)) (s .worlds .snapshots .queued)
 
 -- a scene before its worlds step
-unfoldable pub openOf : Float → Scene → Played
-openOf p s = openedOf (statusOf (s .worlds)) (snapshotOf s) p s
+unfoldable pub openOf : Rules → Scene → Played
+openOf rules s = openedOf (statusOf (s .worlds)) (snapshotOf s) (rules .progress) s
 
--- a frame, with m catch-up steps at most and a progress of the weight
-unfoldable pub frameOf : ℕ → Float → Scene → Played
-frameOf m p s = andThen (openOf p s) (shownOf m (blendedBy (statusOf (s .worlds)) (snapshotOf s)))
+-- a frame, with so many catch-up steps at most and a progress of the weight as its rules say
+unfoldable pub frameOf : Rules → Scene → Played
+frameOf rules s = andThen (openOf rules s) (shownOf (rules .m) (blendedBy (statusOf (s .worlds)) (snapshotOf s)))
 
 -- whether the Rust stops in the frame
-unfoldable pub frameStops : ℕ → Float → Scene → Bool
-frameStops m p s = stopsOf (statusOf (s .worlds)) (snapshotOf s) (s .worlds) (frameOf m p s .scene .worlds)
+unfoldable pub frameStops : Rules → Scene → Bool
+frameStops rules s = stopsOf (statusOf (s .worlds)) (snapshotOf s) (s .worlds) (frameOf rules s .scene .worlds)
 
 -- a frame as the code leaves it
 pub record Frames (p : Played) (stops : Bool) (was : List ℕ) (place : ℕ) (r : Framed) (last : List ℕ) : Type 0 where

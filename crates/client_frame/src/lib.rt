@@ -23,6 +23,12 @@ use simulation::Simulation;
 use timestamp::Ordering;
 use timestamp::Timestamp;
 
+// What a frame goes by: the most steps of the new world to catch up, and how far a blend's weight moves on.
+pub struct Rules {
+    pub m: u32,
+    pub progress: f64,
+}
+
 // The snapshot that a frame of this status loads.
 pub fn loads(t: ReconciliationStatus, q: Queued) -> Queued
     ensures { λ r. ⌜ r ≡ loadsOf t q ⌝ }
@@ -442,17 +448,17 @@ pub fn show(s: Scene, m: u32, blended: bool, tape: &mut [u32], at: usize) -> Sho
 }
 
 // One frame.
-pub fn step(s: Scene, m: u32, progress: f64, tape: &mut [u32], at: usize) -> Framed
-    requires { ⌜ (at < 2000000000) × (m ≤ 64) ⌝ }
-    ensures { λ r. ⌜ Frames (frameOf m progress s) (frameStops m progress s) (now (tape .entry)) at r (now (tape .exit)) ⌝ }
+pub fn step(s: Scene, rules: Rules, tape: &mut [u32], at: usize) -> Framed
+    requires { ⌜ (at < 2000000000) × (rules .m ≤ 64) ⌝ }
+    ensures { λ r. ⌜ Frames (frameOf rules s) (frameStops rules s) (now (tape .entry)) at r (now (tape .exit)) ⌝ }
 {
     let w = s.worlds;
     let t = status::infer_current_reconciliation_status(w);
     let snapshots = w.snapshots;
     let queued = snapshots.queued;
     let q = loads(t, queued);
-    let a = open(s, t, q, progress, tape, at);
-    let b = show(a.scene, m, is_blended(t, q), tape, a.at);
+    let a = open(s, t, q, rules.progress, tape, at);
+    let b = show(a.scene, rules.m, is_blended(t, q), tape, a.at);
     let after = b.scene;
     let e = after.worlds;
     Framed {

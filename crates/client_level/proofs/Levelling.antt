@@ -31,6 +31,7 @@ use Rattle.client.proofs.Happening.{plays-as, plays-then}
 use Rattle.client_publish.specs.declared.Stated.{Stated}
 use Rattle.client_publish.specs.Publish.{withState, publishedNone, publishedSide, publishedMix, nearOne, publishedBoth, publishedBlended}
 use Rattle.client_publish.specs.Inner.{States}
+use Rattle.client_frame.specs.declared.Rules.{Rules}
 use Rattle.client_frame.specs.Frame.{loadsOf, loadedQueued, clamped, blendedOn, openedOf, steppedSide, caughtUpOf, withStep, steppedNew, caughtOf, simulatedOf, blendedBy, shownOf, stopsOf, snapshotOf, openOf, frameOf, frameStops}
 use Rattle.command.specs.Ranks.{waitsOf}
 use Rattle.client_level.specs.Level.{worldWaits, levelBy, isLevel, levelWeight, levelWords}
@@ -312,23 +313,25 @@ levelWith s n t l r k =
     }
 
 -- what a level frame begins with: the weight moves on or not, it publishes by the weight, and it does not stop
-record Opens (p : Float) (s : Scene) : Type 0 where
-  begins : openOf p s ≡ still (reweighted p s)
+record Opens (rules : Rules) (s : Scene) : Type 0 where
+  begins : openOf rules s ≡ still (reweighted (rules .progress) s)
   blended : blendedBy (statusOf (s .worlds)) (snapshotOf s) ≡ true
   goes : (e : ClientWorldSimulations) → stopsOf (statusOf (s .worlds)) (snapshotOf s) (s .worlds) e ≡ false
 
 -- by the status and what is queued
-opens-by : (t : ReconciliationStatus) (q : Queued) (p : Float) (s : Scene) → statusOf (s .worlds) ≡ t → s .worlds .snapshots .queued ≡ q → levelBy t q ≡ true → Opens p s
+opens-by : (t : ReconciliationStatus) (q : Queued) (rules : Rules) (s : Scene) → statusOf (s .worlds) ≡ t → s .worlds .snapshots .queued ≡ q → levelBy t q ≡ true → Opens rules s
 unfolding openOf openedOf blendedOn loadedQueued blendedBy stopsOf snapshotOf loadsOf levelBy levelWeight
-opens-by AwaitingSnapshot Nothing p s t e h =
+opens-by AwaitingSnapshot Nothing rules s t e h =
+    let p : Float = rules .progress in
     let q : snapshotOf s ≡ Nothing = (λ i. loadsOf (t i) (e i)) in
     record {
       begins = (λ i. openedOf (t i) (q i) p s) ∙ (λ i. still (withWorlds s (withWeight (s .worlds) (levelWeight (sym t i) (s .worlds .weight) p))));
       blended = (λ i. blendedBy (t i) (q i));
       goes = λ x. (λ i. stopsOf (t i) (q i) (s .worlds) x);
     }
-opens-by AwaitingSnapshot (Held x k) p s t e h = let z : _≡_ {A = ℕ} 0 1 = cc in absurd (omega arith)
-opens-by (Blending x) q p s t e h =
+opens-by AwaitingSnapshot (Held x k) rules s t e h = let z : _≡_ {A = ℕ} 0 1 = cc in absurd (omega arith)
+opens-by (Blending x) q rules s t e h =
+    let p : Float = rules .progress in
     let w : s .worlds .weight ≡ x = sym (status-weight (s .worlds) t) in
     record {
       begins = (λ i. openedOf (t i) (snapshotOf s) p s)
@@ -337,47 +340,47 @@ opens-by (Blending x) q p s t e h =
       blended = (λ i. blendedBy (t i) (snapshotOf s));
       goes = λ y. (λ i. stopsOf (t i) (snapshotOf s) (s .worlds) y);
     }
-opens-by (Fastforwarding f) q p s t e h = let z : _≡_ {A = ℕ} 0 1 = cc in absurd (omega arith)
+opens-by (Fastforwarding f) q rules s t e h = let z : _≡_ {A = ℕ} 0 1 = cc in absurd (omega arith)
 
-module _ (m : ℕ) (p : Float) (s : Scene) (level : isLevel (s .worlds) m ≡ true) where
+module _ (rules : Rules) (s : Scene) (level : isLevel (s .worlds) (rules .m) ≡ true) where
   -- its parts
-  parts : Level (s .worlds) m
-  parts = level-parts (s .worlds) m level
+  parts : Level (s .worlds) (rules .m)
+  parts = level-parts (s .worlds) (rules .m) level
 
-  opens : Opens p s
-  opens = opens-by (statusOf (s .worlds)) (s .worlds .snapshots .queued) p s refl refl (parts .status)
+  opens : Opens rules s
+  opens = opens-by (statusOf (s .worlds)) (s .worlds .snapshots .queued) rules s refl refl (parts .status)
 
   -- the Rust does not stop in a level frame
-  pub level-stops : frameStops m p s ≡ false
+  pub level-stops : frameStops rules s ≡ false
   unfolding frameStops
-  level-stops = opens .goes (frameOf m p s .scene .worlds)
+  level-stops = opens .goes (frameOf rules s .scene .worlds)
 
   -- the steps of a level frame
-  level-steps : (k : ℕ) → m ≡ k → simulatedOf k (reweighted p s) ≡ record { scene = levelled (reweighted p s); words = levelWords (s .worlds) }
+  level-steps : (k : ℕ) → rules .m ≡ k → simulatedOf k (reweighted (rules .progress) s) ≡ record { scene = levelled (reweighted (rules .progress) s); words = levelWords (s .worlds) }
   unfolding levelWords newSideOf oldSideOf newStampOf oldStampOf worldOf
   level-steps zero e = absurd (parts .some e)
-  level-steps (suc n) e = both-step (reweighted p s) (parts .stamps) (parts .left) (parts .right) n
+  level-steps (suc n) e = both-step (reweighted (rules .progress) s) (parts .stamps) (parts .left) (parts .right) n
 
   -- a level frame: both stamps move on, and the worlds are published by the weight
-  level-frame : andThen (record { scene = levelled (reweighted p s); words = levelWords (s .worlds) }) publishedBlended ≡ frameOf m p s
+  level-frame : andThen (record { scene = levelled (reweighted (rules .progress) s); words = levelWords (s .worlds) }) publishedBlended ≡ frameOf rules s
   unfolding frameOf shownOf andThen
   level-frame =
       sym
-      ((λ i. andThen (opens .begins i) (shownOf m (opens .blended i)))
-      ∙ (λ i. andThen (level-steps m refl i) publishedBlended))
+      ((λ i. andThen (opens .begins i) (shownOf (rules .m) (opens .blended i)))
+      ∙ (λ i. andThen (level-steps (rules .m) refl i) publishedBlended))
 
   -- the client's stamp moves by one in a level frame
-  pub level-stamp : oldStampOf (frameOf m p s .scene .worlds) .0 ≡ sumOf (oldStampOf (s .worlds) .0) 1
+  pub level-stamp : oldStampOf (frameOf rules s .scene .worlds) .0 ≡ sumOf (oldStampOf (s .worlds) .0) 1
   unfolding andThen oldStampOf worldOf oldSideOf
   level-stamp =
-      let all : oldStampOf (frameOf m p s .scene .worlds) ≡ nextStamp (oldStampOf (s .worlds)) =
-      ap (λ (x : Played). oldStampOf (x .scene .worlds)) (sym level-frame) ∙ published-stays (levelled (reweighted p s)) .stamp ∙ sides-by (eqb (s .worlds .new) 0) (reweighted p s) refl .client in
+      let all : oldStampOf (frameOf rules s .scene .worlds) ≡ nextStamp (oldStampOf (s .worlds)) =
+      ap (λ (x : Played). oldStampOf (x .scene .worlds)) (sym level-frame) ∙ published-stays (levelled (reweighted (rules .progress) s)) .stamp ∙ sides-by (eqb (s .worlds .new) 0) (reweighted (rules .progress) s) refl .client in
       ap (λ (x : Timestamp). x .0) all
 
   -- the scene of a level frame as the code builds it: the stamp n, the weight t, the ledgers l and r, and the steps k
   level-scene : {n : Timestamp} {t : Float} {l r : Ledger} {k : ℕ}
-      → n .0 ≡ sumOf (stampOf (s .worlds .left) .0) 1 → t ≡ levelWeight (statusOf (s .worlds)) (s .worlds .weight) p → l ≡ applies (s .left) 0 0 → r ≡ applies (s .right) 0 0 → k ≡ (s .steps + 1) % 2 ^ 32
-      → levelWith s n t l r k ≡ levelled (reweighted p s)
+      → n .0 ≡ sumOf (stampOf (s .worlds .left) .0) 1 → t ≡ levelWeight (statusOf (s .worlds)) (s .worlds .weight) (rules .progress) → l ≡ applies (s .left) 0 0 → r ≡ applies (s .right) 0 0 → k ≡ (s .steps + 1) % 2 ^ 32
+      → levelWith s n t l r k ≡ levelled (reweighted (rules .progress) s)
   level-scene {n} hn ht hl hr hk =
       let right : n .0 ≡ sumOf (stampOf (s .worlds .right) .0) 1 = hn ∙ ap (λ (x : ℕ). sumOf x 1) (stamps-by (eqb (s .worlds .new) 0) (s .worlds) refl (parts .stamps)) in
       (λ i. record {
@@ -398,11 +401,11 @@ module _ (m : ℕ) (p : Float) (s : Scene) (level : isLevel (s .worlds) m ≡ tr
   -- a level frame as the code leaves it
   pub level-plays : {f : ReconciliationStatus} {n : Timestamp} {t : Float} {l r : Ledger} {k at q : ℕ} {was mid last : List ℕ} {a : Stated} {u : Scene}
       → f ≡ statusOf (s .worlds) → Puts was at (levelWords (s .worlds)) q mid
-      → n .0 ≡ sumOf (stampOf (s .worlds .left) .0) 1 → t ≡ levelWeight f (s .worlds .weight) p → l ≡ applies (s .left) 0 0 → r ≡ applies (s .right) 0 0 → k ≡ (s .steps + 1) % 2 ^ 32
+      → n .0 ≡ sumOf (stampOf (s .worlds .left) .0) 1 → t ≡ levelWeight f (s .worlds .weight) (rules .progress) → l ≡ applies (s .left) 0 0 → r ≡ applies (s .right) 0 0 → k ≡ (s .steps + 1) % 2 ^ 32
       → States (publishedBlended (levelWith s n t l r k)) (levelWith s n t l r k) mid q a last → u ≡ withState (levelWith s n t l r k) (a .state)
-      → Plays (frameOf m p s) was at (record { scene = u; at = a .at }) last
+      → Plays (frameOf rules s) was at (record { scene = u; at = a .at }) last
   level-plays {f} {n} {t} {l} {r} {k} {at} {q} {was} {mid} hf hp hn ht hl hr hk ha hu =
       let e : Scene = levelWith s n t l r k in
-      let weight : t ≡ levelWeight (statusOf (s .worlds)) (s .worlds .weight) p = ht ∙ ap (λ (x : ReconciliationStatus). levelWeight x (s .worlds .weight) p) hf in
-      let steps : Plays (record { scene = levelled (reweighted p s); words = levelWords (s .worlds) }) was at (record { scene = e; at = q }) mid = record { scene = level-scene hn weight hl hr hk; puts = hp } in
+      let weight : t ≡ levelWeight (statusOf (s .worlds)) (s .worlds .weight) (rules .progress) = ht ∙ ap (λ (x : ReconciliationStatus). levelWeight x (s .worlds .weight) (rules .progress)) hf in
+      let steps : Plays (record { scene = levelled (reweighted (rules .progress) s); words = levelWords (s .worlds) }) was at (record { scene = e; at = q }) mid = record { scene = level-scene hn weight hl hr hk; puts = hp } in
       plays-as level-frame (plays-then publishedBlended steps (stated-plays e ha hu))

@@ -14,6 +14,7 @@ use client::Scene;
 use client::Shown;
 use client::sides;
 use client::status;
+use client_frame::Rules;
 
 // Whether a frame of this status, with q queued, leaves both worlds level: it blends, or it awaits and nothing is queued.
 pub fn stays_level(t: ReconciliationStatus, q: Queued) -> bool
@@ -76,9 +77,9 @@ pub fn put_steps(w: ClientWorldSimulations, tape: &mut [u32], at: usize) -> usiz
 
 // A level frame: both stamps move on by one, and the worlds are published by the weight. The scene is changed in place, so that no buffer
 // is built anew.
-pub fn level_frame(s: Scene, m: u32, progress: f64, tape: &mut [u32], at: usize) -> Shown
-    requires { ⌜ (at < 2000000000) × (isLevel (s .worlds) m ≡ true) ⌝ }
-    ensures { λ r. ⌜ Plays (frameOf m progress s) (now (tape .entry)) at r (now (tape .exit)) ⌝ }
+pub fn level_frame(s: Scene, rules: Rules, tape: &mut [u32], at: usize) -> Shown
+    requires { ⌜ (at < 2000000000) × (isLevel (s .worlds) (rules .m) ≡ true) ⌝ }
+    ensures { λ r. ⌜ Plays (frameOf rules s) (now (tape .entry)) at r (now (tape .exit)) ⌝ }
 {
     let w = s.worlds;
     let t = status::infer_current_reconciliation_status(w);
@@ -95,7 +96,7 @@ pub fn level_frame(s: Scene, m: u32, progress: f64, tape: &mut [u32], at: usize)
     let mut v = w;
     v.left = left;
     v.right = right;
-    v.weight = level_weight(t, w.weight, progress);
+    v.weight = level_weight(t, w.weight, rules.progress);
     let mut e = s;
     e.worlds = v;
     e.left = client_frame::count(s.left, 0, 0);

@@ -1,5 +1,5 @@
-pub mod TraceLaw
 pub mod TraceCounts
+pub mod TraceLaw
 pub mod TraceRuns
 pub mod OneCall
 pub mod OneUpdate

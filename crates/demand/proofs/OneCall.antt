@@ -15,13 +15,13 @@ use Rattle.session_laws.proofs.TraceFrames.{QueuedFits, Fitting}
 use Rattle.session_laws.proofs.TraceArrivals.{alike-fitting, alike-lag}
 use Rattle.session_laws.proofs.TraceReading.{Keeps}
 use Rattle.session_laws.proofs.LedgerCalls.{hasWorlds, Settles}
-use Rattle.fixed_timestepper.specs.TimeKeeper.{Event}
+use Rattle.fixed_timestepper.specs.TimeKeeper.{rulesOf, Event}
 use Rattle.session_state.specs.declared.Session.{Session}
 use Rattle.session_state.specs.declared.Stage.{Stage}
 use Rattle.session_state.specs.declared.Stage.the-variants.{SyncingClock, SyncingInitialState, Ready}
 use Rattle.session_state.specs.Sound.{soundOf}
 use Rattle.demand.specs.Calls.{Outcome, quiet, ledgerIn}
-use Rattle.demand.specs.Demand.{framesIn, distancesIn, wordsIn, newSteps, Walk, worldsExist}
+use Rattle.demand.specs.Demand.{framesIn, distancesIn, wordsIn, Ruled, newSteps, Walk, worldsExist}
 use Rattle.demand.proofs.TraceLaw.{Linked, lastIn}
 use Rattle.demand.proofs.TraceRuns.{same-of}
 
@@ -36,13 +36,14 @@ pub record Traced (s : Session) (o : Outcome) (es : List Event) : Type 0 where
   pub settings : o .session .settings ≡ s .settings
   pub exists : worldsExist (o .session .stage) ≡ true
   pub fitting : Fitting (o .session .worlds)
+  pub rules : Ruled (rulesOf (s .settings)) es
   pub frames : framesIn es ≡ o .frames
-  pub caught : newSteps (s .settings) 0 es + newSteps (s .settings) 1 es ≡ o .caught
+  pub caught : newSteps 0 es + newSteps 1 es ≡ o .caught
   pub old : oldStampOf (o .session .worlds) .0 ≡ (oldStampOf (s .worlds) .0 + o .frames + distancesIn es) % 65536
-  pub tape : o .tape ≡ wordsIn (s .settings) es ++ replicate (o .room - length (wordsIn (s .settings) es)) 0
-  pub linked : Linked (s .settings) (lagIn (s .worlds)) es
-  pub last : lastIn (s .settings) (lagIn (s .worlds)) es ≡ lagIn (o .session .worlds)
-  pub walk : Walk (s .settings) (s .worlds) es (o .session .worlds)
+  pub tape : o .tape ≡ wordsIn es ++ replicate (o .room - length (wordsIn es)) 0
+  pub linked : Linked (s .settings .m) (lagIn (s .worlds)) es
+  pub last : lastIn (lagIn (s .worlds)) es ≡ lagIn (o .session .worlds)
+  pub walk : Walk (s .worlds) es (o .session .worlds)
 
 -- the law of one call: it keeps floats and soundness, of any session; where worlds exist its trace tells it, and both its ledgers balance
 pub record OneCall (s : Session) (o : Outcome) (es : List Event) : Type 0 where
@@ -63,6 +64,7 @@ quiet-traced s e l r k h =
       settings = k .settings;
       exists = ap worldsExist (k .stage) ∙ h .exists;
       fitting = alike-fitting (k .alike) (subst QueuedFits (sym (k .queued)) (h .fitting .queued)) (h .fitting);
+      rules = tt;
       frames = refl;
       caught = refl;
       old = ap (λ (t : Timestamp). t .0) (sym (k .alike .old)) ∙ same (oldStampOf (s .worlds) .0) (h .fitting .old);

@@ -48,6 +48,7 @@ updated-refused n s len h =
       settings = refl;
       exists = h .exists;
       fitting = h .fitting;
+      rules = tt;
       frames = refl;
       caught = refl;
       old = omega (arith, h .fitting .old);
@@ -70,13 +71,14 @@ updated-accepted s c request t r len h a i =
       settings = refl;
       exists = stage-exists (s .stage) (r .played .scene .worlds .published .time) (h .exists);
       fitting = i .fitting;
+      rules = i .rules;
       frames = i .frames;
       caught = zero-more _ _ _ (a .steps) (i .caught);
       old = i .old ∙ ap (λ (o : Timestamp). (o .0 + r .frames + distancesIn (r .trace)) % 65536) (sym (a .alike .old));
       tape = ap (λ ws. ws ++ replicate (len - length ws) 0) (sym (i .words));
-      linked = subst (λ b. Linked (s .settings) b (r .trace)) (sym (alike-lag (a .alike))) (i .linked);
-      last = ap (λ b. lastIn (s .settings) b (r .trace)) (alike-lag (a .alike)) ∙ i .last;
-      walk = walk-same (s .settings) (s .worlds) (t .worlds) (r .played .scene .worlds) (r .trace) (same-of (a .alike)) (i .walk);
+      linked = subst (λ b. Linked (s .settings .m) b (r .trace)) (sym (alike-lag (a .alike))) (i .linked);
+      last = ap (λ b. lastIn b (r .trace)) (alike-lag (a .alike)) ∙ i .last;
+      walk = walk-same (s .worlds) (t .worlds) (r .played .scene .worlds) (r .trace) (same-of (a .alike)) (i .walk);
     }
   where
     zero-more : (x y z : ℕ) → y ≡ 0 → x ≡ y + z → z ≡ x

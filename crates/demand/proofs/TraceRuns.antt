@@ -16,23 +16,23 @@ use Rattle.timestamp.specs.Whole.{ceilOf}
 use Rattle.timestamp.specs.FloatTimestamps.{fromSeconds, ceilStampOf}
 use Rattle.tape.specs.Words.{stepsOn}
 use Rattle.settings.specs.declared.Settings.{Settings}
-use Rattle.settings.specs.Settings.{blendProgressOf, lagFrameCountOf}
+use Rattle.settings.specs.Settings.{lagFrameCountOf}
 use Rattle.settings.specs.Tweening.{shapedOf}
 use Rattle.client.specs.declared.ClientWorldSimulations.{ClientWorldSimulations}
 use Rattle.client.specs.declared.Scene.{Scene}
 use Rattle.client.specs.Sides.{oldStampOf, withWorlds, Played, andThen}
-use Rattle.client_frame.specs.Frame.{frameStops}
+use Rattle.client_frame.specs.Frame.{frameOf, frameStops}
 use Rattle.client_skip.specs.Skip.{skippedOf, tweenOf, weightOk, postUpdateOf}
 use Rattle.session_laws.proofs.TraceStamps.{lagOf, lag-is, lag-there, next-sum}
 use Rattle.session_laws.proofs.TraceSteps.{lagIn}
-use Rattle.session_laws.proofs.TraceFrames.{QueuedFits, Fitting, OneFrame}
+use Rattle.session_laws.proofs.TraceFrames.{QueuedFits, Fitting, OneFrame, one-frame}
 use Rattle.session_laws.proofs.TraceArrivals.{Alike, alike-fitting, alike-lag, post-alike, post-queued, OneSkip, one-skip}
 use Rattle.fixed_timestepper.specs.declared.Stop.{Stop}
 use Rattle.fixed_timestepper.specs.declared.Stop.the-variants.{Done, TooManyFrames, StatusStops, WeightStops}
-use Rattle.fixed_timestepper.specs.TimeKeeper.{nought, Event, FrameFrom, SkipFrom, Run, ended, framed, goesOn, whileBelow, runOf, compensatedOf, correctedOf, skipsOf, skipped, maybeSkipped, endsWith, finishedOf, concluded, advancedOf, updatedOf}
-use Rattle.demand.specs.Demand.{frameFrom, newIn, framesIn, distancesIn, wordsIn, newSteps, SameWorlds, Walk}
+use Rattle.fixed_timestepper.specs.TimeKeeper.{nought, rulesOf, Event, FrameFrom, SkipFrom, Run, ended, framed, goesOn, whileBelow, runOf, compensatedOf, correctedOf, skipsOf, skipped, maybeSkipped, endsWith, finishedOf, concluded, advancedOf, updatedOf}
+use Rattle.demand.specs.Demand.{newIn, framesIn, distancesIn, wordsIn, Ruled, newSteps, SameWorlds, Walk}
 use Rattle.demand.proofs.TraceLaw.{Linked, lastIn, linked-append, last-append}
-use Rattle.demand.proofs.TraceCounts.{frame-is, frame-new, frames-append, distances-append, new-append, words-append}
+use Rattle.demand.proofs.TraceCounts.{frame-new, frames-append, distances-append, new-append, words-append, ruled-append}
 
 -- ---- walks
 
@@ -45,37 +45,39 @@ same-then h k = record { side = h .side ∙ k .side; old = h .old ∙ k .old; ne
 pub same-of : {v w : ClientWorldSimulations} → Alike v w → SameWorlds v w
 same-of h = record { side = h .side; old = h .old; new = h .new; weight = h .weight }
 
-pub walk-same : (c : Settings) (u v w : ClientWorldSimulations) (es : List Event) → SameWorlds u v → Walk c v es w → Walk c u es w
-walk-same c u v w [] h k = same-then h k
-walk-same c u v w (FrameFrom s ∷ es) h k = (same-then h (k .0), k .1)
-walk-same c u v w (SkipFrom s t ∷ es) h k = (same-then h (k .0), k .1)
+pub walk-same : (u v w : ClientWorldSimulations) (es : List Event) → SameWorlds u v → Walk v es w → Walk u es w
+walk-same u v w [] h k = same-then h k
+walk-same u v w (FrameFrom y s ∷ es) h k = (same-then h (k .0), k .1)
+walk-same u v w (SkipFrom s t ∷ es) h k = (same-then h (k .0), k .1)
 
-pub walk-append : (c : Settings) (u v w : ClientWorldSimulations) (t r : List Event) → Walk c u t v → Walk c v r w → Walk c u (t ++ r) w
-walk-append c u v w [] r h k = walk-same c u v w r h k
-walk-append c u v w (FrameFrom s ∷ t) r h k = (h .0, walk-append c (frameFrom c s .scene .worlds) v w t r (h .1) k)
-walk-append c u v w (SkipFrom s x ∷ t) r h k = (h .0, walk-append c (skippedOf s x .scene .worlds) v w t r (h .1) k)
+pub walk-append : (u v w : ClientWorldSimulations) (t r : List Event) → Walk u t v → Walk v r w → Walk u (t ++ r) w
+walk-append u v w [] r h k = walk-same u v w r h k
+walk-append u v w (FrameFrom y s ∷ t) r h k = (h .0, walk-append (frameOf y s .scene .worlds) v w t r (h .1) k)
+walk-append u v w (SkipFrom s x ∷ t) r h k = (h .0, walk-append (skippedOf s x .scene .worlds) v w t r (h .1) k)
 
-pub walk-on : (c : Settings) (u v w : ClientWorldSimulations) (t : List Event) → Walk c u t v → SameWorlds v w → Walk c u t w
-walk-on c u v w [] h k = same-then h k
-walk-on c u v w (FrameFrom s ∷ t) h k = (h .0, walk-on c (frameFrom c s .scene .worlds) v w t (h .1) k)
-walk-on c u v w (SkipFrom s x ∷ t) h k = (h .0, walk-on c (skippedOf s x .scene .worlds) v w t (h .1) k)
+pub walk-on : (u v w : ClientWorldSimulations) (t : List Event) → Walk u t v → SameWorlds v w → Walk u t w
+walk-on u v w [] h k = same-then h k
+walk-on u v w (FrameFrom y s ∷ t) h k = (h .0, walk-on (frameOf y s .scene .worlds) v w t (h .1) k)
+walk-on u v w (SkipFrom s x ∷ t) h k = (h .0, walk-on (skippedOf s x .scene .worlds) v w t (h .1) k)
 
 -- ---- a run
 
 -- a run r from the scene s: its trace tells its frames, its words, its steps, its stamps and its worlds
 pub record Ran (c : Settings) (s : Scene) (r : Run) : Type 0 where
+  pub rules : Ruled (rulesOf c) (r .trace)
   pub frames : framesIn (r .trace) ≡ r .frames
-  pub words : wordsIn c (r .trace) ≡ r .played .words
-  pub caught : r .played .scene .steps ≡ s .steps + (newSteps c 0 (r .trace) + newSteps c 1 (r .trace))
+  pub words : wordsIn (r .trace) ≡ r .played .words
+  pub caught : r .played .scene .steps ≡ s .steps + (newSteps 0 (r .trace) + newSteps 1 (r .trace))
   pub old : oldStampOf (r .played .scene .worlds) .0 ≡ (oldStampOf (s .worlds) .0 + r .frames + distancesIn (r .trace)) % 65536
   pub fitting : Fitting (r .played .scene .worlds)
-  pub linked : Linked c (lagIn (s .worlds)) (r .trace)
-  pub last : lastIn c (lagIn (s .worlds)) (r .trace) ≡ lagIn (r .played .scene .worlds)
-  pub walk : Walk c (s .worlds) (r .trace) (r .played .scene .worlds)
+  pub linked : Linked (c .m) (lagIn (s .worlds)) (r .trace)
+  pub last : lastIn (lagIn (s .worlds)) (r .trace) ≡ lagIn (r .played .scene .worlds)
+  pub walk : Walk (s .worlds) (r .trace) (r .played .scene .worlds)
 
 ran-ended : (c : Settings) (stop : Stop) (s : Scene) (o : Float) → Fitting (s .worlds) → Ran c s (ended stop s o)
 ran-ended c stop s o h =
     record {
+      rules = tt;
       frames = refl;
       words = refl;
       caught = omega arith;
@@ -93,17 +95,18 @@ steps-more z y x a b m n k e f g = omega arith
 stamp-more : (z y x f d : ℕ) → y ≡ (x + 1) % 65536 → z ≡ (y + f + d) % 65536 → z ≡ (x + (1 + f) + d) % 65536
 stamp-more z y x f d e g = omega arith
 
-ran-framed : (c : Settings) (s : Scene) (r : Run) → 1 ≤ c .m → s .steps + c .m < 2 ^ 32 → Fitting (s .worlds) → Ran c (frameFrom c s .scene) r → Ran c s (framed s (frameFrom c s) r)
+ran-framed : (c : Settings) (s : Scene) (r : Run) → 1 ≤ c .m → s .steps + c .m < 2 ^ 32 → Fitting (s .worlds) → Ran c (frameOf (rulesOf c) s .scene) r → Ran c s (framed (rulesOf c) s r)
 unfolding framed
 ran-framed c s r hm hs h i =
-    let f : OneFrame (c .m) (blendProgressOf c) s (frameFrom c s) = frame-is c s in
+    let f : OneFrame (rulesOf c) s (frameOf (rulesOf c) s) = one-frame (rulesOf c) s in
     record {
+      rules = (refl, i .rules);
       frames = ap (λ n. 1 + n) (i .frames);
-      words = ap (λ ws. frameFrom c s .words ++ ws) (i .words);
-      caught = steps-more (r .played .scene .steps) (frameFrom c s .scene .steps) (s .steps) (cond (eqb (newIn c s) 0) (stepsOn 0 (frameFrom c s .words)) 0) (cond (eqb (newIn c s) 1) (stepsOn 1 (frameFrom c s .words)) 0) (newSteps c 0 (r .trace)) (newSteps c 1 (r .trace)) (stepsOn (newIn c s) (frameFrom c s .words)) (f .steps hs) (frame-new c s) (i .caught);
-      old = stamp-more (oldStampOf (r .played .scene .worlds) .0) (oldStampOf (frameFrom c s .scene .worlds) .0) (oldStampOf (s .worlds) .0) (r .frames) (distancesIn (r .trace)) (f .old ∙ next-sum (oldStampOf (s .worlds) .0)) (i .old);
+      words = ap (λ ws. frameOf (rulesOf c) s .words ++ ws) (i .words);
+      caught = steps-more (r .played .scene .steps) (frameOf (rulesOf c) s .scene .steps) (s .steps) (cond (eqb (newIn (rulesOf c) s) 0) (stepsOn 0 (frameOf (rulesOf c) s .words)) 0) (cond (eqb (newIn (rulesOf c) s) 1) (stepsOn 1 (frameOf (rulesOf c) s .words)) 0) (newSteps 0 (r .trace)) (newSteps 1 (r .trace)) (stepsOn (newIn (rulesOf c) s) (frameOf (rulesOf c) s .words)) (f .steps hs) (frame-new (rulesOf c) s) (i .caught);
+      old = stamp-more (oldStampOf (r .played .scene .worlds) .0) (oldStampOf (frameOf (rulesOf c) s .scene .worlds) .0) (oldStampOf (s .worlds) .0) (r .frames) (distancesIn (r .trace)) (f .old ∙ next-sum (oldStampOf (s .worlds) .0)) (i .old);
       fitting = i .fitting;
-      linked = (record { law = λ l. f .behind hm h l }, i .linked);
+      linked = (record { law = λ l. f .behind hm h l; few = f .few }, i .linked);
       last = i .last;
       walk = (same-self (s .worlds), i .walk);
     }
@@ -126,15 +129,15 @@ pub ran : (n : ℕ) (c : Settings) (s : Scene) (o : Float) → 1 ≤ c .m → c 
 unfolding runOf
 ran zero c s o hm hl h k = ran-while (lt o nought) c s o (ended TooManyFrames s o) h (ran-ended c TooManyFrames s o h)
 ran (suc n) c s o hm hl h k =
-    let p : Played = frameFrom c s in
-    let f : OneFrame (c .m) (blendProgressOf c) s p = frame-is c s in
+    let p : Played = frameOf (rulesOf c) s in
+    let f : OneFrame (rulesOf c) s p = one-frame (rulesOf c) s in
     let x : Float = add binary64 o (c .timestep) in
-    let b : Bool = frameStops (c .m) (blendProgressOf c) s in
+    let b : Bool = frameStops (rulesOf c) s in
     let hs : s .steps + c .m < 2 ^ 32 = room-first (s .steps) (c .m) n hl k in
-    ran-while (lt o nought) c s o (framed s p (goesOn b (p .scene) x (runOf n c (p .scene) x))) h
+    ran-while (lt o nought) c s o (framed (rulesOf c) s (goesOn b (p .scene) x (runOf n c (p .scene) x))) h
     (ran-framed c s (goesOn b (p .scene) x (runOf n c (p .scene) x)) hm hs h
     (ran-goes b c (p .scene) x (runOf n c (p .scene) x) (f .fitting h)
-    (ran n c (p .scene) x hm hl (f .fitting h) (room-rest (p .scene .steps) (s .steps) (c .m) (stepsOn (newIn c s) (p .words)) n hl (f .few) (f .steps hs) k))))
+    (ran n c (p .scene) x hm hl (f .fitting h) (room-rest (p .scene .steps) (s .steps) (c .m) (stepsOn (newIn (rulesOf c) s) (p .words)) n hl (f .few) (f .steps hs) k))))
 
 -- ---- the skip
 
@@ -169,14 +172,15 @@ ran-skipped c s r server i =
     let ko : oldStampOf (skippedOf u t .scene .worlds) .0 ≡ (oldStampOf (u .worlds) .0 + differenceOf (t .0) (oldStampOf (u .worlds) .0)) % 65536 =
     ap (λ (x : Timestamp). x .0) (k .old) ∙ there ∙ ap (λ n. (oldStampOf (u .worlds) .0 + n) % 65536) (lag-is (t .0) (oldStampOf (u .worlds) .0)) in
     record {
+      rules = ruled-append (rulesOf c) tr es (i .rules) tt;
       frames = plus-none (framesIn (tr ++ es)) (framesIn tr) (r .frames) (frames-append tr es) (i .frames);
-      words = words-append c tr es ∙ ap (λ ws. ws ++ (skippedOf u t .words ++ [])) (i .words) ∙ ap (λ ws. r .played .words ++ ws) (append-nil (skippedOf u t .words));
-      caught = steps-skip (skippedOf u t .scene .steps) (u .steps) (s .steps) (newSteps c 0 tr) (newSteps c 1 tr) (newSteps c 0 (tr ++ es)) (newSteps c 1 (tr ++ es)) (k .steps) (i .caught) (new-append c 0 tr es) (new-append c 1 tr es);
+      words = words-append tr es ∙ ap (λ ws. ws ++ (skippedOf u t .words ++ [])) (i .words) ∙ ap (λ ws. r .played .words ++ ws) (append-nil (skippedOf u t .words));
+      caught = steps-skip (skippedOf u t .scene .steps) (u .steps) (s .steps) (newSteps 0 tr) (newSteps 1 tr) (newSteps 0 (tr ++ es)) (newSteps 1 (tr ++ es)) (k .steps) (i .caught) (new-append 0 tr es) (new-append 1 tr es);
       old = stamp-skip (oldStampOf (skippedOf u t .scene .worlds) .0) (oldStampOf (u .worlds) .0) (oldStampOf (s .worlds) .0) (r .frames) (distancesIn tr) (differenceOf (t .0) (oldStampOf (u .worlds) .0)) (i .old) ko ∙ ap (λ d. (oldStampOf (s .worlds) .0 + r .frames + d) % 65536) (sym (distances-append tr es));
       fitting = k .fitting tl (i .fitting);
-      linked = linked-append c (lagIn (s .worlds)) tr es (i .linked) tt;
-      last = last-append c (lagIn (s .worlds)) tr es;
-      walk = walk-append c (s .worlds) (u .worlds) (skippedOf u t .scene .worlds) tr es (i .walk) (same-self (u .worlds), same-self (skippedOf u t .scene .worlds));
+      linked = linked-append (c .m) (lagIn (s .worlds)) tr es (i .linked) tt;
+      last = last-append (lagIn (s .worlds)) tr es;
+      walk = walk-append (s .worlds) (u .worlds) (skippedOf u t .scene .worlds) tr es (i .walk) (same-self (u .worlds), same-self (skippedOf u t .scene .worlds));
     }
 
 skipped-by : (b : Bool) (c : Settings) (s : Scene) (r : Run) (server : Float) → Ran c s r → Ran c s (cond b (skipped r server c) r)
@@ -191,11 +195,12 @@ ran-maybe c s r server i = skipped-by (skipsOf (oldStampOf (r .played .scene .wo
 
 ran-stops : (c : Settings) (s : Scene) (r : Run) (stop : Stop) → Ran c s r → Ran c s (endsWith r (r .played .scene) stop)
 ran-stops c s r stop i =
-    record { frames = i .frames; words = i .words; caught = i .caught; old = i .old; fitting = i .fitting; linked = i .linked; last = i .last; walk = i .walk }
+    record { rules = i .rules; frames = i .frames; words = i .words; caught = i .caught; old = i .old; fitting = i .fitting; linked = i .linked; last = i .last; walk = i .walk }
 
 ran-ends : (c : Settings) (s : Scene) (r : Run) (w : ClientWorldSimulations) (stop : Stop) → Alike (r .played .scene .worlds) w → QueuedFits (w .snapshots .queued) → Ran c s r → Ran c s (endsWith r (withWorlds (r .played .scene) w) stop)
 ran-ends c s r w stop a q i =
     record {
+      rules = i .rules;
       frames = i .frames;
       words = i .words;
       caught = i .caught;
@@ -203,7 +208,7 @@ ran-ends c s r w stop a q i =
       fitting = alike-fitting a q (i .fitting);
       linked = i .linked;
       last = i .last ∙ alike-lag a;
-      walk = walk-on c (s .worlds) (r .played .scene .worlds) w (r .trace) (i .walk) (same-of a);
+      walk = walk-on (s .worlds) (r .played .scene .worlds) w (r .trace) (i .walk) (same-of a);
     }
 
 finished-by : (b : Bool) (c : Settings) (s : Scene) (r : Run) (t : Float) (lag : ℕ) → Ran c s r →

@@ -12,46 +12,42 @@ use Rattle.timestamp.specs.Timestamps.{differenceOf}
 use Rattle.tape.specs.Words.{stepsOn}
 use Rattle.command.specs.Buffer.{held}
 use Rattle.settings.specs.declared.Settings.{Settings}
-use Rattle.settings.specs.Settings.{blendProgressOf}
 use Rattle.client.specs.declared.ClientWorldSimulations.{ClientWorldSimulations}
 use Rattle.client.specs.declared.Queued.{Queued}
 use Rattle.client.specs.declared.Queued.the-variants.{Nothing, Held}
 use Rattle.client.specs.declared.Scene.{Scene}
-use Rattle.client.specs.Sides.{oldSideOf, newSideOf, worldOf, oldStampOf, newStampOf, Played}
+use Rattle.client.specs.Sides.{oldSideOf, newSideOf, worldOf, oldStampOf, newStampOf}
+use Rattle.client_frame.specs.declared.Rules.{Rules}
 use Rattle.client_frame.specs.Frame.{frameOf, openOf, snapshotOf}
 use Rattle.client_skip.specs.Skip.{skippedOf}
-use Rattle.fixed_timestepper.specs.TimeKeeper.{Event, FrameFrom, SkipFrom}
+use Rattle.fixed_timestepper.specs.TimeKeeper.{rulesOf, Event, FrameFrom, SkipFrom}
 use Rattle.session_state.specs.declared.Session.{Session}
 use Rattle.session_state.specs.declared.Stage.{Stage}
 use Rattle.session_state.specs.declared.Stage.the-variants.{SyncingClock, SyncingInitialState, Ready}
 use Rattle.session_state.specs.Sound.{soundOf}
 use Rattle.demand.specs.Calls.{Call, Chain, endOf, traceOf, outcomeOf, happened, sum, sessionOf, framesOf, caughtOf, ledgerOn, markedOf, markedOn, appliedOn}
 
--- ---- a frame of the trace, by the scene before it
-
--- what a frame did: the frame of the definition, from the scene before it
-abbrev pub frameFrom : Settings → Scene → Played
-frameFrom c s = frameOf (c .m) (blendProgressOf c) s
+-- ---- a frame of the trace, by its rules and the scene before it
 
 -- the scene once the frame is opened: its load, its swap or its reset is done, and no world has stepped yet
-abbrev pub openedFrom : Settings → Scene → Scene
-openedFrom c s = openOf (blendProgressOf c) s .scene
+abbrev pub openedFrom : Rules → Scene → Scene
+openedFrom r s = openOf r s .scene
 
 -- the side then old
-abbrev pub oldIn : Settings → Scene → ℕ
-oldIn c s = oldSideOf (openedFrom c s .worlds)
+abbrev pub oldIn : Rules → Scene → ℕ
+oldIn r s = oldSideOf (openedFrom r s .worlds)
 
 -- the side then new
-abbrev pub newIn : Settings → Scene → ℕ
-newIn c s = newSideOf (openedFrom c s .worlds)
+abbrev pub newIn : Rules → Scene → ℕ
+newIn r s = newSideOf (openedFrom r s .worlds)
 
 -- (O - N) modulo 65,536: how many frames the new world is behind
 abbrev pub behindOf : ClientWorldSimulations → ℕ
 behindOf w = differenceOf (oldStampOf w .0) (newStampOf w .0)
 
 -- how far behind it is after a frame
-abbrev pub behindAfter : Settings → Scene → ℕ
-behindAfter c s = behindOf (frameFrom c s .scene .worlds)
+abbrev pub behindAfter : Rules → Scene → ℕ
+behindAfter r s = behindOf (frameOf r s .scene .worlds)
 
 -- whether a frame loads a snapshot, and g: how far behind the old stamp that is, just before the frame
 pub data Load : Type 0 where
@@ -67,85 +63,107 @@ loadBy (Held t h) o = Loaded (differenceOf (o .0) (t .0))
 abbrev pub loadIn : Scene → Load
 loadIn s = loadBy (snapshotOf s) (oldStampOf (s .worlds))
 
--- ---- what a trace says, under the settings c
+-- ---- what a trace says
 
 -- its frames
 abbrev pub framesIn : List Event → ℕ
 framesIn [] = 0
-framesIn (FrameFrom s ∷ es) = 1 + framesIn es
+framesIn (FrameFrom r s ∷ es) = 1 + framesIn es
 framesIn (SkipFrom s t ∷ es) = framesIn es
 
 -- the distances of its skips: the stamp that a skip sets less the old stamp just before it
 abbrev pub distancesIn : List Event → ℕ
 distancesIn [] = 0
-distancesIn (FrameFrom s ∷ es) = distancesIn es
+distancesIn (FrameFrom r s ∷ es) = distancesIn es
 distancesIn (SkipFrom s t ∷ es) = differenceOf (t .0) (oldStampOf (s .worlds) .0) + distancesIn es
 
 -- the words of one thing that happened
-abbrev pub wordsOf : Settings → Event → List ℕ
-wordsOf c (FrameFrom s) = frameFrom c s .words
-wordsOf c (SkipFrom s t) = skippedOf s t .words
+abbrev pub wordsOf : Event → List ℕ
+wordsOf (FrameFrom r s) = frameOf r s .words
+wordsOf (SkipFrom s t) = skippedOf s t .words
 
 -- its words, joined
-abbrev pub wordsIn : Settings → List Event → List ℕ
-wordsIn c [] = []
-wordsIn c (e ∷ es) = wordsOf c e ++ wordsIn c es
+abbrev pub wordsIn : List Event → List ℕ
+wordsIn [] = []
+wordsIn (e ∷ es) = wordsOf e ++ wordsIn es
+
+-- ---- the rules
+
+-- every frame of a trace goes by these rules
+abbrev pub Ruled : Rules → List Event → Type 0
+Ruled r [] = Unit {0}
+Ruled r (FrameFrom x s ∷ es) = (x ≡ r) × Ruled r es
+Ruled r (SkipFrom s t ∷ es) = Ruled r es
+
+-- every frame of a call goes by the rules that the settings of the session give that the call was handed
+abbrev pub AllRuled : Session → List Call → Type 0
+AllRuled s [] = Unit {0}
+AllRuled s (c ∷ cs) = Ruled (rulesOf (s .settings)) (happened s c) × AllRuled (sessionOf c) cs
+
+-- every session on the way has these settings
+abbrev pub AllSet : Settings → List Call → Type 0
+AllSet x [] = Unit {0}
+AllSet x (c ∷ cs) = (sessionOf c .settings ≡ x) × AllSet x cs
 
 -- ---- the catch-up law
 
--- the trace of frames of these scenes
-abbrev pub framesFrom : List Scene → List Event
+-- a frame: its rules, and the scene before it
+pub record Frame : Type 0 where
+  pub rules : Rules
+  pub before : Scene
+
+-- the trace of these frames
+abbrev pub framesFrom : List Frame → List Event
 framesFrom [] = []
-framesFrom (s ∷ ss) = FrameFrom s ∷ framesFrom ss
+framesFrom (f ∷ fs) = FrameFrom (f .rules) (f .before) ∷ framesFrom fs
 
 -- none of these frames loads
-abbrev pub NoLoads : List Scene → Type 0
+abbrev pub NoLoads : List Frame → Type 0
 NoLoads [] = Unit {0}
-NoLoads (s ∷ ss) = (loadIn s ≡ NoLoad) × NoLoads ss
+NoLoads (f ∷ fs) = (loadIn (f .before) ≡ NoLoad) × NoLoads fs
 
 -- how far behind the new world is after the last of frames that are not none
-abbrev pub behindLast : Settings → Scene → List Scene → ℕ
-behindLast c s [] = behindAfter c s
-behindLast c s (t ∷ ts) = behindLast c t ts
+abbrev pub behindLast : Frame → List Frame → ℕ
+behindLast f [] = behindAfter (f .rules) (f .before)
+behindLast f (g ∷ fs) = behindLast g fs
 
 -- Whenever a snapshot is loaded g frames behind, 0 to 32,767, and frames follow with no load among them and no skip, k frames in all with that of the load (k = 1),
 -- the new world is max(0, g - k × (m - 1)) behind after the last of them: `-` on natural numbers stops at 0. The frames may be of several updates.
-unfoldable pub CatchUp : Settings → List Event → Type 0
-CatchUp c trace =
-    (before : List Event) (load : Scene) (frames : List Scene) (after : List Event) (g : ℕ) →
+unfoldable pub CatchUp : ℕ → List Event → Type 0
+CatchUp m trace =
+    (before : List Event) (load : Frame) (frames : List Frame) (after : List Event) (g : ℕ) →
     trace ≡ before ++ (framesFrom (load ∷ frames) ++ after) →
-    loadIn load ≡ Loaded g → g ≤ 32767 → NoLoads frames →
-    behindLast c load frames ≡ g - length (load ∷ frames) * (c .m - 1)
+    loadIn (load .before) ≡ Loaded g → g ≤ 32767 → NoLoads frames →
+    behindLast load frames ≡ g - length (load ∷ frames) * (m - 1)
 
 -- ---- the step words of each frame
 
 -- one step word for the side then old, and at most m for the side then new
-pub record Stepped (c : Settings) (s : Scene) : Type 0 where
-  pub one : stepsOn (oldIn c s) (frameFrom c s .words) ≡ 1
-  pub most : stepsOn (newIn c s) (frameFrom c s .words) ≤ c .m
+pub record Stepped (r : Rules) (s : Scene) : Type 0 where
+  pub one : stepsOn (oldIn r s) (frameOf r s .words) ≡ 1
+  pub most : stepsOn (newIn r s) (frameOf r s .words) ≤ r .m
 
 -- so in every frame of a trace
-unfoldable pub Steps : Settings → List Event → Type 0
-Steps c trace = (before : List Event) (s : Scene) (after : List Event) → trace ≡ before ++ (FrameFrom s ∷ after) → Stepped c s
+unfoldable pub Steps : List Event → Type 0
+Steps trace = (before : List Event) (r : Rules) (s : Scene) (after : List Event) → trace ≡ before ++ (FrameFrom r s ∷ after) → Stepped r s
 
 -- the steps of the sides then old in a trace, counted for the side x
-abbrev pub oldSteps : Settings → ℕ → List Event → ℕ
-oldSteps c x [] = 0
-oldSteps c x (FrameFrom s ∷ es) = cond (eqb (oldIn c s) x) 1 0 + oldSteps c x es
-oldSteps c x (SkipFrom s t ∷ es) = oldSteps c x es
+abbrev pub oldSteps : ℕ → List Event → ℕ
+oldSteps x [] = 0
+oldSteps x (FrameFrom r s ∷ es) = cond (eqb (oldIn r s) x) 1 0 + oldSteps x es
+oldSteps x (SkipFrom s t ∷ es) = oldSteps x es
 
 -- the steps of the sides then new, counted for the side x
-abbrev pub newSteps : Settings → ℕ → List Event → ℕ
-newSteps c x [] = 0
-newSteps c x (FrameFrom s ∷ es) = cond (eqb (newIn c s) x) (stepsOn x (frameFrom c s .words)) 0 + newSteps c x es
-newSteps c x (SkipFrom s t ∷ es) = newSteps c x es
+abbrev pub newSteps : ℕ → List Event → ℕ
+newSteps x [] = 0
+newSteps x (FrameFrom r s ∷ es) = cond (eqb (newIn r s) x) (stepsOn x (frameOf r s .words)) 0 + newSteps x es
+newSteps x (SkipFrom s t ∷ es) = newSteps x es
 
 -- ---- the tapes
 
 -- the tape of a call as it came back: the words of what happened, and zeros
 abbrev pub Taped : Session → Call → Type 0
-Taped s c =
-    outcomeOf c .tape ≡ wordsIn (s .settings) (happened s c) ++ replicate (outcomeOf c .room - length (wordsIn (s .settings) (happened s c))) 0
+Taped s c = outcomeOf c .tape ≡ wordsIn (happened s c) ++ replicate (outcomeOf c .room - length (wordsIn (happened s c))) 0
 
 -- so of every call
 abbrev pub Tapes : Session → List Call → Type 0
@@ -162,10 +180,10 @@ pub record SameWorlds (v w : ClientWorldSimulations) : Type 0 where
   pub weight : v .weight ≡ w .weight
 
 -- from the worlds v to the worlds w: each frame and each skip starts from the worlds that were there, and goes on from those that it leaves
-abbrev pub Walk : Settings → ClientWorldSimulations → List Event → ClientWorldSimulations → Type 0
-Walk c v [] w = SameWorlds v w
-Walk c v (FrameFrom s ∷ es) w = SameWorlds v (s .worlds) × Walk c (frameFrom c s .scene .worlds) es w
-Walk c v (SkipFrom s t ∷ es) w = SameWorlds v (s .worlds) × Walk c (skippedOf s t .scene .worlds) es w
+abbrev pub Walk : ClientWorldSimulations → List Event → ClientWorldSimulations → Type 0
+Walk v [] w = SameWorlds v w
+Walk v (FrameFrom r s ∷ es) w = SameWorlds v (s .worlds) × Walk (frameOf r s .scene .worlds) es w
+Walk v (SkipFrom s t ∷ es) w = SameWorlds v (s .worlds) × Walk (skippedOf s t .scene .worlds) es w
 
 -- ---- ledgers
 
@@ -214,6 +232,10 @@ pub record Typed (s : Session) : Type 0 where
 pub record Told (s : Session) (cs : List Call) : Type 0 where
   -- every session on the way is sound
   pub sound : AllSound cs
+  -- no call changes the settings
+  pub settings : AllSet (s .settings) cs
+  -- every frame goes by the rules of its session's settings
+  pub rules : AllRuled s cs
   -- F is the number of frames that happened
   pub frames : framesIn (traceOf s cs) ≡ sum framesOf cs
   -- the old world's stamp has moved by F plus the distances of its skips, modulo 65,536
@@ -221,21 +243,21 @@ pub record Told (s : Session) (cs : List Call) : Type 0 where
   -- the tapes as returned hold exactly F + C step words
   pub marks : sum markedOf cs ≡ sum framesOf cs + sum caughtOf cs
   -- of the side x: one for each frame in which it is old, and the others for the frames in which it is new
-  pub sides : (x : ℕ) → x < 2 → sum (markedOn x) cs ≡ oldSteps (s .settings) x (traceOf s cs) + newSteps (s .settings) x (traceOf s cs)
+  pub sides : (x : ℕ) → x < 2 → sum (markedOn x) cs ≡ oldSteps x (traceOf s cs) + newSteps x (traceOf s cs)
   -- C of them for the sides then new
-  pub caught : newSteps (s .settings) 0 (traceOf s cs) + newSteps (s .settings) 1 (traceOf s cs) ≡ sum caughtOf cs
-  -- one a frame for the side then old, at most m a frame for the side then new
-  pub steps : Steps (s .settings) (traceOf s cs)
+  pub caught : newSteps 0 (traceOf s cs) + newSteps 1 (traceOf s cs) ≡ sum caughtOf cs
+  -- one a frame for the side then old, at most the m of its rules a frame for the side then new
+  pub steps : Steps (traceOf s cs)
   -- and so at most m × F
   pub most : sum caughtOf cs ≤ s .settings .m * sum framesOf cs
   -- the tapes are the words of what happened
   pub tapes : Tapes s cs
   -- what happened leads from the first worlds to the last
-  pub walk : Walk (s .settings) (s .worlds) (traceOf s cs) (endOf s cs .worlds)
+  pub walk : Walk (s .worlds) (traceOf s cs) (endOf s cs .worlds)
   -- both ledgers
   pub ledgers : (x : ℕ) → x < 2 → Balanced x s cs
   -- the catch-up law
-  pub law : CatchUp (s .settings) (traceOf s cs)
+  pub law : CatchUp (s .settings .m) (traceOf s cs)
 
 -- demand 3, proved in proofs/Demand.antt
 unfoldable pub Demand3 : Type 0

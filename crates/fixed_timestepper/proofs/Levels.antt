@@ -9,7 +9,6 @@ use Rattle.timestamp.specs.declared.Timestamp.{Timestamp}
 use Rattle.timestamp.specs.Timestamps.{sumOf}
 use Rattle.tape.proofs.Writing.{puts-as}
 use Rattle.settings.specs.declared.Settings.{Settings}
-use Rattle.settings.specs.Settings.{blendProgressOf}
 use Rattle.simulation.specs.World.{nextStamp}
 use Rattle.client.specs.declared.ClientWorldSimulations.{ClientWorldSimulations}
 use Rattle.client.specs.declared.Scene.{Scene}
@@ -19,7 +18,7 @@ use Rattle.client_level.specs.Level.{isLevel}
 use Rattle.client_level.proofs.Levelling.{level-stops, level-stamp}
 use Rattle.fixed_timestepper.specs.declared.Stop.the-variants.{Done}
 use Rattle.fixed_timestepper.specs.declared.Advanced.{Advanced}
-use Rattle.fixed_timestepper.specs.TimeKeeper.{nought, Run, ended, framed, goesOn, runOf, skipsOf, Advances}
+use Rattle.fixed_timestepper.specs.TimeKeeper.{nought, rulesOf, Run, ended, framed, goesOn, runOf, skipsOf, Advances}
 use Rattle.fixed_timestepper.specs.Inner.{isSingle, levelRun, Skips}
 use Rattle.fixed_timestepper.proofs.Ending.{skip-none}
 use Rattle.fixed_timestepper.proofs.Running.{frame, goes-at, done-at}
@@ -83,10 +82,10 @@ module _ (c : Settings) (s : Scene) (o : Float) (single : isSingle o (c .timeste
   bounds = single-by (lt o nought) (lt (add binary64 o (c .timestep)) nought) single
 
   -- the run is the one frame
-  single-run : runOf 65 c s o ≡ framed s (frame c s) (ended Done (frame c s .scene) (add binary64 o (c .timestep)))
+  single-run : runOf 65 c s o ≡ framed (rulesOf c) s (ended Done (frame c s .scene) (add binary64 o (c .timestep)))
   single-run =
       goes-at 64 c s o (bounds .0)
-      ∙ (λ i. framed s (frame c s) (goesOn (level-stops (c .m) (blendProgressOf c) s level i) (frame c s .scene) (add binary64 o (c .timestep)) (done-at 64 c (frame c s .scene) (add binary64 o (c .timestep)) (bounds .1) i)))
+      ∙ (λ i. framed (rulesOf c) s (goesOn (level-stops (rulesOf c) s level i) (frame c s .scene) (add binary64 o (c .timestep)) (done-at 64 c (frame c s .scene) (add binary64 o (c .timestep)) (bounds .1) i)))
 
   -- the run as the code leaves it
   pub level-advances : {f : Shown} {x : Float} {was last : List ℕ} → Plays (frame c s) was 0 f last → x ≡ add binary64 o (c .timestep)
@@ -113,5 +112,5 @@ module _ (c : Settings) (s : Scene) (o : Float) (single : isSingle o (c .timeste
   level-stays {was} {last} {a} {t} {server} ht hk h =
       let e : a .scene ≡ frame c s .scene = h .scene ∙ ap (λ (r : Run). r .played .scene) single-run in
       let x : a .overshoot ≡ add binary64 o (c .timestep) = h .overshoot ∙ ap (λ (r : Run). r .overshoot) single-run in
-      let n : oldStampOf (a .scene .worlds) ≡ nextStamp t = ap (λ (y : Scene). oldStampOf (y .worlds)) e ∙ (λ i. record { 0 = level-stamp (c .m) (blendProgressOf c) s level i }) ∙ ap nextStamp (sym ht) in
+      let n : oldStampOf (a .scene .worlds) ≡ nextStamp t = ap (λ (y : Scene). oldStampOf (y .worlds)) e ∙ (λ i. record { 0 = level-stamp (rulesOf c) s level i }) ∙ ap nextStamp (sym ht) in
       skip-none a server c last ((λ i. skipsOf (n i) (x i) server c) ∙ hk)

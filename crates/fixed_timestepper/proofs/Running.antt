@@ -13,12 +13,13 @@ use Rattle.settings.specs.Settings.{blendProgressOf}
 use Rattle.client.specs.declared.Scene.{Scene}
 use Rattle.client.specs.declared.Framed.{Framed}
 use Rattle.client.specs.Sides.{Played}
+use Rattle.client_frame.specs.declared.Rules.{Rules}
 use Rattle.client_frame.specs.Frame.{frameOf, frameStops, Frames}
 use Rattle.client_frame.proofs.Bounds.{Few, Short, frame-short}
 use Rattle.fixed_timestepper.specs.declared.Stop.{Stop}
 use Rattle.fixed_timestepper.specs.declared.Stop.the-variants.{Done, TooManyFrames, StatusStops}
 use Rattle.fixed_timestepper.specs.declared.Advanced.{Advanced}
-use Rattle.fixed_timestepper.specs.TimeKeeper.{nought, Run, ended, framed, goesOn, whileBelow, runOf, Advances}
+use Rattle.fixed_timestepper.specs.TimeKeeper.{nought, rulesOf, Run, ended, framed, goesOn, whileBelow, runOf, Advances}
 
 -- n frames were played from the scene `from`; the run q is what is left, from the scene s and the place p on
 pub record Running (c : Settings) (from : Scene) (start : Float) (was tape : List ℕ) (s : Scene) (o : Float) (p n : ℕ) : Type 0 where
@@ -51,11 +52,11 @@ over-with c from start {was} {tape} {s} {o} {p} {n} x r e =
 
 -- the frame of a scene
 abbrev pub frame : Settings → Scene → Played
-frame c s = frameOf (c .m) (blendProgressOf c) s
+frame c s = frameOf (rulesOf c) s
 
 -- a frame, and then the run from the scene after it
 abbrev onward : ℕ → Settings → Scene → Float → Run
-onward k c s o = framed s (frame c s) (goesOn (frameStops (c .m) (blendProgressOf c) s) (frame c s .scene) (add binary64 o (c .timestep)) (runOf k c (frame c s .scene) (add binary64 o (c .timestep))))
+onward k c s o = framed (rulesOf c) s (goesOn (frameStops (rulesOf c) s) (frame c s .scene) (add binary64 o (c .timestep)) (runOf k c (frame c s .scene) (add binary64 o (c .timestep))))
 
 -- the overshoot is not negative
 pub done-at : (k : ℕ) (c : Settings) (s : Scene) (o : Float) → lt o nought ≡ false → runOf k c s o ≡ ended Done s o
@@ -88,12 +89,12 @@ goes-at k c s o h = ap (λ (b : Bool). whileBelow b s o (onward k c s o)) h
 
 module _ (c : Settings) (from : Scene) (start : Float) {was tape mid : List ℕ} {s : Scene} {o : Float} {p n : ℕ} {f : Framed}
     (r : Running c from start was tape s o p n) (below : lt o nought ≡ true) (few : n < 65) (small : c .m ≤ 64)
-    (h : Frames (frame c s) (frameStops (c .m) (blendProgressOf c) s) tape p f mid) where
+    (h : Frames (frame c s) (frameStops (rulesOf c) s) tape p f mid) where
   -- what is left after the frame
   after : Bool → Run
   after b = goesOn b (frame c s .scene) (add binary64 o (c .timestep)) (runOf (65 - (n + 1)) c (frame c s .scene) (add binary64 o (c .timestep)))
 
-  left-is : runOf (65 - n) c s o ≡ framed s (frame c s) (after (frameStops (c .m) (blendProgressOf c) s))
+  left-is : runOf (65 - n) c s o ≡ framed (rulesOf c) s (after (frameStops (rulesOf c) s))
   unfolding after
   left-is =
       let e : 65 - n ≡ suc (65 - (n + 1)) = omega arith in
@@ -101,10 +102,10 @@ module _ (c : Settings) (from : Scene) (start : Float) {was tape mid : List ℕ}
 
   -- after the frame the place is within its bound
   place : f .at ≤ (n + 1) * 4293
-  place = omega (arith, h .puts .at, frame-short (c .m) (blendProgressOf c) s (r .held) .words, r .at)
+  place = omega (arith, h .puts .at, frame-short (rulesOf c) s (r .held) .words, r .at)
 
   -- the frame, and then a run q, in place of what was left
-  joined : (q : Run) → runOf (65 - n) c s o ≡ framed s (frame c s) q
+  joined : (q : Run) → runOf (65 - n) c s o ≡ framed (rulesOf c) s q
       → (q .played .scene ≡ runOf 65 c from start .played .scene) × (q .overshoot ≡ runOf 65 c from start .overshoot) × (q .stop ≡ runOf 65 c from start .stop) × (n + 1 + q .frames ≡ runOf 65 c from start .frames)
       × ((z : ℕ) (last : List ℕ) → Puts mid (f .at) (q .played .words) z last → Puts was 0 (runOf 65 c from start .played .words) z last)
   unfolding framed
@@ -121,7 +122,7 @@ module _ (c : Settings) (from : Scene) (start : Float) {was tape mid : List ℕ}
       → Advances (runOf 65 c from start) was (record { scene = f .scene; overshoot = x; frames = n + 1; at = f .at; stop = StatusStops }) mid
   unfolding after
   running-stops hs hx =
-      let j = joined (ended StatusStops (frame c s .scene) (add binary64 o (c .timestep))) (left-is ∙ ap (λ (b : Bool). framed s (frame c s) (after b)) (sym (h .stopped) ∙ hs)) in
+      let j = joined (ended StatusStops (frame c s .scene) (add binary64 o (c .timestep))) (left-is ∙ ap (λ (b : Bool). framed (rulesOf c) s (after b)) (sym (h .stopped) ∙ hs)) in
       record {
         scene = h .scene ∙ j .0;
         overshoot = hx ∙ j .1;
@@ -135,11 +136,11 @@ module _ (c : Settings) (from : Scene) (start : Float) {was tape mid : List ℕ}
   unfolding after
   running-on {x} hs hx =
       let q = runOf (65 - (n + 1)) c (frame c s .scene) (add binary64 o (c .timestep)) in
-      let j = joined q (left-is ∙ ap (λ (b : Bool). framed s (frame c s) (after b)) (sym (h .stopped) ∙ hs)) in
+      let j = joined q (left-is ∙ ap (λ (b : Bool). framed (rulesOf c) s (after b)) (sym (h .stopped) ∙ hs)) in
       let e : runOf (65 - (n + 1)) c (f .scene) x ≡ q = λ i. runOf (65 - (n + 1)) c (h .scene i) (hx i) in
       record {
         bound = omega arith;
-        held = subst (λ (y : Scene). Few (y .worlds)) (sym (h .scene)) (frame-short (c .m) (blendProgressOf c) s (r .held) .few);
+        held = subst (λ (y : Scene). Few (y .worlds)) (sym (h .scene)) (frame-short (rulesOf c) s (r .held) .few);
         at = place;
         len = puts-length (h .puts) ∙ r .len;
         scene = ap (λ (y : Run). y .played .scene) e ∙ j .0;
@@ -153,10 +154,14 @@ module _ (c : Settings) (from : Scene) (start : Float) {was tape mid : List ℕ}
 pub few-left : {n : ℕ} → n ≤ 65 → (n ≡ 65 → ⊥) → n < 65
 few-left h k = omega (arith, h, k)
 
--- a frame with the progress that the settings give
-pub framed-as : (c : Settings) (s : Scene) {progress : Float} {was last : List ℕ} {place : ℕ} {f : Framed} → progress ≡ blendProgressOf c
-    → Frames (frameOf (c .m) progress s) (frameStops (c .m) progress s) was place f last → Frames (frame c s) (frameStops (c .m) (blendProgressOf c) s) was place f last
-framed-as c s {progress} {was} {last} {place} {f} e h = subst (λ (p : Float). Frames (frameOf (c .m) p s) (frameStops (c .m) p s) was place f last) e h
+-- the rules that the settings give
+pub rules-as : (c : Settings) {p : Float} → p ≡ blendProgressOf c → _≡_ {A = Rules} (record { m = c .m; progress = p }) (rulesOf c)
+rules-as c e = λ i. record { m = c .m; progress = e i }
+
+-- a frame by them
+pub framed-as : (c : Settings) (s : Scene) {rules : Rules} {was last : List ℕ} {place : ℕ} {f : Framed} → rules ≡ rulesOf c
+    → Frames (frameOf rules s) (frameStops rules s) was place f last → Frames (frame c s) (frameStops (rulesOf c) s) was place f last
+framed-as c s {rules} {was} {last} {place} {f} e h = subst (λ (r : Rules). Frames (frameOf r s) (frameStops r s) was place f last) e h
 
 -- ---- how many words a run puts
 
@@ -168,17 +173,17 @@ on-few : (b : Bool) (s : Scene) (o : Float) (r : Run) (n : ℕ) → length (r .p
 on-few true s o r n h = omega arith
 on-few false s o r n h = h
 
-framed-words : (s : Scene) (p : Played) (r : Run) → length (framed s p r .played .words) ≡ length (p .words) + length (r .played .words)
+framed-words : (rules : Rules) (s : Scene) (r : Run) → length (framed rules s r .played .words) ≡ length (frameOf rules s .words) + length (r .played .words)
 unfolding framed
-framed-words s p r = simp length-append
+framed-words rules s r = simp length-append
 
 -- at most 4,293 words a frame
 pub run-few : (n : ℕ) (c : Settings) → c .m ≤ 64 → (s : Scene) (o : Float) → Few (s .worlds) → length (runOf n c s o .played .words) ≤ n * 4293
 unfolding runOf
 run-few zero c m s o h = below-few (lt o nought) s o (ended TooManyFrames s o) 0 (omega arith)
 run-few (suc n) c m s o h =
-    let f = frame-short (c .m) (blendProgressOf c) s h in
+    let f = frame-short (rulesOf c) s h in
     let x = add binary64 o (c .timestep) in
-    let q = goesOn (frameStops (c .m) (blendProgressOf c) s) (frame c s .scene) x (runOf n c (frame c s .scene) x) in
-    let k = on-few (frameStops (c .m) (blendProgressOf c) s) (frame c s .scene) x (runOf n c (frame c s .scene) x) (n * 4293) (run-few n c m (frame c s .scene) x (f .few)) in
-    below-few (lt o nought) s o (framed s (frame c s) q) (suc n * 4293) (omega (arith, framed-words s (frame c s) q, f .words, k))
+    let q = goesOn (frameStops (rulesOf c) s) (frame c s .scene) x (runOf n c (frame c s .scene) x) in
+    let k = on-few (frameStops (rulesOf c) s) (frame c s .scene) x (runOf n c (frame c s .scene) x) (n * 4293) (run-few n c m (frame c s .scene) x (f .few)) in
+    below-few (lt o nought) s o (framed (rulesOf c) s q) (suc n * 4293) (omega (arith, framed-words (rulesOf c) s q, f .words, k))

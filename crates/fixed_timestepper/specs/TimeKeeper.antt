@@ -15,6 +15,7 @@ use Rattle.settings.specs.Settings.{blendProgressOf, lagFrameCountOf}
 use Rattle.settings.specs.Tweening.{shapedOf}
 use Rattle.client.specs.declared.Scene.{Scene}
 use Rattle.client.specs.Sides.{oldStampOf, withWorlds, Played, still, andThen}
+use Rattle.client_frame.specs.declared.Rules.{Rules}
 use Rattle.client_frame.specs.Frame.{frameOf, frameStops}
 use Rattle.client_skip.specs.Skip.{skippedOf, tweenOf, weightOk, postUpdateOf}
 use Rattle.fixed_timestepper.specs.declared.Stop.{Stop}
@@ -63,9 +64,13 @@ stopNumber WeightStops = 27
 
 -- ---- the frames of an update
 
--- what happens to worlds, in its order: a frame of the scene before it, or a skip from the scene before it to a stamp
+-- what every frame under these settings goes by
+abbrev pub rulesOf : Settings → Rules
+rulesOf c = record { m = c .m; progress = blendProgressOf c }
+
+-- what happens to worlds, in its order: a frame by its rules of the scene before it, or a skip from the scene before it to a stamp
 pub data Event : Type 0 where
-  FrameFrom : (before : Scene) → Event
+  FrameFrom : (rules : Rules) (before : Scene) → Event
   SkipFrom : (before : Scene) (stamp : Timestamp) → Event
 
 -- frames that were played: the scene and the words, the overshoot after them, how many they are, why they ended, and the trace of what happened
@@ -81,14 +86,14 @@ abbrev pub ended : Stop → Scene → Float → Run
 ended stop s o = record { played = still s; overshoot = o; frames = 0; stop = stop; trace = [] }
 
 -- a frame of the scene s, and then a run from the scene after it
-unfoldable pub framed : Scene → Played → Run → Run
-framed s p r =
+unfoldable pub framed : Rules → Scene → Run → Run
+framed rules s r =
     record {
-      played = record { scene = r .played .scene; words = p .words ++ r .played .words };
+      played = record { scene = r .played .scene; words = frameOf rules s .words ++ r .played .words };
       overshoot = r .overshoot;
       frames = 1 + r .frames;
       stop = r .stop;
-      trace = FrameFrom s ∷ r .trace;
+      trace = FrameFrom rules s ∷ r .trace;
     }
 
 -- a run goes on from a scene, where the frame did not stop it
@@ -106,9 +111,9 @@ unfoldable pub runOf : ℕ → Settings → Scene → Float → Run
 runOf zero c s o = whileBelow (lt o nought) s o (ended TooManyFrames s o)
 runOf (suc n) c s o =
     whileBelow (lt o nought) s o
-    (framed s (frameOf (c .m) (blendProgressOf c) s)
-    (goesOn (frameStops (c .m) (blendProgressOf c) s) (frameOf (c .m) (blendProgressOf c) s .scene) (add binary64 o (c .timestep))
-    (runOf n c (frameOf (c .m) (blendProgressOf c) s .scene) (add binary64 o (c .timestep)))))
+    (framed (rulesOf c) s
+    (goesOn (frameStops (rulesOf c) s) (frameOf (rulesOf c) s .scene) (add binary64 o (c .timestep))
+    (runOf n c (frameOf (rulesOf c) s .scene) (add binary64 o (c .timestep)))))
 
 -- ---- the skip
 

@@ -3,12 +3,13 @@
 ghost use mathlib.Core.Path.{_≡_};
 ghost use mathlib.Core.Bool.{true};
 ghost use Prim.Native.Nat.{_≤_, _<_};
-ghost use Rattle.fixed_timestepper.specs.TimeKeeper.{absOf, atLeastZero, logicalOf, driftOf, beyondDeadband, compensatedOf, runOf, skipsOf, Advances};
+ghost use Rattle.fixed_timestepper.specs.TimeKeeper.{absOf, atLeastZero, logicalOf, driftOf, beyondDeadband, compensatedOf, rulesOf, runOf, skipsOf, Advances};
 ghost use Rattle.fixed_timestepper.specs.Inner.{isSingle, levelRun, Skips, endedOf, unendedOf};
 ghost use Rattle.client_level.specs.Level.{isLevel};
 use client::ClientWorldSimulations;
 use client::Scene;
 use client::sides;
+use client_frame::Rules;
 use settings::Settings;
 use timestamp::FloatTimestamp;
 use timestamp::Timestamp;
@@ -99,12 +100,23 @@ pub fn compensated_delta(
     uncapped
 }
 
+// What every frame under these settings goes by.
+pub fn frame_rules(settings: Settings) -> Rules
+    ensures { λ r. ⌜ r ≡ rulesOf settings ⌝ }
+{
+    let progress = settings.blend_progress_per_frame();
+    Rules {
+        m: settings.m,
+        progress,
+    }
+}
+
 // Frames while the overshoot is negative, 65 at most.
 pub fn advance(scene: Scene, overshoot: f64, settings: Settings, tape: &mut [u32]) -> Advanced
     requires { ⌜ settings .m ≤ 64 ⌝ }
     ensures { λ r. ⌜ Advances (runOf 65 settings scene overshoot) (now (tape .entry)) r (now (tape .exit)) ⌝ }
 {
-    let progress = settings.blend_progress_per_frame();
+    let rules = frame_rules(settings);
     let mut s = scene;
     let mut o = overshoot;
     let mut p: usize = 0;
@@ -119,7 +131,7 @@ pub fn advance(scene: Scene, overshoot: f64, settings: Settings, tape: &mut [u32
                 stop: Stop::TooManyFrames,
             };
         }
-        let f = client_frame::step(s, settings.m, progress, tape, p);
+        let f = client_frame::step(s, rules, tape, p);
         let next = f.scene;
         s = next;
         p = f.at;
@@ -189,8 +201,8 @@ pub fn level_run(scene: Scene, overshoot: f64, settings: Settings, tape: &mut [u
     requires { ⌜ (isSingle overshoot (settings .timestep) ≡ true) × (isLevel (scene .worlds) (settings .m) ≡ true) ⌝ }
     ensures { λ r. ⌜ Advances (runOf 65 settings scene overshoot) (now (tape .entry)) r (now (tape .exit)) ⌝ }
 {
-    let progress = settings.blend_progress_per_frame();
-    let f = client_level::level_frame(scene, settings.m, progress, tape, 0);
+    let rules = frame_rules(settings);
+    let f = client_level::level_frame(scene, rules, tape, 0);
     let after = f.scene;
     let done = Stop::Done;
     Advanced {

@@ -25,6 +25,7 @@ use Rattle.client.specs.declared.Scene.{Scene}
 use Rattle.client.specs.Sides.{newSideOf, oldSideOf, worldOf, withWorld, withWorlds, ledgerOf, withLedger, oldStampOf, newStampOf, Played, still, andThen, doneAt}
 use Rattle.client.specs.Status.{statusOf}
 use Rattle.client_publish.specs.Publish.{publishedNone, publishedSide, publishedMix, publishedOld, publishedBoth, publishedBlended, nearOne}
+use Rattle.client_frame.specs.declared.Rules.{Rules}
 use Rattle.client_frame.specs.Frame.{loadedAt, loadedOf, loadedQueued, readiedWith, blendedOn, resetNew, openedOf, openOf, snapshotOf, steppedSide, withStep, steppedNew, unless, caughtUpOf, caughtOf, simulatedOf, publishedBy, shownOf, blendedBy, frameOf}
 use Rattle.client_skip.specs.Skip.{resetSide, resetAlong, skipsBack, emptiedBase, resetBoth, skippedOf, postUpdateOf}
 use Rattle.session_laws.proofs.LedgerBooks.{books-as, books-more, books-loads}
@@ -202,16 +203,16 @@ module _ (x h : ℕ) (below : x < 2) where
   shown-kept {n} {k} m b s z c =
       then-kept k (simulatedOf m s) (publishedBy b) (shows b (simulatedOf m s .scene) .kept x h _ _ (simulated-kept m s z c))
 
-  open-kept : {n k : ℕ} (p : Float) (s : Scene) → n + 64 < 2 ^ 64 → Kept x h n k s → Kept x h (n + 64) (k + commandsOn x (openOf p s .words)) (openOf p s .scene)
+  open-kept : {n k : ℕ} (rules : Rules) (s : Scene) → n + 64 < 2 ^ 64 → Kept x h n k s → Kept x h (n + 64) (k + commandsOn x (openOf rules s .words)) (openOf rules s .scene)
   unfolding openOf
-  open-kept p s z c = opened-kept (statusOf (s .worlds)) (snapshotOf s) p s z c
+  open-kept rules s z c = opened-kept (statusOf (s .worlds)) (snapshotOf s) (rules .progress) s z c
 
   -- a frame: at most 64 more are copied
-  pub frame-kept : {n k : ℕ} (m : ℕ) (p : Float) (s : Scene) → n + 64 < 2 ^ 64 → Kept x h n k s → Kept x h (n + 64) (k + commandsOn x (frameOf m p s .words)) (frameOf m p s .scene)
+  pub frame-kept : {n k : ℕ} (rules : Rules) (s : Scene) → n + 64 < 2 ^ 64 → Kept x h n k s → Kept x h (n + 64) (k + commandsOn x (frameOf rules s .words)) (frameOf rules s .scene)
   unfolding frameOf
-  frame-kept {n} {k} m p s z c =
+  frame-kept {n} {k} rules s z c =
       let b : Bool = blendedBy (statusOf (s .worlds)) (snapshotOf s) in
-      then-kept k (openOf p s) (shownOf m b) (shown-kept m b (openOf p s .scene) z (open-kept p s z c))
+      then-kept k (openOf rules s) (shownOf (rules .m) b) (shown-kept (rules .m) b (openOf rules s .scene) z (open-kept rules s z c))
 
   -- ---- a skip
 

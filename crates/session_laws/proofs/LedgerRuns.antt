@@ -7,17 +7,18 @@ use Rattle.timestamp.specs.Timestamps.{bitsOf}
 use Rattle.tape.specs.Words.{commandsOn}
 use Rattle.tape.proofs.Counting.{commands-on-append}
 use Rattle.settings.specs.declared.Settings.{Settings}
-use Rattle.settings.specs.Settings.{blendProgressOf, lagFrameCountOf}
+use Rattle.settings.specs.Settings.{lagFrameCountOf}
 use Rattle.settings.specs.Tweening.{shapedOf}
 use Rattle.client.specs.declared.Scene.{Scene}
 use Rattle.client.specs.Sides.{oldStampOf, Played}
+use Rattle.client_frame.specs.declared.Rules.{Rules}
 use Rattle.client_frame.specs.Frame.{frameOf, frameStops}
 use Rattle.client_skip.specs.Skip.{skippedOf, tweenOf, weightOk}
 use Rattle.session_laws.proofs.LedgerSides.{Kept, kept-as, kept-more}
 use Rattle.session_laws.proofs.LedgerFrames.{still-kept, then-kept, frame-kept, skipped-kept, post-kept}
 use Rattle.fixed_timestepper.specs.declared.Stop.{Stop}
 use Rattle.fixed_timestepper.specs.declared.Stop.the-variants.{Done, TooManyFrames, StatusStops, WeightStops}
-use Rattle.fixed_timestepper.specs.TimeKeeper.{nought, Run, ended, framed, goesOn, whileBelow, runOf, correctedOf, skipsOf, skipped, maybeSkipped, finishedOf, concluded, compensatedOf, advancedOf, updatedOf}
+use Rattle.fixed_timestepper.specs.TimeKeeper.{nought, rulesOf, Run, ended, framed, goesOn, whileBelow, runOf, correctedOf, skipsOf, skipped, maybeSkipped, finishedOf, concluded, compensatedOf, advancedOf, updatedOf}
 
 -- the books of the side x after a run, with k command words of x before it
 abbrev pub KeptBy : (x h n k : ℕ) → Run → Type 0
@@ -36,25 +37,25 @@ module _ (x h : ℕ) (below : x < 2) where
   goes-kept true s o r c d = ended-kept StatusStops s o c
   goes-kept false s o r c d = d
 
-  framed-kept : {n : ℕ} (k : ℕ) (s : Scene) (p : Played) (r : Run) → KeptBy x h n (k + commandsOn x (p .words)) r → KeptBy x h n k (framed s p r)
+  framed-kept : {n : ℕ} (k : ℕ) (rules : Rules) (s : Scene) (r : Run) → KeptBy x h n (k + commandsOn x (frameOf rules s .words)) r → KeptBy x h n k (framed rules s r)
   unfolding framed
-  framed-kept k s p r c = kept-as (omega (arith, commands-on-append x (p .words) (r .played .words))) c
+  framed-kept k rules s r c = kept-as (omega (arith, commands-on-append x (frameOf rules s .words) (r .played .words))) c
 
   -- so many frames at most: at most 64 more are copied in each
   pub run-kept : {n k : ℕ} (fuel : ℕ) (c : Settings) (s : Scene) (o : Float) → n + fuel * 64 < 2 ^ 64 → Kept x h n k s → KeptBy x h (n + fuel * 64) k (runOf fuel c s o)
   unfolding runOf
   run-kept {n} {k} zero c s o z g = kept-more (omega arith) (while-kept (lt o nought) s o (ended TooManyFrames s o) g (ended-kept TooManyFrames s o g))
   run-kept {n} {k} (suc fuel) c s o z g =
-      let p : Played = frameOf (c .m) (blendProgressOf c) s in
+      let p : Played = frameOf (rulesOf c) s in
       let q : Float = add binary64 o (c .timestep) in
-      let d : Kept x h (n + 64) (k + commandsOn x (p .words)) (p .scene) = frame-kept x h below (c .m) (blendProgressOf c) s (omega arith) g in
+      let d : Kept x h (n + 64) (k + commandsOn x (p .words)) (p .scene) = frame-kept x h below (rulesOf c) s (omega arith) g in
       let e : KeptBy x h (n + 64 + fuel * 64) (k + commandsOn x (p .words)) (runOf fuel c (p .scene) q) = run-kept fuel c (p .scene) q (omega arith) d in
-      let f : KeptBy x h (n + suc fuel * 64) (k + commandsOn x (p .words)) (goesOn (frameStops (c .m) (blendProgressOf c) s) (p .scene) q (runOf fuel c (p .scene) q)) =
-      goes-kept (frameStops (c .m) (blendProgressOf c) s) (p .scene) q (runOf fuel c (p .scene) q) (kept-more (omega arith) d) (kept-more (omega arith) e) in
+      let f : KeptBy x h (n + suc fuel * 64) (k + commandsOn x (p .words)) (goesOn (frameStops (rulesOf c) s) (p .scene) q (runOf fuel c (p .scene) q)) =
+      goes-kept (frameStops (rulesOf c) s) (p .scene) q (runOf fuel c (p .scene) q) (kept-more (omega arith) d) (kept-more (omega arith) e) in
       while-kept (lt o nought) s o
-      (framed s p (goesOn (frameStops (c .m) (blendProgressOf c) s) (p .scene) q (runOf fuel c (p .scene) q)))
+      (framed (rulesOf c) s (goesOn (frameStops (rulesOf c) s) (p .scene) q (runOf fuel c (p .scene) q)))
       (kept-more (omega arith) g)
-      (framed-kept k s p (goesOn (frameStops (c .m) (blendProgressOf c) s) (p .scene) q (runOf fuel c (p .scene) q)) f)
+      (framed-kept k (rulesOf c) s (goesOn (frameStops (rulesOf c) s) (p .scene) q (runOf fuel c (p .scene) q)) f)
 
   -- a skip
   skip-kept : {n : ℕ} (k : ℕ) (r : Run) (server : Float) (c : Settings) → n < 2 ^ 64 → KeptBy x h n k r → KeptBy x h n k (skipped r server c)

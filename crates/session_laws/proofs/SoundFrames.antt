@@ -31,6 +31,7 @@ use Rattle.client.specs.declared.Scene.{Scene}
 use Rattle.client.specs.Sides.{newSideOf, oldSideOf, worldOf, withPublished, oldStampOf, newStampOf, Played, still, andThen, doneAt}
 use Rattle.client.specs.Status.{statusBy, statusOf, overshotOf, newerOf}
 use Rattle.client_publish.specs.Publish.{publishedNone, publishedSide, publishedMix, publishedOld, nearOne, publishedBoth, publishedBlended}
+use Rattle.client_frame.specs.declared.Rules.{Rules}
 use Rattle.client_frame.specs.Frame.{loadedQueued, clamped, blendedOn, resetNew, openedOf, steppedSide, caughtUpOf, steppedNew, unless, caughtOf, simulatedOf, blendedBy, publishedBy, shownOf, snapshotOf, openOf, frameOf}
 use Rattle.client_skip.specs.Skip.{resetSide, resetAlong, skipsBack, emptiedBase, resetBoth, skippedOf, postUpdateOf}
 use Rattle.session_laws.proofs.SoundWorlds.{Kept, Weighed, is-nought, is-even, side-sound, old-at-old, new-at-old, new-at-new, old-at-new, put-old-side, weighed-as, base-kept, base-weighed, published-kept, published-weighed, weight-kept, weight-weighed, done-worlds, done-kept, done-weight, step-init, step-sound, step-stamp, reset-init, reset-sound, reset-stamp, loaded-kept, loaded-weighed}
@@ -121,9 +122,9 @@ opened-kept (Fastforwarding Obsolete) q p s k = loaded-queued-kept s q (newSideO
 opened-kept (Fastforwarding Overshot) q p s k = reset-side-kept s (newSideOf (s .worlds)) (oldStampOf (s .worlds)) k
 
 -- a frame
-pub frame-kept : (m : ℕ) (p : Float) (s : Scene) → Kept (s .worlds) → Kept (frameOf m p s .scene .worlds)
+pub frame-kept : (rules : Rules) (s : Scene) → Kept (s .worlds) → Kept (frameOf rules s .scene .worlds)
 unfolding frameOf andThen openOf
-frame-kept m p s k = shown-kept m (blendedBy (statusOf (s .worlds)) (snapshotOf s)) (openOf p s .scene) (opened-kept (statusOf (s .worlds)) (snapshotOf s) p s k)
+frame-kept rules s k = shown-kept (rules .m) (blendedBy (statusOf (s .worlds)) (snapshotOf s)) (openOf rules s .scene) (opened-kept (statusOf (s .worlds)) (snapshotOf s) (rules .progress) s k)
 
 -- ---- equal stamps
 
@@ -236,6 +237,11 @@ shown-weighed m b s h =
     let t = simulatedOf (suc m) s .scene in
     publish-keeps Weighed t (λ q. published-weighed (t .worlds) q (simulated-weighed m s h)) b
 
+-- so with at least one catch-up step
+shown-some : (m : ℕ) (b : Bool) (s : Scene) → 1 ≤ m → Weighed (s .worlds) → Weighed (shownOf m b s .scene .worlds)
+shown-some zero b s l h = absurd (omega arith)
+shown-some (suc m) b s l h = shown-weighed m b s h
+
 -- in Blending the stamps are equal
 blending-by : (a l v q : Bool) (t u : Float) → statusBy a l v q t ≡ Blending u → a ≡ true
 blending-by true l v q t u e = refl
@@ -305,10 +311,10 @@ opened-weighed (Fastforwarding Obsolete) q p s e i h = loaded-queued-weighed s q
 opened-weighed (Fastforwarding Overshot) q p s e i h = reset-new-weighed s h
 
 -- a frame of at least one catch-up step
-pub frame-weighed : (m : ℕ) (p : Float) (s : Scene) → 1 ≤ m → Within p 1024 → Weighed (s .worlds) → Weighed (frameOf m p s .scene .worlds)
+pub frame-weighed : (rules : Rules) (s : Scene) → 1 ≤ rules .m → Within (rules .progress) 1024 → Weighed (s .worlds) → Weighed (frameOf rules s .scene .worlds)
 unfolding frameOf andThen openOf
-frame-weighed zero p s l i h = absurd (omega arith)
-frame-weighed (suc m) p s l i h = shown-weighed m (blendedBy (statusOf (s .worlds)) (snapshotOf s)) (openOf p s .scene) (opened-weighed (statusOf (s .worlds)) (snapshotOf s) p s refl i h)
+frame-weighed rules s l i h =
+    shown-some (rules .m) (blendedBy (statusOf (s .worlds)) (snapshotOf s)) (openOf rules s .scene) l (opened-weighed (statusOf (s .worlds)) (snapshotOf s) (rules .progress) s refl i h)
 
 -- ---- a skip
 

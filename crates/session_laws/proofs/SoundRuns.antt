@@ -27,7 +27,7 @@ use Rattle.session_laws.proofs.SoundWorlds.{Kept, Weighed}
 use Rattle.session_laws.proofs.SoundFrames.{frame-kept, frame-weighed, skip-kept, skip-weighed, post-kept, post-weighed}
 use Rattle.fixed_timestepper.specs.declared.Stop.{Stop}
 use Rattle.fixed_timestepper.specs.declared.Stop.the-variants.{Done, TooManyFrames, StatusStops, WeightStops}
-use Rattle.fixed_timestepper.specs.TimeKeeper.{nought, atLeastZero, driftOf, beyondDeadband, uncappedOf, compensatedOf, Run, ended, framed, goesOn, whileBelow, runOf, correctedOf, skipsOf, skipped, maybeSkipped, endsWith, finishedOf, concluded, advancedOf, updatedOf}
+use Rattle.fixed_timestepper.specs.TimeKeeper.{nought, atLeastZero, driftOf, beyondDeadband, uncappedOf, compensatedOf, rulesOf, Run, ended, framed, goesOn, whileBelow, runOf, correctedOf, skipsOf, skipped, maybeSkipped, endsWith, finishedOf, concluded, advancedOf, updatedOf}
 use Rattle.session_laws.proofs.SoundSkips.{corrected-in}
 
 -- ---- what settings that pass give
@@ -99,7 +99,7 @@ compensated-capped stamp o delta server c p l = cap (c .max) (uncappedOf stamp o
 
 -- a frame under the settings c, and the overshoot after it
 abbrev frameBy : Settings → Scene → Played
-frameBy c s = frameOf (c .m) (blendProgressOf c) s
+frameBy c s = frameOf (rulesOf c) s
 
 abbrev later : Settings → Float → Float
 later c o = add binary64 o (c .timestep)
@@ -128,15 +128,15 @@ run-overshoot (suc n) k c s o st a e =
 
     go : (b : Bool) → (T b → After (c .timestep) (suc k) (later c o)) → (T (not b) → T (le nought o))
         → (After (c .timestep) (suc k) (later c o) → runOf n c (frameBy c s .scene) (later c o) .stop ≡ Done → InStep (c .timestep) (runOf n c (frameBy c s .scene) (later c o) .overshoot))
-        → whileBelow b s o (framed s (frameBy c s) (goesOn (frameStops (c .m) (blendProgressOf c) s) (frameBy c s .scene) (later c o) (runOf n c (frameBy c s .scene) (later c o)))) .stop ≡ Done
-        → InStep (c .timestep) (whileBelow b s o (framed s (frameBy c s) (goesOn (frameStops (c .m) (blendProgressOf c) s) (frameBy c s .scene) (later c o) (runOf n c (frameBy c s .scene) (later c o)))) .overshoot)
-    go true g h r q = on (frameStops (c .m) (blendProgressOf c) s) (r (g tt)) q
+        → whileBelow b s o (framed (rulesOf c) s (goesOn (frameStops (rulesOf c) s) (frameBy c s .scene) (later c o) (runOf n c (frameBy c s .scene) (later c o)))) .stop ≡ Done
+        → InStep (c .timestep) (whileBelow b s o (framed (rulesOf c) s (goesOn (frameStops (rulesOf c) s) (frameBy c s .scene) (later c o) (runOf n c (frameBy c s .scene) (later c o)))) .overshoot)
+    go true g h r q = on (frameStops (rulesOf c) s) (r (g tt)) q
     go false g h r q = record { number = a .finite-x; low = h tt; high = le-of-val o (c .timestep) (a .finite-x) (st .finite-t) (a .ceiling) }
 
 -- ---- what every frame, skip and end keep
 
 module _ (P : ClientWorldSimulations → Type 0) (c : Settings)
-    (frames : (s : Scene) → P (s .worlds) → P (frameOf (c .m) (blendProgressOf c) s .scene .worlds))
+    (frames : (s : Scene) → P (s .worlds) → P (frameOf (rulesOf c) s .scene .worlds))
     (skips : (s : Scene) (t : Timestamp) → P (s .worlds) → P (skippedOf s t .scene .worlds))
     (posts : (w : ClientWorldSimulations) (t : Float) (lag : ℕ) → P w → P (postUpdateOf w t lag)) where
   run-keeps : (n : ℕ) (s : Scene) (o : Float) → P (s .worlds) → P (runOf n c s o .played .scene .worlds)
@@ -152,8 +152,8 @@ module _ (P : ClientWorldSimulations → Type 0) (c : Settings)
       on true r = frames s h
       on false r = r
 
-      go : (b : Bool) → P (runOf n c (frameBy c s .scene) (later c o) .played .scene .worlds) → P (whileBelow b s o (framed s (frameBy c s) (goesOn (frameStops (c .m) (blendProgressOf c) s) (frameBy c s .scene) (later c o) (runOf n c (frameBy c s .scene) (later c o)))) .played .scene .worlds)
-      go true r = on (frameStops (c .m) (blendProgressOf c) s) r
+      go : (b : Bool) → P (runOf n c (frameBy c s .scene) (later c o) .played .scene .worlds) → P (whileBelow b s o (framed (rulesOf c) s (goesOn (frameStops (rulesOf c) s) (frameBy c s .scene) (later c o) (runOf n c (frameBy c s .scene) (later c o)))) .played .scene .worlds)
+      go true r = on (frameStops (rulesOf c) s) r
       go false r = h
 
   skip-keeps : (r : Run) (server : Float) → P (r .played .scene .worlds) → P (maybeSkipped r server c .played .scene .worlds)
@@ -188,12 +188,12 @@ module _ (P : ClientWorldSimulations → Type 0) (c : Settings)
 module _ (c : Settings) (pass : passesOf c ≡ true) where
   -- buffers, queued snapshot and initialisation stay sound
   pub updated-kept : (s : Scene) (o delta server : Float) → Kept (s .worlds) → Kept (updatedOf c s o delta server .played .scene .worlds)
-  updated-kept s o delta server k = updated-keeps Kept c (λ t. frame-kept (c .m) (blendProgressOf c) t) skip-kept post-kept s o delta server k
+  updated-kept s o delta server k = updated-keeps Kept c (λ t. frame-kept (rulesOf c) t) skip-kept post-kept s o delta server k
 
   -- and so does the weight
   pub updated-weighed : (s : Scene) (o delta server : Float) → Weighed (s .worlds) → Weighed (updatedOf c s o delta server .played .scene .worlds)
   updated-weighed s o delta server h =
-      updated-keeps Weighed c (λ t i. frame-weighed (c .m) (blendProgressOf c) t (steps-few c pass .0) (progress-within c pass) i) skip-weighed post-weighed s o delta server h
+      updated-keeps Weighed c (λ t i. frame-weighed (rulesOf c) t (steps-few c pass .0) (progress-within c pass) i) skip-weighed post-weighed s o delta server h
 
   module _ (fit : T (fits binary64 (c .timestep))) where
     -- the overshoot after the frames, from one of 0 to the timestep

@@ -25,6 +25,7 @@ use Rattle.client.specs.declared.ClientWorldSimulations.{ClientWorldSimulations
 use Rattle.client.specs.declared.Scene.{Scene}
 use Rattle.client.specs.Sides.{newSideOf, oldSideOf, worldOf, withWorld, withWorlds, stampOf, oldStampOf, newStampOf, Played, still, andThen, doneAt}
 use Rattle.client.specs.Status.{statusBy, statusOf, overshotOf, newerOf}
+use Rattle.client_frame.specs.declared.Rules.{Rules}
 use Rattle.client_frame.specs.Frame.{loadsOf, readiedWith, loadedAt, loadedOf, loadedQueued, blendedOn, resetNew, openedOf, snapshotOf, openOf, shownOf, blendedBy, frameOf}
 use Rattle.session_laws.proofs.SoundWorlds.{done-worlds, reset-stamp}
 use Rattle.session_laws.proofs.TraceStamps.{lagOf, nextOf, next-is, next-below, lag-far, later-tells, Restamped, put-at-new, ledger-keeps, done-steps, done-words, reset-marks}
@@ -223,9 +224,9 @@ opens-by (Fastforwarding Obsolete) Nothing p s e = opens-still s
 opens-by (Fastforwarding Obsolete) (Held t h) p s e = opens-obsolete s t h
 opens-by (Fastforwarding Overshot) q p s e = opens-reset s (λ f. overshot-far (s .worlds) f e)
 
-pub opens : (p : Float) (s : Scene) → Opens (snapshotOf s) s (openOf p s)
+pub opens : (rules : Rules) (s : Scene) → Opens (snapshotOf s) s (openOf rules s)
 unfolding openOf snapshotOf
-opens p s = opens-by (statusOf (s .worlds)) (s .worlds .snapshots .queued) p s refl
+opens rules s = opens-by (statusOf (s .worlds)) (s .worlds .snapshots .queued) (rules .progress) s refl
 
 loads-fit : (t : ReconciliationStatus) (q : Queued) → QueuedFits q → QueuedFits (loadsOf t q)
 unfolding loadsOf
@@ -245,18 +246,19 @@ snapshot-fits s h = loads-fit (statusOf (s .worlds)) (s .worlds .snapshots .queu
 abbrev pub gapOf : Scene → ℕ
 gapOf s = gapBy (snapshotOf s) (oldStampOf (s .worlds) .0) (lagIn (s .worlds))
 
--- a frame f of the scene s: the old world a step on, the new world m - 1 nearer, one step word for the side then old, and at most m for the side then new, which are counted
-pub record OneFrame (m : ℕ) (p : Float) (s : Scene) (f : Played) : Type 0 where
+-- a frame f of the scene s by its rules: the old world a step on, the new world m - 1 nearer, one step word for the side then old, and at most m for the side then new, which are counted
+pub record OneFrame (rules : Rules) (s : Scene) (f : Played) : Type 0 where
   pub old : oldStampOf (f .scene .worlds) .0 ≡ nextOf (oldStampOf (s .worlds) .0)
   pub fitting : Fitting (s .worlds) → Fitting (f .scene .worlds)
-  pub behind : 1 ≤ m → Fitting (s .worlds) → gapOf s ≤ 32767 → lagIn (f .scene .worlds) ≡ gapOf s - (m - 1)
-  pub one : stepsOn (oldSideOf (openOf p s .scene .worlds)) (f .words) ≡ 1
-  pub few : stepsOn (newSideOf (openOf p s .scene .worlds)) (f .words) ≤ m
-  pub steps : s .steps + m < 2 ^ 32 → f .scene .steps ≡ s .steps + stepsOn (newSideOf (openOf p s .scene .worlds)) (f .words)
+  pub behind : 1 ≤ rules .m → Fitting (s .worlds) → gapOf s ≤ 32767 → lagIn (f .scene .worlds) ≡ gapOf s - (rules .m - 1)
+  pub one : stepsOn (oldSideOf (openOf rules s .scene .worlds)) (f .words) ≡ 1
+  pub few : stepsOn (newSideOf (openOf rules s .scene .worlds)) (f .words) ≤ rules .m
+  pub steps : s .steps + rules .m < 2 ^ 32 → f .scene .steps ≡ s .steps + stepsOn (newSideOf (openOf rules s .scene .worlds)) (f .words)
 
-one-frame-then : (m : ℕ) (p : Float) (s : Scene) (g : Scene → Played) → Opens (snapshotOf s) s (openOf p s) → Simulates m (openOf p s .scene) (g (openOf p s .scene)) → OneFrame m p s (andThen (openOf p s) g)
-one-frame-then m p s g o i =
-    let q : Played = openOf p s in
+one-frame-then : (rules : Rules) (s : Scene) (g : Scene → Played) → Opens (snapshotOf s) s (openOf rules s) → Simulates (rules .m) (openOf rules s .scene) (g (openOf rules s .scene)) → OneFrame rules s (andThen (openOf rules s) g)
+one-frame-then rules s g o i =
+    let m : ℕ = rules .m in
+    let q : Played = openOf rules s in
     let t : Scene = q .scene in
     let f : Played = g t in
     let sc : andThen q g .scene ≡ f .scene = then-scene q g in
@@ -280,7 +282,7 @@ one-frame-then m p s g o i =
           rw (sc, ws (newSideOf (t .worlds))) (omega arith);
     }
 
-pub one-frame : (m : ℕ) (p : Float) (s : Scene) → OneFrame m p s (frameOf m p s)
+pub one-frame : (rules : Rules) (s : Scene) → OneFrame rules s (frameOf rules s)
 unfolding frameOf
-one-frame m p s =
-    one-frame-then m p s (shownOf m (blendedBy (statusOf (s .worlds)) (snapshotOf s))) (opens p s) (shown m (blendedBy (statusOf (s .worlds)) (snapshotOf s)) (openOf p s .scene))
+one-frame rules s =
+    one-frame-then rules s (shownOf (rules .m) (blendedBy (statusOf (s .worlds)) (snapshotOf s))) (opens rules s) (shown (rules .m) (blendedBy (statusOf (s .worlds)) (snapshotOf s)) (openOf rules s .scene))

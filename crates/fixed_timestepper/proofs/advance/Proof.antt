@@ -11,10 +11,10 @@ use Rattle.fixed_timestepper.proofs.advance.Statement.{statement}
 use Rattle.fixed_timestepper.proofs.advance.Tie as tie
 
 abbrev Inv-loop : tie.InvT-loop
-Inv-loop overshoot settings tape₀ progress s₀ o₀ p₀ n₀ tape s o p n = Running settings s₀ o₀ tape₀ tape s o p n
+Inv-loop overshoot settings tape₀ rules s₀ o₀ p₀ n₀ tape s o p n = Running settings s₀ o₀ tape₀ tape s o p n
 
 abbrev μ-loop : tie.MeasureT-loop
-μ-loop overshoot settings tape₀ progress s₀ o₀ p₀ n₀ tape s o p n = 65 - n
+μ-loop overshoot settings tape₀ rules s₀ o₀ p₀ n₀ tape s o p n = 65 - n
 
 -- what goes in holds at most 64 commands in each buffer, since each has 64 slots
 starts-few : (c : tie.Start Inv-loop μ-loop) → Few (c .args .scene .worlds)
@@ -24,8 +24,8 @@ starts-few c =
     let b = c .good .0 .1 .1 .0 .1 .1 .1 .1 .1 .0 .1 .1 .0 .1 .0 .1 in
     few-slots _ (search mapped-length) (search mapped-length) (search mapped-length)
 
-blend-progress-per-frame-requires : tie.Need-blend-progress-per-frame-requires Inv-loop μ-loop
-blend-progress-per-frame-requires c κs = search needs
+frame-rules-requires : tie.Need-frame-rules-requires Inv-loop μ-loop
+frame-rules-requires c κs = search needs
 
 loop-holds : tie.Need-loop-holds Inv-loop μ-loop
 loop-holds c = running-start _ _ _ _ (starts-few (c .before .before))
@@ -40,7 +40,7 @@ returns c = running-full _ _ _ (c .before .before .loop .inv) (c .before .loop-t
 step-requires : tie.Need-step-requires Inv-loop μ-loop
 step-requires c κs =
     let l = c .before .before .before in
-    omega (arith, l .loop .inv .at, l .loop .inv .bound, l .before .before .before .pre)
+    (omega (arith, l .loop .inv .at, l .loop .inv .bound), rw (l .before .frame-rules .ensures) (l .before .before .before .pre))
 
 add-n : tie.Need-add-n Inv-loop μ-loop
 add-n c = omega (arith, c .before .before .before .before .before .before .before .loop .inv .bound)
@@ -54,7 +54,7 @@ returns-2 c =
     let t = c .before .before .before .before .before in
     let e = t .before .before in
     let l = e .before .before in
-    running-stops _ _ _ (l .loop .inv) (e .before .loop-test .taken) (few-left (l .loop .inv .bound) (e .if1 .left)) (l .before .before .before .pre) (framed-as (l .before .before .before .args .settings) _ (l .before .blend-progress-per-frame .ensures) (t .step .ensures)) (c .if2 .taken) refl
+    running-stops _ _ _ (l .loop .inv) (e .before .loop-test .taken) (few-left (l .loop .inv .bound) (e .if1 .left)) (l .before .before .before .pre) (framed-as (l .before .before .before .args .settings) _ (l .before .frame-rules .ensures) (t .step .ensures)) (c .if2 .taken) refl
 
 loop-less : tie.Need-loop-less Inv-loop μ-loop
 loop-less c =
@@ -67,7 +67,7 @@ loop-again c =
     let t = c .before .before .before .before .before in
     let e = t .before .before in
     let l = e .before .before in
-    running-on _ _ _ (l .loop .inv) (e .before .loop-test .taken) (few-left (l .loop .inv .bound) (e .if1 .left)) (l .before .before .before .pre) (framed-as (l .before .before .before .args .settings) _ (l .before .blend-progress-per-frame .ensures) (t .step .ensures)) (c .if2 .left) refl
+    running-on _ _ _ (l .loop .inv) (e .before .loop-test .taken) (few-left (l .loop .inv .bound) (e .if1 .left)) (l .before .before .before .pre) (framed-as (l .before .before .before .args .settings) _ (l .before .frame-rules .ensures) (t .step .ensures)) (c .if2 .left) refl
 
 same-length-3 : tie.Need-same-length-3 Inv-loop μ-loop
 same-length-3 c = c .before .loop .inv .len
@@ -82,7 +82,7 @@ advance-spec =
     (tie.spec
     Inv-loop
     μ-loop
-    blend-progress-per-frame-requires
+    frame-rules-requires
     loop-holds
     same-length
     returns
