@@ -12,11 +12,11 @@ use Rattle.session_laws.proofs.SoundParts.{FloatsFit}
 use Rattle.session_laws.proofs.TraceFrames.{QueuedFits, Fitting}
 use Rattle.session_state.specs.declared.Session.{Session}
 use Rattle.demand.specs.Calls.{Call, Update, Issue, Answered, outcomeOf, happened, sessionOf, Chain}
-use Rattle.demand.specs.Demand.{Stamp, Typed, Demand3}
+use Rattle.demand.specs.Demand.{Stamp, Typed, AlwaysSound, Demand3}
 use Rattle.demand.proofs.OneCall.{OneCall}
 use Rattle.demand.proofs.OneUpdate.{one-update}
 use Rattle.demand.proofs.OneIssue.{one-issue}
-use Rattle.demand.proofs.Lists.{Lawful, told}
+use Rattle.demand.proofs.Lists.{Lawful, all-sound, told}
 
 -- ---- the calls
 
@@ -49,6 +49,10 @@ typed-fitting s t =
     record { old = b .0; new = b .1; queued = queued-fits (s .worlds .snapshots .queued) (t .queued) }
 
 -- ---- all of it
+
+pub always-sound : AlwaysSound
+unfolding AlwaysSound
+always-sound s cs t e a = all-sound s cs (typed-floats s t) e (lawful s cs a)
 
 pub demand-3 : Demand3
 unfolding Demand3

@@ -34,7 +34,6 @@ all-sound s (k ∷ cs) f e a = (a .0 .sound f e, all-sound (sessionOf k) cs (a .
 
 -- what is carried along a list whose sessions have this m
 pub record Holds (m : ℕ) (s : Session) (cs : List Call) : Type 0 where
-  pub sound : AllSound cs
   pub rules : AllRuled s cs
   pub frames : framesIn (traceOf s cs) ≡ sum framesOf cs
   pub caught : newSteps 0 (traceOf s cs) + newSteps 1 (traceOf s cs) ≡ sum caughtOf cs
@@ -52,7 +51,6 @@ pub record Holds (m : ℕ) (s : Session) (cs : List Call) : Type 0 where
 none-holds : (s : Session) → Standing s → Holds (s .settings .m) s []
 none-holds s h =
     record {
-      sound = tt;
       rules = tt;
       frames = refl;
       caught = refl;
@@ -91,14 +89,13 @@ both-on w a b p m n e f = omega arith
 marks-on : (w a b p m n x y : ℕ) → w ≡ a + b → p ≡ m + n → x ≡ a + m → y ≡ b + n → w + p ≡ x + y
 marks-on w a b p m n x y e f g h = omega arith
 
-more-holds : (s : Session) (k : Call) (cs : List Call) → FloatsFit s → Standing s → OneCall s (outcomeOf k) (happened s k) → Holds (s .settings .m) (sessionOf k) cs → Holds (s .settings .m) s (k ∷ cs)
-more-holds s k cs fl h one r =
+more-holds : (s : Session) (k : Call) (cs : List Call) → Standing s → OneCall s (outcomeOf k) (happened s k) → Holds (s .settings .m) (sessionOf k) cs → Holds (s .settings .m) s (k ∷ cs)
+more-holds s k cs h one r =
     let e : Session = sessionOf k in
     let t : List Event = happened s k in
     let u : List Event = traceOf e cs in
     let a : Traced s (outcomeOf k) t = one .traced h in
     record {
-      sound = (one .sound fl (h .sound), r .sound);
       rules = (a .rules, r .rules);
       frames = frames-on (framesIn t) (framesIn u) (framesOf k) (sum framesOf cs) (framesIn (t ++ u)) (frames-append t u) (a .frames) (r .frames);
       caught = steps-on (newSteps 0 t) (newSteps 1 t) (newSteps 0 u) (newSteps 1 u) (newSteps 0 (t ++ u)) (newSteps 1 (t ++ u)) (caughtOf k) (sum caughtOf cs) (a .caught) (r .caught) (new-append 0 t u) (new-append 1 t u);
@@ -124,7 +121,7 @@ standing-on s o es f h one = record { sound = one .sound f (h .sound); exists = 
 pub holds : (s : Session) (cs : List Call) → FloatsFit s → Standing s → Lawful s cs → Holds (s .settings .m) s cs
 holds s [] f h a = none-holds s h
 holds s (k ∷ cs) f h a =
-    more-holds s k cs f h (a .0)
+    more-holds s k cs h (a .0)
     (subst (λ (c : Settings). Holds (c .m) (sessionOf k) cs) (a .0 .traced h .settings) (holds (sessionOf k) cs (a .0 .floats f) (standing-on s (outcomeOf k) (happened s k) f h (a .0)) (a .1)))
 
 -- all of demand 3
@@ -136,7 +133,7 @@ told s cs f h a =
     let x : sum (markedOn 0) cs ≡ oldSteps 0 es + newSteps 0 es = r .sides 0 (omega arith) in
     let y : sum (markedOn 1) cs ≡ oldSteps 1 es + newSteps 1 es = r .sides 1 (omega arith) in
     record {
-      sound = r .sound;
+      sound = all-sound s cs f (h .sound) a;
       rules = r .rules;
       frames = r .frames;
       old = r .old;

@@ -259,6 +259,10 @@ pub record Told (s : Session) (cs : List Call) : Type 0 where
   -- the catch-up law
   pub law : CatchUp (s .settings .m) (traceOf s cs)
 
+-- every session on the way is sound, also before worlds exist; proved in proofs/Demand.antt
+unfoldable pub AlwaysSound : Type 0
+AlwaysSound = (s : Session) (cs : List Call) → Typed s → soundOf s ≡ true → Chain s cs → AllSound cs
+
 -- demand 3, proved in proofs/Demand.antt
 unfoldable pub Demand3 : Type 0
 Demand3 = (s : Session) (cs : List Call) → Typed s → soundOf s ≡ true → worldsExist (s .stage) ≡ true → Chain s cs → Told s cs
