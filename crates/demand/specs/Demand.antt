@@ -223,7 +223,6 @@ pub record Typed (s : Session) : Type 0 where
   pub slots : length (s .clock .samples) ≡ 64
   pub left : s .worlds .left .commands .timestamp .0 < 65536
   pub right : s .worlds .right .commands .timestamp .0 < 65536
-  pub base : s .worlds .base .timestamp .0 < 65536
   pub queued : Stamp (s .worlds .snapshots .queued)
 
 -- ---- all of it, for the calls of a list
