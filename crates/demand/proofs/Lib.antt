@@ -1,6 +1,7 @@
 pub mod TraceCounts
 pub mod TraceLaw
 pub mod TraceRuns
+pub mod TraceShape
 pub mod OneCall
 pub mod OneUpdate
 pub mod OneIssue

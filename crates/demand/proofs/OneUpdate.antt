@@ -17,7 +17,7 @@ use Rattle.session_laws.proofs.SoundCalls.{update-stays-sound, update-fits}
 use Rattle.session_laws.proofs.TraceArrivals.{alike-lag}
 use Rattle.fixed_timestepper.specs.declared.Stop.{Stop}
 use Rattle.fixed_timestepper.specs.declared.Stop.the-variants.{Done, TooManyFrames, StatusStops, WeightStops}
-use Rattle.fixed_timestepper.specs.TimeKeeper.{Run}
+use Rattle.fixed_timestepper.specs.TimeKeeper.{Event, Run}
 use Rattle.session_state.specs.declared.Stage.{Stage}
 use Rattle.session_state.specs.declared.Stage.the-variants.{SyncingClock, SyncingInitialState, Ready}
 use Rattle.session_state.specs.declared.Session.{Session}
@@ -26,17 +26,23 @@ use Rattle.session.specs.declared.UpdateAnswer.{UpdateAnswer}
 use Rattle.session.specs.Calls.{Reply, Answer, Updates, refusedAtOnce, refusedWith, sceneOf, clockAfter, stageAfter, acceptedOf, concludedOf, serverTimeBy, sceneAfter, playedOf, worldsUpdateOf, updateBy, updateOf}
 use Rattle.session_laws.proofs.TraceReading.{sound-m, Read, read-in}
 use Rattle.session_laws.proofs.LedgerCalls.{update-settles}
-use Rattle.demand.specs.Calls.{Update, Outcome, outcomeOf}
+use Rattle.demand.specs.Events.{eventsOf}
+use Rattle.demand.specs.Calls.{Update, Outcome, outcomeOf, happened}
 use Rattle.demand.specs.Demand.{distancesIn, worldsExist}
 use Rattle.demand.proofs.TraceLaw.{Linked, lastIn}
 use Rattle.demand.proofs.TraceRuns.{Ran, ran-updated, same-self, same-of, walk-same}
+use Rattle.demand.proofs.TraceShape.{trace-is}
 use Rattle.demand.proofs.OneCall.{Standing, Traced, OneCall, exists-has}
 
 -- what an update came to by its reply, on a tape of so many words
 abbrev replied : Reply → ℕ → Outcome
 replied a len = record { session = a .session; frames = a .frames; caught = a .steps; left = a .left; right = a .right; room = len; tape = a .tape }
 
--- its trace tells it
+-- the law of one call of an update with this reply
+abbrev UpdateLaw : Session → Float → Float → List ℕ → ℕ → Reply → Type 0
+UpdateLaw s delta seconds inbox len a = OneCall s (replied a len) (eventsOf s delta seconds inbox (a .refusal))
+
+-- the trace of the definition tells it
 abbrev Updated : Session → ℕ → Answer → Type 0
 Updated s len a = Traced s (replied (a .reply) len) (a .trace)
 
@@ -127,22 +133,36 @@ updated s delta seconds inbox len h =
     updated-pick (eqb (refusedAtOnce s delta seconds inbox) 0) s len (updateBy (s .stage) s delta seconds inbox len) (refusedWith (refusedAtOnce s delta seconds inbox) s len)
     (updated-by (s .stage) s delta seconds inbox len (h .exists) h) (updated-refused (refusedAtOnce s delta seconds inbox) s len h)
 
-by-definition : (s : Session) (delta seconds : Float) (inbox : List ℕ) (len : ℕ) → OneCall s (replied (updateOf s delta seconds inbox len .reply) len) (updateOf s delta seconds inbox len .trace)
+by-definition : (s : Session) (delta seconds : Float) (inbox : List ℕ) (len : ℕ) → UpdateLaw s delta seconds inbox len (updateOf s delta seconds inbox len .reply)
 by-definition s delta seconds inbox len =
+    let a : Answer = updateOf s delta seconds inbox len in
     record {
       floats = λ f. update-fits s delta seconds inbox len f;
       sound = λ f e. update-stays-sound s delta seconds inbox len f e;
-      traced = λ k. updated s delta seconds inbox len k;
+      traced = λ k. subst (λ (es : List Event). Traced s (replied (a .reply) len) es) (trace-is s delta seconds inbox len (k .exists)) (updated s delta seconds inbox len k);
       ledgers = λ x p w. update-settles x s delta seconds inbox len p (exists-has (s .stage) w);
     }
 
--- what an update came to by its answer and its tape is what its reply says
-replies : {a : Reply} {r : UpdateAnswer} {last : List ℕ} (len : ℕ) → Updates a r last →
-    replied a len ≡ record { session = r .session; frames = r .frames; caught = r .steps; left = r .left; right = r .right; room = len; tape = last }
-replies len u = sym (λ i. record { session = u .session i; frames = u .frames i; caught = u .steps i; left = u .left i; right = u .right i; room = len; tape = u .tape i })
+-- the reply that an answer and a tape give
+abbrev replyOf : UpdateAnswer → List ℕ → Reply
+replyOf r last =
+    record { refusal = r .refusal; session = r .session; frames = r .frames; steps = r .steps; request = r .request; left = r .left; right = r .right; words = r .words; tape = last }
+
+replies : {a : Reply} {r : UpdateAnswer} {last : List ℕ} → Updates a r last → replyOf r last ≡ a
+replies u =
+    λ i. record {
+      refusal = u .refusal i;
+      session = u .session i;
+      frames = u .frames i;
+      steps = u .steps i;
+      request = u .request i;
+      left = u .left i;
+      right = u .right i;
+      words = u .words i;
+      tape = u .tape i;
+    }
 
 -- an update
 pub one-update : (s : Session) (delta seconds : Float) (inbox was : List ℕ) (r : UpdateAnswer) (last : List ℕ) → Updates (updateOf s delta seconds inbox (length was) .reply) r last →
-    OneCall s (outcomeOf (Update delta seconds inbox was r last)) (updateOf s delta seconds inbox (length was) .trace)
-one-update s delta seconds inbox was r last u =
-    subst (λ (o : Outcome). OneCall s o (updateOf s delta seconds inbox (length was) .trace)) (replies (length was) u) (by-definition s delta seconds inbox (length was))
+    OneCall s (outcomeOf (Update delta seconds inbox was r last)) (happened s (Update delta seconds inbox was r last))
+one-update s delta seconds inbox was r last u = subst (UpdateLaw s delta seconds inbox (length was)) (sym (replies u)) (by-definition s delta seconds inbox (length was))

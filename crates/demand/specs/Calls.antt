@@ -15,6 +15,7 @@ use Rattle.session.specs.declared.UpdateAnswer.{UpdateAnswer}
 use Rattle.session.specs.declared.IssueAnswer.{IssueAnswer}
 use Rattle.session.specs.Calls.{updateOf, Updates}
 use Rattle.session.specs.Issue.{issueOf}
+use Rattle.demand.specs.Events.{eventsOf}
 
 -- a call as it was made and answered: an update with its inbox, its tape before and after, or an issue
 pub data Call : Type 0 where
@@ -48,9 +49,9 @@ outcomeOf (Update d t box was r last) =
     record { session = r .session; frames = r .frames; caught = r .steps; left = r .left; right = r .right; room = length was; tape = last }
 outcomeOf (Issue h r) = quiet (r .session) (r .left) (r .right)
 
--- what happened to the worlds in one call that was handed the session s
+-- what happened to the worlds in one call that was handed the session s, by its arguments and its refusal
 abbrev pub happened : Session → Call → List Event
-happened s (Update d t box was r last) = updateOf s d t box (length was) .trace
+happened s (Update d t box was r last) = eventsOf s d t box (r .refusal)
 happened s (Issue h r) = []
 
 -- ---- read off what a call came to
