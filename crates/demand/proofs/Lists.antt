@@ -15,10 +15,11 @@ use Rattle.session_laws.proofs.LedgerCalls.{Settles}
 use Rattle.fixed_timestepper.specs.TimeKeeper.{Event}
 use Rattle.session_state.specs.declared.Session.{Session}
 use Rattle.session_state.specs.Sound.{soundOf}
-use Rattle.demand.specs.Calls.{Call, Outcome, outcomeOf, happened, sessionOf, framesOf, caughtOf, ledgerIn, markedOf, markedOn, endOf, traceOf, sum}
-use Rattle.demand.specs.Demand.{framesIn, distancesIn, wordsIn, AllRuled, AllSet, oldSteps, newSteps, Tapes, Walk, AllSound, Balanced, Told}
+use Rattle.demand.specs.Calls.{Call, Outcome, outcomeOf, happened, sessionOf, framesOf, caughtOf, ledgerIn, snapshotWords, markedOf, loadedOf, markedOn, endOf, traceOf, sum}
+use Rattle.demand.specs.Demand.{framesIn, distancesIn, loadCountIn, wordsIn, AllRuled, AllSet, oldSteps, newSteps, Tapes, Walk, AllSound, Balanced, Told}
 use Rattle.demand.proofs.TraceLaw.{Linked, linked-append, trace-most, catch-up}
 use Rattle.demand.proofs.TraceCounts.{trace-on, trace-old, steps-law, frames-append, distances-append, new-append, old-append}
+use Rattle.demand.proofs.TraceLoads.{tape-loads, loads-join}
 use Rattle.demand.proofs.TraceRuns.{same-self, walk-append}
 use Rattle.demand.proofs.OneCall.{Standing, Traced, OneCall}
 
@@ -40,6 +41,7 @@ pub record Holds (m : ℕ) (s : Session) (cs : List Call) : Type 0 where
   pub old : oldStampOf (endOf s cs .worlds) .0 ≡ (oldStampOf (s .worlds) .0 + sum framesOf cs + distancesIn (traceOf s cs)) % 65536
   pub marks : sum markedOf cs ≡ sum (markedOn 0) cs + sum (markedOn 1) cs
   pub sides : (x : ℕ) → x < 2 → sum (markedOn x) cs ≡ oldSteps x (traceOf s cs) + newSteps x (traceOf s cs)
+  pub loads : sum loadedOf cs ≡ loadCountIn (traceOf s cs)
   pub tapes : Tapes s cs
   pub linked : Linked m (lagIn (s .worlds)) (traceOf s cs)
   pub walk : Walk (s .worlds) (traceOf s cs) (endOf s cs .worlds)
@@ -57,6 +59,7 @@ none-holds s h =
       old = omega (arith, h .fitting .old);
       marks = refl;
       sides = λ x hx. refl;
+      loads = refl;
       tapes = tt;
       linked = tt;
       walk = same-self (s .worlds);
@@ -86,6 +89,9 @@ frames-on a b f g x e h i = omega arith
 both-on : (w a b p m n : ℕ) → w ≡ a + b → p ≡ m + n → w + p ≡ (a + m) + (b + n)
 both-on w a b p m n e f = omega arith
 
+loads-on : (a t b u z : ℕ) → a ≡ t → b ≡ u → z ≡ t + u → a + b ≡ z
+loads-on a t b u z e f g = omega arith
+
 marks-on : (w a b p m n x y : ℕ) → w ≡ a + b → p ≡ m + n → x ≡ a + m → y ≡ b + n → w + p ≡ x + y
 marks-on w a b p m n x y e f g h = omega arith
 
@@ -104,6 +110,7 @@ more-holds s k cs h one r =
       sides = λ x hx.
           marks-on (markedOn x k) (oldSteps x t) (newSteps x t) (sum (markedOn x) cs) (oldSteps x u) (newSteps x u) (oldSteps x (t ++ u)) (newSteps x (t ++ u))
           (ap (stepsOn x) (a .tape) ∙ words-on x t (outcomeOf k .room - length (wordsIn t)) hx) (r .sides x hx) (old-append x t u) (new-append x t u);
+      loads = loads-on (loadedOf k) (loadCountIn t) (sum loadedOf cs) (loadCountIn u) (loadCountIn (t ++ u)) (ap snapshotWords (a .tape) ∙ tape-loads t (outcomeOf k .room - length (wordsIn t))) (r .loads) (loads-join t u);
       tapes = (a .tape, r .tapes);
       linked = linked-append (s .settings .m) (lagIn (s .worlds)) t u (a .linked) (subst (λ b. Linked (s .settings .m) b u) (sym (a .last)) (r .linked));
       walk = walk-append (s .worlds) (e .worlds) (endOf e cs .worlds) t u (a .walk) (r .walk);
@@ -142,6 +149,7 @@ told s cs f h a =
       caught = r .caught;
       steps = steps-law es;
       most = subst (λ n. sum caughtOf cs ≤ m * n) (r .frames) (subst (λ n. n ≤ m * framesIn es) (r .caught) (trace-most m (lagIn (s .worlds)) es (r .linked)));
+      loads = r .loads;
       tapes = r .tapes;
       walk = r .walk;
       ledgers = r .ledgers;

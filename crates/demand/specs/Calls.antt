@@ -7,7 +7,7 @@ use Prim.Native.Nat.{ℕ, _+_}
 use lib.Dec.{eqb}
 use lib.ListN.{length}
 use lib.Ieee.{Float}
-use Rattle.tape.specs.Words.{stepWords, stepsOn, commandsOn}
+use Rattle.tape.specs.Words.{kindOf, countIf, stepWords, stepsOn, commandsOn}
 use Rattle.client.specs.declared.Ledger.{Ledger}
 use Rattle.fixed_timestepper.specs.TimeKeeper.{Event}
 use Rattle.session_state.specs.declared.Session.{Session}
@@ -83,6 +83,15 @@ markedOf c = stepWords (outcomeOf c .tape)
 -- those of one side
 abbrev pub markedOn : ℕ → Call → ℕ
 markedOn x c = stepsOn x (outcomeOf c .tape)
+
+-- the snapshot words of a list
+unfoldable pub snapshotWords : List ℕ → ℕ
+snapshotWords [] = 0
+snapshotWords (w ∷ ws) = countIf (eqb (kindOf w) 3) + snapshotWords ws
+
+-- the snapshot words on a call's tape as it was returned
+abbrev pub loadedOf : Call → ℕ
+loadedOf c = snapshotWords (outcomeOf c .tape)
 
 -- the command words of one side on a call's tape as it was returned
 abbrev pub appliedOn : ℕ → Call → ℕ

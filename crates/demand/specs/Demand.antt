@@ -25,7 +25,7 @@ use Rattle.session_state.specs.declared.Session.{Session}
 use Rattle.session_state.specs.declared.Stage.{Stage}
 use Rattle.session_state.specs.declared.Stage.the-variants.{SyncingClock, SyncingInitialState, Ready}
 use Rattle.session_state.specs.Sound.{soundOf}
-use Rattle.demand.specs.Calls.{Call, Chain, endOf, traceOf, outcomeOf, happened, sum, sessionOf, framesOf, caughtOf, ledgerOn, markedOf, markedOn, appliedOn}
+use Rattle.demand.specs.Calls.{Call, Chain, endOf, traceOf, outcomeOf, happened, sum, sessionOf, framesOf, caughtOf, ledgerOn, markedOf, loadedOf, markedOn, appliedOn}
 
 -- ---- a frame of the trace, by its rules and the scene before it
 
@@ -63,6 +63,11 @@ loadBy (Held t h) o = Loaded (differenceOf (o .0) (t .0))
 abbrev pub loadIn : Scene → Load
 loadIn s = loadBy (snapshotOf s) (oldStampOf (s .worlds))
 
+-- 1 for a load
+abbrev pub countLoad : Load → ℕ
+countLoad NoLoad = 0
+countLoad (Loaded g) = 1
+
 -- ---- what a trace says
 
 -- its frames
@@ -76,6 +81,12 @@ abbrev pub distancesIn : List Event → ℕ
 distancesIn [] = 0
 distancesIn (FrameFrom r s ∷ es) = distancesIn es
 distancesIn (SkipFrom s t ∷ es) = differenceOf (t .0) (oldStampOf (s .worlds) .0) + distancesIn es
+
+-- its loads
+abbrev pub loadCountIn : List Event → ℕ
+loadCountIn [] = 0
+loadCountIn (FrameFrom r s ∷ es) = countLoad (loadIn s) + loadCountIn es
+loadCountIn (SkipFrom s t ∷ es) = loadCountIn es
 
 -- the words of one thing that happened
 abbrev pub wordsOf : Event → List ℕ
@@ -241,7 +252,9 @@ pub record Told (s : Session) (cs : List Call) : Type 0 where
   pub old : oldStampOf (endOf s cs .worlds) .0 ≡ (oldStampOf (s .worlds) .0 + sum framesOf cs + distancesIn (traceOf s cs)) % 65536
   -- the tapes as returned hold exactly F + C step words
   pub marks : sum markedOf cs ≡ sum framesOf cs + sum caughtOf cs
-  -- of the side x: one for each frame in which it is old, and the others for the frames in which it is new
+  -- and a snapshot word for each load
+  pub loads : sum loadedOf cs ≡ loadCountIn (traceOf s cs)
+  -- of the side x: one step word for each frame in which it is old, and the others for the frames in which it is new
   pub sides : (x : ℕ) → x < 2 → sum (markedOn x) cs ≡ oldSteps x (traceOf s cs) + newSteps x (traceOf s cs)
   -- C of them for the sides then new
   pub caught : newSteps 0 (traceOf s cs) + newSteps 1 (traceOf s cs) ≡ sum caughtOf cs
