@@ -7,6 +7,7 @@ use native.Mathlib.Omega.{arith}
 use lib.ListN.{length, replicate}
 use Rattle.timestamp.specs.declared.Timestamp.{Timestamp}
 use Rattle.tape.specs.Words.{commandsOn}
+use Rattle.settings.specs.declared.Settings.{Settings}
 use Rattle.client.specs.declared.Ledger.{Ledger}
 use Rattle.client.specs.Sides.{oldStampOf}
 use Rattle.session_laws.proofs.SoundParts.{FloatsFit}
@@ -22,8 +23,9 @@ use Rattle.session_state.specs.declared.Stage.the-variants.{SyncingClock, Synci
 use Rattle.session_state.specs.Sound.{soundOf}
 use Rattle.demand.specs.Calls.{Outcome, quiet, ledgerIn}
 use Rattle.demand.specs.Demand.{framesIn, distancesIn, wordsIn, Ruled, newSteps, Walk, worldsExist}
-use Rattle.demand.proofs.TraceLaw.{Linked, lastIn}
-use Rattle.demand.proofs.TraceRuns.{same-of}
+use Rattle.demand.proofs.TraceCounts.{frames-append, distances-append, new-append}
+use Rattle.demand.proofs.TraceLaw.{Linked, lastIn, linked-append, last-append}
+use Rattle.demand.proofs.TraceRuns.{same-of, walk-append}
 
 -- a session whose worlds a call may move: it is sound, its worlds exist, and their stamps have 16 bits
 pub record Standing (s : Session) : Type 0 where
@@ -31,44 +33,43 @@ pub record Standing (s : Session) : Type 0 where
   pub exists : worldsExist (s .stage) ≡ true
   pub fitting : Fitting (s .worlds)
 
--- the trace es tells what a call came to that was handed the session s, and what it leaves the next call
-pub record Traced (s : Session) (o : Outcome) (es : List Event) : Type 0 where
-  pub settings : o .session .settings ≡ s .settings
-  pub exists : worldsExist (o .session .stage) ≡ true
-  pub fitting : Fitting (o .session .worlds)
-  pub rules : Ruled (rulesOf (s .settings)) es
-  pub frames : framesIn es ≡ o .frames
-  pub caught : newSteps 0 es + newSteps 1 es ≡ o .caught
-  pub old : oldStampOf (o .session .worlds) .0 ≡ (oldStampOf (s .worlds) .0 + o .frames + distancesIn es) % 65536
-  pub tape : o .tape ≡ wordsIn es ++ replicate (o .room - length (wordsIn es)) 0
+-- the trace es leads from the session s to the session e in f frames, with k steps to catch up
+pub record Traced (s e : Session) (f k : ℕ) (es : List Event) : Type 0 where
+  pub settings : e .settings ≡ s .settings
+  pub exists : worldsExist (e .stage) ≡ true
+  pub fitting : Fitting (e .worlds)
+  pub frames : framesIn es ≡ f
+  pub caught : newSteps 0 es + newSteps 1 es ≡ k
+  pub old : oldStampOf (e .worlds) .0 ≡ (oldStampOf (s .worlds) .0 + f + distancesIn es) % 65536
   pub linked : Linked (s .settings .m) (lagIn (s .worlds)) es
-  pub last : lastIn (lagIn (s .worlds)) es ≡ lagIn (o .session .worlds)
-  pub walk : Walk (s .worlds) es (o .session .worlds)
+  pub last : lastIn (lagIn (s .worlds)) es ≡ lagIn (e .worlds)
+  pub walk : Walk (s .worlds) es (e .worlds)
+
+-- the trace es tells what a call came to that was handed the session s
+pub record Happens (s : Session) (o : Outcome) (es : List Event) : Type 0 where
+  pub traced : Traced s (o .session) (o .frames) (o .caught) es
+  pub rules : Ruled (rulesOf (s .settings)) es
+  pub tape : o .tape ≡ wordsIn es ++ replicate (o .room - length (wordsIn es)) 0
 
 -- the law of one call: it keeps floats and soundness, of any session; where worlds exist its trace tells it, and both its ledgers balance
 pub record OneCall (s : Session) (o : Outcome) (es : List Event) : Type 0 where
   pub floats : FloatsFit s → FloatsFit (o .session)
   pub sound : FloatsFit s → soundOf s ≡ true → soundOf (o .session) ≡ true
-  pub traced : Standing s → Traced s o es
+  pub happens : Standing s → Happens s o es
   pub ledgers : (x : ℕ) → x < 2 → worldsExist (s .stage) ≡ true → Settles x s (o .session) (ledgerIn x o) (commandsOn x (o .tape))
 
-pub exists-has : (g : Stage) → worldsExist g ≡ true → hasWorlds g ≡ true
-exists-has SyncingClock h = h
-exists-has SyncingInitialState h = refl
-exists-has Ready h = refl
+-- ---- traces of sessions
 
--- a call in which nothing happens: its trace, where it keeps settings, stage, sides, stamps and weight
-pub quiet-traced : (s e : Session) (l r : Ledger) → Keeps s e → Standing s → Traced s (quiet e l r) []
-quiet-traced s e l r k h =
+-- nothing happens, and settings, stage, sides, stamps and weight are kept
+pub none-traced : (s e : Session) → Keeps s e → Standing s → Traced s e 0 0 []
+none-traced s e k h =
     record {
       settings = k .settings;
       exists = ap worldsExist (k .stage) ∙ h .exists;
       fitting = alike-fitting (k .alike) (subst QueuedFits (sym (k .queued)) (h .fitting .queued)) (h .fitting);
-      rules = tt;
       frames = refl;
       caught = refl;
       old = ap (λ (t : Timestamp). t .0) (sym (k .alike .old)) ∙ same (oldStampOf (s .worlds) .0) (h .fitting .old);
-      tape = refl;
       linked = tt;
       last = alike-lag (k .alike);
       walk = same-of (k .alike);
@@ -76,3 +77,39 @@ quiet-traced s e l r k h =
   where
     same : (o : ℕ) → o < 65536 → o ≡ (o + 0 + 0) % 65536
     same o l = omega arith
+
+-- two traces, the second from where the first leads
+stamp-on : (z y x f g d e k : ℕ) → y ≡ (x + f + d) % 65536 → z ≡ (y + g + e) % 65536 → k ≡ d + e → z ≡ (x + (f + g) + k) % 65536
+stamp-on z y x f g d e k a b c = omega arith
+
+steps-on : (a b c d p q m n : ℕ) → a + b ≡ m → c + d ≡ n → p ≡ a + c → q ≡ b + d → p + q ≡ m + n
+steps-on a b c d p q m n e f g h = omega arith
+
+frames-on : (a b f g x : ℕ) → x ≡ a + b → a ≡ f → b ≡ g → x ≡ f + g
+frames-on a b f g x e h i = omega arith
+
+pub joins : {s m e : Session} {f g k n : ℕ} (t u : List Event) → Traced s m f k t → Traced m e g n u → Traced s e (f + g) (k + n) (t ++ u)
+joins {s} {m} {e} {f} {g} {k} {n} t u a b =
+    record {
+      settings = b .settings ∙ a .settings;
+      exists = b .exists;
+      fitting = b .fitting;
+      frames = frames-on (framesIn t) (framesIn u) f g (framesIn (t ++ u)) (frames-append t u) (a .frames) (b .frames);
+      caught = steps-on (newSteps 0 t) (newSteps 1 t) (newSteps 0 u) (newSteps 1 u) (newSteps 0 (t ++ u)) (newSteps 1 (t ++ u)) k n (a .caught) (b .caught) (new-append 0 t u) (new-append 1 t u);
+      old = stamp-on (oldStampOf (e .worlds) .0) (oldStampOf (m .worlds) .0) (oldStampOf (s .worlds) .0) f g (distancesIn t) (distancesIn u) (distancesIn (t ++ u)) (a .old) (b .old) (distances-append t u);
+      linked = linked-append (s .settings .m) (lagIn (s .worlds)) t u (a .linked)
+          (subst (λ x. Linked (s .settings .m) x u) (sym (a .last)) (subst (λ (c : Settings). Linked (c .m) (lagIn (m .worlds)) u) (a .settings) (b .linked)));
+      last = last-append (lagIn (s .worlds)) t u ∙ ap (λ x. lastIn x u) (a .last) ∙ b .last;
+      walk = walk-append (s .worlds) (m .worlds) (e .worlds) t u (a .walk) (b .walk);
+    }
+
+-- ---- calls in which nothing happens
+
+pub exists-has : (g : Stage) → worldsExist g ≡ true → hasWorlds g ≡ true
+exists-has SyncingClock h = h
+exists-has SyncingInitialState h = refl
+exists-has Ready h = refl
+
+-- what such a call came to
+pub quiet-happens : (s e : Session) (l r : Ledger) → Keeps s e → Standing s → Happens s (quiet e l r) []
+quiet-happens s e l r k h = record { traced = none-traced s e k h; rules = tt; tape = refl }

@@ -10,7 +10,7 @@ use Rattle.session_state.specs.declared.Session.{Session}
 use Rattle.session.specs.declared.IssueAnswer.{IssueAnswer}
 use Rattle.session.specs.Issue.{issueOf}
 use Rattle.demand.specs.Calls.{Outcome, quiet}
-use Rattle.demand.proofs.OneCall.{OneCall, exists-has, quiet-traced}
+use Rattle.demand.proofs.OneCall.{OneCall, exists-has, quiet-happens}
 
 -- what an issue came to, by its answer
 abbrev issued : IssueAnswer → Outcome
@@ -22,7 +22,7 @@ by-definition s h =
     record {
       floats = λ f. issue-fits s h f;
       sound = λ f e. issue-stays-sound s h e;
-      traced = λ k. quiet-traced s (issueOf s h .session) (issueOf s h .left) (issueOf s h .right) (issue-keeps s h) k;
+      happens = λ k. quiet-happens s (issueOf s h .session) (issueOf s h .left) (issueOf s h .right) (issue-keeps s h) k;
       ledgers = λ x p w. issue-settles x s h p (exists-has (s .stage) w);
     }
 

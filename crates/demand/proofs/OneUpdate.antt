@@ -24,15 +24,15 @@ use Rattle.session_state.specs.declared.Session.{Session}
 use Rattle.inbox_passes.specs.Passes.{heardIn, receivedIn}
 use Rattle.session.specs.declared.UpdateAnswer.{UpdateAnswer}
 use Rattle.session.specs.Calls.{Reply, Answer, Updates, refusedAtOnce, refusedWith, sceneOf, clockAfter, stageAfter, acceptedOf, concludedOf, serverTimeBy, sceneAfter, playedOf, worldsUpdateOf, updateBy, updateOf}
-use Rattle.session_laws.proofs.TraceReading.{sound-m, Read, read-in}
+use Rattle.session_laws.proofs.TraceReading.{sound-m, Read, read-in, keeps-self}
 use Rattle.session_laws.proofs.LedgerCalls.{update-settles}
 use Rattle.demand.specs.Events.{eventsOf}
 use Rattle.demand.specs.Calls.{Update, Outcome, outcomeOf, happened}
 use Rattle.demand.specs.Demand.{distancesIn, worldsExist}
 use Rattle.demand.proofs.TraceLaw.{Linked, lastIn}
-use Rattle.demand.proofs.TraceRuns.{Ran, ran-updated, same-self, same-of, walk-same}
+use Rattle.demand.proofs.TraceRuns.{Ran, ran-updated, same-of, walk-same}
 use Rattle.demand.proofs.TraceShape.{trace-is}
-use Rattle.demand.proofs.OneCall.{Standing, Traced, OneCall, exists-has}
+use Rattle.demand.proofs.OneCall.{Standing, Happens, OneCall, none-traced, exists-has}
 
 -- what an update came to by its reply, on a tape of so many words
 abbrev replied : Reply → ℕ → Outcome
@@ -44,25 +44,13 @@ UpdateLaw s delta seconds inbox len a = OneCall s (replied a len) (eventsOf s de
 
 -- the trace of the definition tells it
 abbrev Updated : Session → ℕ → Answer → Type 0
-Updated s len a = Traced s (replied (a .reply) len) (a .trace)
+Updated s len a = Happens s (replied (a .reply) len) (a .trace)
 
 updated-refused : (n : ℕ) (s : Session) (len : ℕ) → Standing s → Updated s len (refusedWith n s len)
 unfolding refusedWith
 updated-refused n s len h =
     let e : len - 0 ≡ len = omega arith in
-    record {
-      settings = refl;
-      exists = h .exists;
-      fitting = h .fitting;
-      rules = tt;
-      frames = refl;
-      caught = refl;
-      old = omega (arith, h .fitting .old);
-      tape = ap (λ k. replicate k 0) (sym e);
-      linked = tt;
-      last = refl;
-      walk = same-self (s .worlds);
-    }
+    record { traced = none-traced s s (keeps-self s) h; rules = tt; tape = ap (λ k. replicate k 0) (sym e) }
 
 stage-exists : (g : Stage) (t : DisplayTime) → worldsExist g ≡ true → worldsExist (stageAfter g t) ≡ true
 stage-exists SyncingClock t x = x
@@ -74,17 +62,19 @@ updated-accepted : (s : Session) (c : Clock) (request : Bool) (t : Scene) (r : R
 unfolding acceptedOf
 updated-accepted s c request t r len h a i =
     record {
-      settings = refl;
-      exists = stage-exists (s .stage) (r .played .scene .worlds .published .time) (h .exists);
-      fitting = i .fitting;
+      traced = record {
+        settings = refl;
+        exists = stage-exists (s .stage) (r .played .scene .worlds .published .time) (h .exists);
+        fitting = i .fitting;
+        frames = i .frames;
+        caught = zero-more _ _ _ (a .steps) (i .caught);
+        old = i .old ∙ ap (λ (o : Timestamp). (o .0 + r .frames + distancesIn (r .trace)) % 65536) (sym (a .alike .old));
+        linked = subst (λ b. Linked (s .settings .m) b (r .trace)) (sym (alike-lag (a .alike))) (i .linked);
+        last = ap (λ b. lastIn b (r .trace)) (alike-lag (a .alike)) ∙ i .last;
+        walk = walk-same (s .worlds) (t .worlds) (r .played .scene .worlds) (r .trace) (same-of (a .alike)) (i .walk);
+      };
       rules = i .rules;
-      frames = i .frames;
-      caught = zero-more _ _ _ (a .steps) (i .caught);
-      old = i .old ∙ ap (λ (o : Timestamp). (o .0 + r .frames + distancesIn (r .trace)) % 65536) (sym (a .alike .old));
       tape = ap (λ ws. ws ++ replicate (len - length ws) 0) (sym (i .words));
-      linked = subst (λ b. Linked (s .settings .m) b (r .trace)) (sym (alike-lag (a .alike))) (i .linked);
-      last = ap (λ b. lastIn b (r .trace)) (alike-lag (a .alike)) ∙ i .last;
-      walk = walk-same (s .worlds) (t .worlds) (r .played .scene .worlds) (r .trace) (same-of (a .alike)) (i .walk);
     }
   where
     zero-more : (x y z : ℕ) → y ≡ 0 → x ≡ y + z → z ≡ x
@@ -139,7 +129,7 @@ by-definition s delta seconds inbox len =
     record {
       floats = λ f. update-fits s delta seconds inbox len f;
       sound = λ f e. update-stays-sound s delta seconds inbox len f e;
-      traced = λ k. subst (λ (es : List Event). Traced s (replied (a .reply) len) es) (trace-is s delta seconds inbox len (k .exists)) (updated s delta seconds inbox len k);
+      happens = λ k. subst (λ (es : List Event). Happens s (replied (a .reply) len) es) (trace-is s delta seconds inbox len (k .exists)) (updated s delta seconds inbox len k);
       ledgers = λ x p w. update-settles x s delta seconds inbox len p (exists-has (s .stage) w);
     }
 

@@ -125,7 +125,7 @@ pub record Keeps (s e : Session) : Type 0 where
   pub alike : Alike (s .worlds) (e .worlds)
   pub queued : e .worlds .snapshots .queued ≡ s .worlds .snapshots .queued
 
-keeps-self : (s : Session) → Keeps s s
+pub keeps-self : (s : Session) → Keeps s s
 keeps-self s = record { settings = refl; stage = refl; alike = alike-self (s .worlds); queued = refl }
 
 issued-by : (g : Stage) (s : Session) (t : Timestamp) (e : Entry) → Keeps s (issuedBy g s t (receivedOf (sceneOf s) e) .session)
