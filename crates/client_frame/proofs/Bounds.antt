@@ -4,8 +4,7 @@ use mathlib.Core.Bool.{Bool, true, false, cond}
 use Prim.Native.Nat.{ℕ, zero, suc, _+_, _*_, _≤_}
 use native.Mathlib.Omega.{arith}
 use lib.Dec.{eqb}
-use lib.IntN.{pos}
-use lib.Ieee.{Float, fin, eq}
+use lib.Ieee.{Float}
 use lib.ListN.{length, length-append}
 use Rattle.timestamp.specs.declared.Timestamp.{Timestamp}
 use Rattle.tape.specs.Words.{mixWords, weightWords}
@@ -18,7 +17,6 @@ use Rattle.simulation.specs.World.{stepOf, resetOf, resetsBack, flushedOf, kept
 use Rattle.simulation.proofs.Few.{step-words, step-applies, reset-words, reset-applies}
 use Rattle.client.specs.declared.FastforwardingHealth.the-variants.{Healthy, Obsolete, Overshot}
 use Rattle.client.specs.declared.LastStamp.{LastStamp}
-use Rattle.client.specs.declared.LastStamp.the-variants.{Never, Last}
 use Rattle.client.specs.declared.ReconciliationStatus.{ReconciliationStatus}
 use Rattle.client.specs.declared.ReconciliationStatus.the-variants.{AwaitingSnapshot, Fastforwarding, Blending}
 use Rattle.client.specs.declared.Queued.{Queued}
@@ -26,11 +24,13 @@ use Rattle.client.specs.declared.Queued.the-variants.{Nothing, Held}
 use Rattle.client.specs.declared.ClientWorldSimulations.{ClientWorldSimulations}
 use Rattle.client.specs.declared.Ledger.{Ledger}
 use Rattle.client.specs.declared.Scene.{Scene}
-use Rattle.client.specs.Sides.{newSideOf, oldSideOf, worldOf, withWorld, withLedger, stampOf, putOf, oldStampOf, newStampOf, Played, still, andThen, doneAt}
+use Rattle.client.specs.Sides.{newSideOf, oldSideOf, worldOf, withWorld, withLedger, putOf, oldStampOf, newStampOf, Played, still, andThen, doneAt}
 use Rattle.client.specs.Status.{statusOf}
-use Rattle.client_publish.specs.Publish.{withState, publishedNone, publishedSide, publishedMix, publishedOld, nearOne, publishedBoth, publishedBlended}
+use Rattle.client_publish.specs.Publish.{withState}
+use Rattle.client_publish.proofs.Telling.{Telling, of-none, of-side, of-mix, told}
 use Rattle.client_frame.specs.declared.Rules.{Rules}
 use Rattle.client_frame.specs.Frame.{readiedWith, loadedAt, loadedOf, loadedQueued, blendedOn, resetNew, openedOf, steppedSide, caughtUpOf, steppedNew, unless, caughtOf, simulatedOf, blendedBy, publishedBy, shownOf, snapshotOf, openOf, frameOf}
+use Rattle.client_frame.proofs.Induction.{published-by}
 
 -- how many commands a world holds
 abbrev pub heldIn : Simulation → ℕ
@@ -103,11 +103,6 @@ then-short p f h g =
       words = simp length-append (omega (arith, h .words, g (h .few) .words));
       few = g (h .few) .few;
     }
-
--- one thing or another
-pub cond-short : {n : ℕ} (b : Bool) (p q : Played) → Short n p → Short n q → Short n (cond b p q)
-cond-short true p q h k = h
-cond-short false p q h k = k
 
 -- ---- steps
 
@@ -220,31 +215,16 @@ opened-short (Fastforwarding Overshot) q p s h = reset-new-short s h
 few-state : (s : Scene) (l : LastStamp) → Few (s .worlds) → Few (withState s l .worlds)
 few-state s l h = record { left = h .left; right = h .right; base = h .base }
 
-none-short : (s : Scene) → Few (s .worlds) → Short 4 (publishedNone s)
-unfolding publishedNone
-none-short s h = record { words = omega arith; few = few-state s Never h }
-
-side-short : (s : Scene) (side : ℕ) → Few (s .worlds) → Short 4 (publishedSide s side)
-unfolding publishedSide
-side-short s side h = record { words = omega arith; few = few-state s (Last (stampOf (worldOf (s .worlds) side))) h }
-
-mix-short : (s : Scene) (t : Float) → Few (s .worlds) → Short 4 (publishedMix s t)
-unfolding publishedMix mixWords weightWords
-mix-short s t h = record { words = omega arith; few = few-state s (Last (oldStampOf (s .worlds))) h }
-
-both-short : (s : Scene) → Few (s .worlds) → Short 4 (publishedBoth s)
-unfolding publishedBoth
-both-short s h =
-    cond-short (eq (s .worlds .weight) (fin false 0 (pos 0))) _ _ (side-short s (oldSideOf (s .worlds)) h)
-    (cond-short (nearOne (s .worlds .weight)) _ _ (side-short s (newSideOf (s .worlds)) h) (mix-short s (s .worlds .weight) h))
+-- it is told in few words
+told-few : (w : Telling) → length (told w) ≤ 4
+unfolding mixWords weightWords
+told-few of-none = omega arith
+told-few (of-side side) = omega arith
+told-few (of-mix t) = omega arith
 
 -- what a frame publishes, by the weight or not
 pub published-short : (b : Bool) (s : Scene) → Few (s .worlds) → Short 4 (publishedBy b s)
-unfolding publishedBlended publishedOld
-published-short true s h =
-    cond-short (worldOf (s .worlds) (oldSideOf (s .worlds)) .init) _ _ (both-short s h)
-    (cond-short (worldOf (s .worlds) (newSideOf (s .worlds)) .init) _ _ (side-short s (newSideOf (s .worlds)) h) (none-short s h))
-published-short false s h = cond-short (worldOf (s .worlds) (oldSideOf (s .worlds)) .init) _ _ (side-short s (oldSideOf (s .worlds)) h) (none-short s h)
+published-short b s h = published-by (Short 4) s (λ l w. record { words = told-few w; few = few-state s l h }) b
 
 -- ---- the frame
 

@@ -1,3 +1,4 @@
+pub mod Induction
 pub mod Bounds
 pub mod Framing
 pub mod Waiting

@@ -5,8 +5,7 @@ use mathlib.Core.List.{List, [], _∷_}
 use Prim.Native.Nat.{ℕ, zero, suc, _+_, _%_, _^_}
 use native.Mathlib.Omega.{arith}
 use lib.Dec.{eqb}
-use lib.IntN.{pos}
-use lib.Ieee.{Float, fin, binary64, add, eq}
+use lib.Ieee.{Float, binary64, add, eq}
 use borrow.Author.Tests.{eq-eqb, ne-eqb, eqb-true, eqb-false, not-true}
 use Rattle.timestamp.specs.declared.Timestamp.{Timestamp}
 use Rattle.timestamp.specs.declared.Ordering.{Ordering}
@@ -23,13 +22,15 @@ use Rattle.client.specs.declared.ReconciliationStatus.the-variants.{AwaitingSna
 use Rattle.client.specs.declared.Queued.{Queued}
 use Rattle.client.specs.declared.Queued.the-variants.{Nothing, Held}
 use Rattle.client.specs.declared.ClientWorldSimulations.{ClientWorldSimulations}
+use Rattle.client.specs.declared.LastStamp.{LastStamp}
 use Rattle.client.specs.declared.Ledger.{Ledger}
 use Rattle.client.specs.declared.Scene.{Scene}
 use Rattle.client.specs.Sides.{newSideOf, oldSideOf, worldOf, withWorld, withWeight, withWorlds, withLedger, ledgerOf, stampOf, oldStampOf, newStampOf, applies, putOf, Played, still, andThen, doneAt, Plays}
 use Rattle.client.specs.Status.{statusBy, statusOf}
 use Rattle.client.proofs.Happening.{plays-as, plays-then}
 use Rattle.client_publish.specs.declared.Stated.{Stated}
-use Rattle.client_publish.specs.Publish.{withState, publishedNone, publishedSide, publishedMix, nearOne, publishedBoth, publishedBlended}
+use Rattle.client_publish.specs.Publish.{withState, publishedBlended}
+use Rattle.client_publish.proofs.Telling.{Telling, publishes, blended-by}
 use Rattle.client_publish.specs.Inner.{States}
 use Rattle.client_frame.specs.declared.Rules.{Rules}
 use Rattle.client_frame.specs.Frame.{loadsOf, loadedQueued, clamped, blendedOn, openedOf, steppedSide, caughtUpOf, withStep, steppedNew, caughtOf, simulatedOf, blendedBy, shownOf, stopsOf, snapshotOf, openOf, frameOf, frameStops}
@@ -260,33 +261,14 @@ module _ (s : Scene) (same : newStampOf (s .worlds) .0 ≡ oldStampOf (s .worlds
 record Stays (s : Scene) (p : Played) : Type 0 where
   stamp : oldStampOf (p .scene .worlds) ≡ oldStampOf (s .worlds)
 
-either-stays : {s : Scene} (b : Bool) (p q : Played) → Stays s p → Stays s q → Stays s (cond b p q)
-either-stays true p q h k = h
-either-stays false p q h k = k
-
--- a published side
-side-stays : (s : Scene) (side : ℕ) → Stays s (publishedSide s side)
-unfolding publishedSide oldStampOf worldOf oldSideOf
-side-stays s side = record { stamp = refl }
-
--- a mix
-mix-stays : (s : Scene) → Stays s (publishedMix s (s .worlds .weight))
-unfolding publishedMix oldStampOf worldOf oldSideOf
-mix-stays s = record { stamp = refl }
-
--- nothing published
-none-stays : (s : Scene) → Stays s (publishedNone s)
-unfolding publishedNone oldStampOf worldOf oldSideOf
-none-stays s = record { stamp = refl }
+-- a state
+state-stays : (s : Scene) (l : LastStamp) (w : Telling) → Stays s (publishes s l w)
+unfolding oldStampOf worldOf oldSideOf
+state-stays s l w = record { stamp = refl }
 
 -- what is published by the weight
 published-stays : (s : Scene) → Stays s (publishedBlended s)
-unfolding publishedBlended publishedBoth
-published-stays s =
-    let new : Stays s (publishedSide s (newSideOf (s .worlds))) = side-stays s (newSideOf (s .worlds)) in
-    either-stays (worldOf (s .worlds) (oldSideOf (s .worlds)) .init) _ _
-    (either-stays (eq (s .worlds .weight) (fin false 0 (pos 0))) _ _ (side-stays s (oldSideOf (s .worlds))) (either-stays (nearOne (s .worlds .weight)) _ _ new (mix-stays s)))
-    (either-stays (worldOf (s .worlds) (newSideOf (s .worlds)) .init) _ _ new (none-stays s))
+published-stays s = blended-by (Stays s) s (state-stays s)
 
 -- ---- the frame
 

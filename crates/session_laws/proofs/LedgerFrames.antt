@@ -6,8 +6,7 @@ use Prim.Native.Nat.{ℕ, zero, suc, _+_, _^_, _≤_, _<_}
 use native.Mathlib.Omega.{arith}
 use lib.Dec.{eqb}
 use lib.ListN.{length}
-use lib.IntN.{pos}
-use lib.Ieee.{Float, fin, eq}
+use lib.Ieee.{Float}
 use Rattle.timestamp.specs.declared.Timestamp.{Timestamp}
 use Rattle.tape.specs.Words.{snapshotWord, commandsOn}
 use Rattle.tape.proofs.Counting.{commands-on-append, commands-on-snapshot, commands-on-publish, commands-on-none, commands-on-mix}
@@ -24,9 +23,11 @@ use Rattle.client.specs.declared.ClientWorldSimulations.{ClientWorldSimulations
 use Rattle.client.specs.declared.Scene.{Scene}
 use Rattle.client.specs.Sides.{newSideOf, oldSideOf, worldOf, withWorld, withWorlds, ledgerOf, withLedger, oldStampOf, newStampOf, Played, still, andThen, doneAt}
 use Rattle.client.specs.Status.{statusOf}
-use Rattle.client_publish.specs.Publish.{publishedNone, publishedSide, publishedMix, publishedOld, publishedBoth, publishedBlended, nearOne}
+use Rattle.client_publish.specs.Publish.{withState}
+use Rattle.client_publish.proofs.Telling.{Telling, of-none, of-side, of-mix, told}
 use Rattle.client_frame.specs.declared.Rules.{Rules}
 use Rattle.client_frame.specs.Frame.{loadedAt, loadedOf, loadedQueued, readiedWith, blendedOn, resetNew, openedOf, openOf, snapshotOf, steppedSide, withStep, steppedNew, unless, caughtUpOf, caughtOf, simulatedOf, publishedBy, shownOf, blendedBy, frameOf}
+use Rattle.client_frame.proofs.Induction.{published-by}
 use Rattle.client_skip.specs.Skip.{resetSide, resetAlong, skipsBack, emptiedBase, resetBoth, skippedOf, postUpdateOf}
 use Rattle.session_laws.proofs.LedgerBooks.{books-as, books-more, books-loads}
 use Rattle.session_laws.proofs.LedgerSides.{entriesOf, heldAt, Kept, kept-as, kept-more, none-on, step-spends, reset-spends, new-below, old-below, done-kept}
@@ -87,48 +88,17 @@ same-buffers-kept {x} s w e c =
 
 -- ---- what is published
 
--- what is published keeps the books and puts no command word
-record Shows (s : Scene) (p : Played) : Type 0 where
-  kept : (x h n k : ℕ) → Kept x h n k s → Kept x h n (k + commandsOn x (p .words)) (p .scene)
+-- it puts no command word
+told-none : (x : ℕ) (w : Telling) → commandsOn x (told w) ≡ 0
+told-none x of-none = commands-on-none x [] ∙ none-on x
+told-none x (of-side side) = commands-on-publish x [] side ∙ none-on x
+told-none x (of-mix t) = commands-on-mix x t
 
-shows-none : (s : Scene) → Shows s (publishedNone s)
-unfolding publishedNone
-shows-none s =
-    record { kept = λ x h n k c. kept-as (omega (arith, commands-on-none x [], none-on x)) (same-buffers-kept s _ (record { left = refl; right = refl; base = refl }) c) }
-
-shows-side : (s : Scene) (side : ℕ) → Shows s (publishedSide s side)
-unfolding publishedSide
-shows-side s side =
-    record { kept = λ x h n k c. kept-as (omega (arith, commands-on-publish x [] side, none-on x)) (same-buffers-kept s _ (record { left = refl; right = refl; base = refl }) c) }
-
-shows-mix : (s : Scene) (t : Float) → Shows s (publishedMix s t)
-unfolding publishedMix
-shows-mix s t =
-    record { kept = λ x h n k c. kept-as (omega (arith, commands-on-mix x t)) (same-buffers-kept s _ (record { left = refl; right = refl; base = refl }) c) }
-
-shows-pick : (b : Bool) (s : Scene) (p q : Played) → Shows s p → Shows s q → Shows s (cond b p q)
-shows-pick true s p q h k = h
-shows-pick false s p q h k = k
-
-shows-old : (s : Scene) → Shows s (publishedOld s)
-unfolding publishedOld
-shows-old s = shows-pick (worldOf (s .worlds) (oldSideOf (s .worlds)) .init) s _ _ (shows-side s (oldSideOf (s .worlds))) (shows-none s)
-
-shows-both : (s : Scene) → Shows s (publishedBoth s)
-unfolding publishedBoth
-shows-both s =
-    shows-pick (eq (s .worlds .weight) (fin false 0 (pos 0))) s _ _ (shows-side s (oldSideOf (s .worlds)))
-    (shows-pick (nearOne (s .worlds .weight)) s _ _ (shows-side s (newSideOf (s .worlds))) (shows-mix s (s .worlds .weight)))
-
-shows-blended : (s : Scene) → Shows s (publishedBlended s)
-unfolding publishedBlended
-shows-blended s =
-    shows-pick (worldOf (s .worlds) (oldSideOf (s .worlds)) .init) s _ _ (shows-both s)
-    (shows-pick (worldOf (s .worlds) (newSideOf (s .worlds)) .init) s _ _ (shows-side s (newSideOf (s .worlds))) (shows-none s))
-
-shows : (b : Bool) (s : Scene) → Shows s (publishedBy b s)
-shows true s = shows-blended s
-shows false s = shows-old s
+-- it keeps the books
+published-kept : {x h n k : ℕ} (b : Bool) (s : Scene) → Kept x h n k s → Kept x h n (k + commandsOn x (publishedBy b s .words)) (publishedBy b s .scene)
+published-kept {x} {h} {n} {k} b s c =
+    published-by (λ (p : Played). Kept x h n (k + commandsOn x (p .words)) (p .scene)) s (λ l w.
+    kept-as (omega (arith, told-none x w)) (same-buffers-kept s (withState s l .worlds) (record { left = refl; right = refl; base = refl }) c)) b
 
 -- ---- the parts of a frame, for the side x
 
@@ -201,7 +171,7 @@ module _ (x h : ℕ) (below : x < 2) where
   shown-kept : {n k : ℕ} (m : ℕ) (b : Bool) (s : Scene) → n < 2 ^ 64 → Kept x h n k s → Kept x h n (k + commandsOn x (shownOf m b s .words)) (shownOf m b s .scene)
   unfolding shownOf
   shown-kept {n} {k} m b s z c =
-      then-kept k (simulatedOf m s) (publishedBy b) (shows b (simulatedOf m s .scene) .kept x h _ _ (simulated-kept m s z c))
+      then-kept k (simulatedOf m s) (publishedBy b) (published-kept b (simulatedOf m s .scene) (simulated-kept m s z c))
 
   open-kept : {n k : ℕ} (rules : Rules) (s : Scene) → n + 64 < 2 ^ 64 → Kept x h n k s → Kept x h (n + 64) (k + commandsOn x (openOf rules s .words)) (openOf rules s .scene)
   unfolding openOf

@@ -30,9 +30,9 @@ use Rattle.client.specs.declared.ClientWorldSimulations.{ClientWorldSimulations
 use Rattle.client.specs.declared.Scene.{Scene}
 use Rattle.client.specs.Sides.{newSideOf, oldSideOf, worldOf, withPublished, oldStampOf, newStampOf, Played, still, andThen, doneAt}
 use Rattle.client.specs.Status.{statusBy, statusOf, overshotOf, newerOf}
-use Rattle.client_publish.specs.Publish.{publishedNone, publishedSide, publishedMix, publishedOld, nearOne, publishedBoth, publishedBlended}
 use Rattle.client_frame.specs.declared.Rules.{Rules}
 use Rattle.client_frame.specs.Frame.{loadedQueued, clamped, blendedOn, resetNew, openedOf, steppedSide, caughtUpOf, steppedNew, unless, caughtOf, simulatedOf, blendedBy, publishedBy, shownOf, snapshotOf, openOf, frameOf}
+use Rattle.client_frame.proofs.Induction.{published-by}
 use Rattle.client_skip.specs.Skip.{resetSide, resetAlong, skipsBack, emptiedBase, resetBoth, skippedOf, postUpdateOf}
 use Rattle.session_laws.proofs.SoundWorlds.{Kept, Weighed, is-nought, is-even, side-sound, old-at-old, new-at-old, new-at-new, old-at-new, put-old-side, weighed-as, base-kept, base-weighed, published-kept, published-weighed, weight-kept, weight-weighed, done-worlds, done-kept, done-weight, step-init, step-sound, step-stamp, reset-init, reset-sound, reset-stamp, loaded-kept, loaded-weighed}
 
@@ -66,36 +66,8 @@ simulated-kept m s k =
     caught-kept m (oldStampOf (t .worlds)) t (stepped-kept s (oldSideOf (s .worlds)) k)
 
 -- a publish changes the published states alone
-module _ (P : ClientWorldSimulations → Type 0) (s : Scene) (h : (q : Published) → P (withPublished (s .worlds) q)) where
-  pick-keeps : (b : Bool) (p q : Played) → P (p .scene .worlds) → P (q .scene .worlds) → P (cond b p q .scene .worlds)
-  pick-keeps true p q a b = a
-  pick-keeps false p q a b = b
-
-  none-keeps : P (publishedNone s .scene .worlds)
-  unfolding publishedNone
-  none-keeps = h _
-
-  side-keeps : (side : ℕ) → P (publishedSide s side .scene .worlds)
-  unfolding publishedSide
-  side-keeps side = h _
-
-  mix-keeps : (t : Float) → P (publishedMix s t .scene .worlds)
-  unfolding publishedMix
-  mix-keeps t = h _
-
-  both-keeps : P (publishedBoth s .scene .worlds)
-  unfolding publishedBoth
-  both-keeps =
-      pick-keeps (eq (s .worlds .weight) zeroF) (publishedSide s (oldSideOf (s .worlds))) (cond (nearOne (s .worlds .weight)) (publishedSide s (newSideOf (s .worlds))) (publishedMix s (s .worlds .weight))) (side-keeps (oldSideOf (s .worlds)))
-      (pick-keeps (nearOne (s .worlds .weight)) (publishedSide s (newSideOf (s .worlds))) (publishedMix s (s .worlds .weight)) (side-keeps (newSideOf (s .worlds))) (mix-keeps (s .worlds .weight)))
-
-  pub publish-keeps : (b : Bool) → P (publishedBy b s .scene .worlds)
-  unfolding publishedBlended publishedOld
-  publish-keeps true =
-      pick-keeps (worldOf (s .worlds) (oldSideOf (s .worlds)) .init) (publishedBoth s) (cond (worldOf (s .worlds) (newSideOf (s .worlds)) .init) (publishedSide s (newSideOf (s .worlds))) (publishedNone s)) both-keeps
-      (pick-keeps (worldOf (s .worlds) (newSideOf (s .worlds)) .init) (publishedSide s (newSideOf (s .worlds))) (publishedNone s) (side-keeps (newSideOf (s .worlds))) none-keeps)
-  publish-keeps false =
-      pick-keeps (worldOf (s .worlds) (oldSideOf (s .worlds)) .init) (publishedSide s (oldSideOf (s .worlds))) (publishedNone s) (side-keeps (oldSideOf (s .worlds))) none-keeps
+publish-keeps : (P : ClientWorldSimulations → Type 0) (s : Scene) → ((q : Published) → P (withPublished (s .worlds) q)) → (b : Bool) → P (publishedBy b s .scene .worlds)
+publish-keeps P s h b = published-by (λ (p : Played). P (p .scene .worlds)) s (λ l w. h _) b
 
 shown-kept : (m : ℕ) (b : Bool) (s : Scene) → Kept (s .worlds) → Kept (shownOf m b s .scene .worlds)
 unfolding shownOf andThen

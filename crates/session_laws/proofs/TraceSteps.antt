@@ -1,24 +1,23 @@
 -- The steps of one frame: the old world's one step, the new world's catching up, m steps at most, and what is published. Their stamps, their step words and how far behind the new world is left. Assumes nothing.
 use mathlib.Core.Path.{_≡_, refl, ap, sym, _∙_}
-use mathlib.Core.Bool.{Bool, true, false, cond}
-use mathlib.Core.List.{List, [], _∷_, _++_}
+use mathlib.Core.Bool.{Bool, true, false}
+use mathlib.Core.List.{List, [], _++_}
 use Prim.Native.Nat.{ℕ, zero, suc, _+_, _-_, _%_, _^_, _<_, _≤_}
 use native.Mathlib.Omega.{arith}
 use borrow.Author.Tests.{ltb-true, ltb-false, eq-eqb, ne-eqb}
 use lib.Dec.{eqb, ltb}
-use lib.Ieee.{Float, eq, fin}
-use lib.IntN.{pos}
 use Rattle.timestamp.specs.declared.Timestamp.{Timestamp}
-use Rattle.tape.specs.Words.{countIf, stepsOn, publishWord, noneWord, mixWords}
+use Rattle.tape.specs.Words.{countIf, stepsOn}
 use Rattle.tape.proofs.Counting.{steps-on-append, steps-on-publish, steps-on-none, steps-on-mix}
 use Rattle.simulation.specs.World.{nextStamp, stepOf}
 use Rattle.client.specs.declared.ClientWorldSimulations.{ClientWorldSimulations}
 use Rattle.client.specs.declared.LastStamp.{LastStamp}
-use Rattle.client.specs.declared.LastStamp.the-variants.{Never, Last}
 use Rattle.client.specs.declared.Scene.{Scene}
-use Rattle.client.specs.Sides.{newSideOf, oldSideOf, worldOf, withWorld, stampOf, oldStampOf, newStampOf, Played, still, andThen}
-use Rattle.client_publish.specs.Publish.{withState, publishedNone, publishedSide, publishedMix, publishedOld, publishedBoth, publishedBlended, nearOne}
+use Rattle.client.specs.Sides.{newSideOf, oldSideOf, worldOf, withWorld, oldStampOf, newStampOf, Played, still, andThen}
+use Rattle.client_publish.specs.Publish.{withState}
+use Rattle.client_publish.proofs.Telling.{Telling, of-none, of-side, of-mix, told}
 use Rattle.client_frame.specs.Frame.{caughtUpOf, steppedSide, steppedNew, unless, caughtOf, simulatedOf, publishedBy, shownOf}
+use Rattle.client_frame.proofs.Induction.{published-by}
 use Rattle.session_laws.proofs.SoundWorlds.{done-worlds, step-stamp}
 use Rattle.session_laws.proofs.TraceStamps.{lagOf, nextOf, next-is, next-below, lag-none, lag-step, lag-next, reached-is, sides-apart, Restamped, put-at-old, put-at-new, done-steps, done-words, step-marks}
 
@@ -252,49 +251,14 @@ shows-state : (s : Scene) (l : LastStamp) (ws : List ℕ) → ((y : ℕ) → ste
 unfolding newSideOf oldStampOf newStampOf oldSideOf worldOf
 shows-state s l ws h = record { side = refl; old = refl; new = refl; snapshots = refl; weight = refl; steps = refl; none = h }
 
-none-marks : (y : ℕ) → stepsOn y (noneWord ∷ []) ≡ 0
+told-marks : (y : ℕ) (w : Telling) → stepsOn y (told w) ≡ 0
 unfolding stepsOn
-none-marks y = steps-on-none y []
-
-publish-marks : (x y : ℕ) → stepsOn y (publishWord x ∷ []) ≡ 0
-unfolding stepsOn
-publish-marks x y = steps-on-publish y [] x
-
-shows-none : (s : Scene) → Shows s (publishedNone s)
-unfolding publishedNone
-shows-none s = shows-state s Never (noneWord ∷ []) none-marks
-
-shows-side : (s : Scene) (x : ℕ) → Shows s (publishedSide s x)
-unfolding publishedSide
-shows-side s x = shows-state s (Last (stampOf (worldOf (s .worlds) x))) (publishWord x ∷ []) (publish-marks x)
-
-shows-mix : (s : Scene) (t : Float) → Shows s (publishedMix s t)
-unfolding publishedMix
-shows-mix s t = shows-state s (Last (oldStampOf (s .worlds))) (mixWords t) (λ y. steps-on-mix y t)
-
-shows-pick : (b : Bool) (s : Scene) (p q : Played) → Shows s p → Shows s q → Shows s (cond b p q)
-shows-pick true s p q h k = h
-shows-pick false s p q h k = k
-
-shows-old : (s : Scene) → Shows s (publishedOld s)
-unfolding publishedOld
-shows-old s = shows-pick (worldOf (s .worlds) (oldSideOf (s .worlds)) .init) s _ _ (shows-side s (oldSideOf (s .worlds))) (shows-none s)
-
-shows-both : (s : Scene) → Shows s (publishedBoth s)
-unfolding publishedBoth
-shows-both s =
-    shows-pick (eq (s .worlds .weight) (fin false 0 (pos 0))) s _ _ (shows-side s (oldSideOf (s .worlds)))
-    (shows-pick (nearOne (s .worlds .weight)) s _ _ (shows-side s (newSideOf (s .worlds))) (shows-mix s (s .worlds .weight)))
-
-shows-blended : (s : Scene) → Shows s (publishedBlended s)
-unfolding publishedBlended
-shows-blended s =
-    shows-pick (worldOf (s .worlds) (oldSideOf (s .worlds)) .init) s _ _ (shows-both s)
-    (shows-pick (worldOf (s .worlds) (newSideOf (s .worlds)) .init) s _ _ (shows-side s (newSideOf (s .worlds))) (shows-none s))
+told-marks y of-none = steps-on-none y []
+told-marks y (of-side side) = steps-on-publish y [] side
+told-marks y (of-mix t) = steps-on-mix y t
 
 pub shows : (b : Bool) (s : Scene) → Shows s (publishedBy b s)
-shows true s = shows-blended s
-shows false s = shows-old s
+shows b s = published-by (Shows s) s (λ l w. shows-state s l (told w) (λ y. told-marks y w)) b
 
 -- the worlds' steps and what is published
 shown-then : (m : ℕ) (s : Scene) (q : Played) (f : Scene → Played) → Simulates m s q → Shows (q .scene) (f (q .scene)) → Simulates m s (andThen q f)
