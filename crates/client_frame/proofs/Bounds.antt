@@ -1,7 +1,7 @@
 -- How many commands are held while a frame is played, and how many words it puts on the tape. Assumes nothing.
 use mathlib.Core.Path.{_≡_, refl, ap}
 use mathlib.Core.Bool.{Bool, true, false, cond}
-use Prim.Native.Nat.{ℕ, zero, suc, _+_, _*_, _≤_}
+use Prim.Native.Nat.{ℕ, _+_, _*_, _≤_}
 use native.Mathlib.Omega.{arith}
 use lib.Dec.{eqb}
 use lib.Ieee.{Float}
@@ -15,22 +15,17 @@ use Rattle.command.proofs.Ledger.{moved-ledger, drained-ledger, emptied-held}
 use Rattle.simulation.specs.declared.Simulation.{Simulation}
 use Rattle.simulation.specs.World.{stepOf, resetOf, resetsBack, flushedOf, keptOf, loadOf, nextStamp}
 use Rattle.simulation.proofs.Few.{step-words, step-applies, reset-words, reset-applies}
-use Rattle.client.specs.declared.FastforwardingHealth.the-variants.{Healthy, Obsolete, Overshot}
-use Rattle.client.specs.declared.LastStamp.{LastStamp}
 use Rattle.client.specs.declared.ReconciliationStatus.{ReconciliationStatus}
-use Rattle.client.specs.declared.ReconciliationStatus.the-variants.{AwaitingSnapshot, Fastforwarding, Blending}
 use Rattle.client.specs.declared.Queued.{Queued}
-use Rattle.client.specs.declared.Queued.the-variants.{Nothing, Held}
 use Rattle.client.specs.declared.ClientWorldSimulations.{ClientWorldSimulations}
 use Rattle.client.specs.declared.Ledger.{Ledger}
 use Rattle.client.specs.declared.Scene.{Scene}
-use Rattle.client.specs.Sides.{newSideOf, oldSideOf, worldOf, withWorld, withLedger, putOf, oldStampOf, newStampOf, Played, still, andThen, doneAt}
+use Rattle.client.specs.Sides.{worldOf, withWorld, withLedger, putOf, Played, still, andThen, doneAt}
 use Rattle.client.specs.Status.{statusOf}
-use Rattle.client_publish.specs.Publish.{withState}
 use Rattle.client_publish.proofs.Telling.{Telling, of-none, of-side, of-mix, told}
+use Rattle.client_frame.specs.Frame.{readiedWith, loadedAt, loadedOf, openedOf, steppedSide, steppedNew, simulatedOf, frameOf}
+use Rattle.client_frame.proofs.Induction.{Law, Chains, resetAt, Steps, Moves, stepped-new-by, simulated-by, opened-by, parts-by, frame-by}
 use Rattle.client_frame.specs.declared.Rules.{Rules}
-use Rattle.client_frame.specs.Frame.{readiedWith, loadedAt, loadedOf, loadedQueued, blendedOn, resetNew, openedOf, steppedSide, caughtUpOf, steppedNew, unless, caughtOf, simulatedOf, blendedBy, publishedBy, shownOf, snapshotOf, openOf, frameOf}
-use Rattle.client_frame.proofs.Induction.{published-by}
 
 -- how many commands a world holds
 abbrev pub heldIn : Simulation → ℕ
@@ -89,22 +84,28 @@ few-with w side s h k = few-with-by (eqb side 0) w side s refl h k
 pub few-put : (s : Scene) (side : ℕ) (w : Simulation) (n k : ℕ) → Few (s .worlds) → heldIn w ≤ 64 → Few (putOf s side w n k .worlds)
 few-put s side w n k h l = rw (put-worlds s side w n k) (few-with (s .worlds) side w h l)
 
--- ---- one thing and then another
+-- ---- each move of a frame
 
--- nothing
-pub still-short : (s : Scene) {n : ℕ} → Few (s .worlds) → Short n (still s)
-still-short s h = record { words = omega arith; few = h }
+-- the law: from few held, at most n words and few held
+abbrev Shortly : Law
+Shortly n s p = Few (s .worlds) → Short n p
 
--- one thing and then another
-pub then-short : {n k : ℕ} (p : Played) (f : Scene → Played) → Short n p → (Few (p .scene .worlds) → Short k (f (p .scene))) → Short (n + k) (andThen p f)
+-- no words
+quiet-short : {n : ℕ} (s : Scene) → Few (s .worlds) → Short n (still s)
+quiet-short s h = record { words = omega arith; few = h }
+
+short-chains : Chains Shortly
 unfolding andThen
-then-short p f h g =
+short-chains =
     record {
-      words = simp length-append (omega (arith, h .words, g (h .few) .words));
-      few = g (h .few) .few;
+      more = λ n k s p e h x. record { words = omega (arith, e, h x .words); few = h x .few };
+      stays = λ s x. quiet-short s x;
+      next = λ n k s p f h g x.
+          record {
+            words = simp length-append (omega (arith, h x .words, g (h x .few) .words));
+            few = g (h x .few) .few;
+          };
     }
-
--- ---- steps
 
 -- a step leaves at most as many as there were
 step-held : (w : Simulation) (side : ℕ) → heldIn (stepOf w side .world) ≤ heldIn w
@@ -123,34 +124,6 @@ stepped-short s side h =
       few = few-put s side (stepOf w side .world) (stepOf w side .applied) (stepOf w side .leftout) h (omega (arith, step-held w side, few-at (s .worlds) side h));
     }
 
--- a step of the new world, counted
-pub stepped-new-short : (s : Scene) → Few (s .worlds) → Short 65 (steppedNew s)
-unfolding steppedNew
-stepped-new-short s h =
-    let k : Short 65 (steppedSide s (newSideOf (s .worlds))) = stepped-short s (newSideOf (s .worlds)) h in
-    record { words = k .words; few = k .few }
-
-unless-short : {n : ℕ} (b : Bool) (s : Scene) (p : Played) → Few (s .worlds) → Short n p → Short n (unless b s p)
-unless-short true s p h k = still-short s h
-unless-short false s p h k = k
-
--- catching up, 65 words at most for each step
-pub caught-short : (n : ℕ) (o : Timestamp) (s : Scene) → Few (s .worlds) → Short (n * 65) (caughtOf n o s)
-unfolding caughtOf
-caught-short zero o s h = still-short s h
-caught-short (suc n) o s h =
-    let k : Short (65 + n * 65) (andThen (steppedNew s) (caughtOf n o)) = then-short (steppedNew s) (caughtOf n o) (stepped-new-short s h) (caught-short n o (steppedNew s .scene)) in
-    unless-short (caughtUpOf (newStampOf (s .worlds)) o) s (andThen (steppedNew s) (caughtOf n o)) h (record { words = omega (arith, k .words); few = k .few })
-
--- the steps of a frame
-pub simulated-short : (m : ℕ) (s : Scene) → Few (s .worlds) → Short (65 + m * 65) (simulatedOf m s)
-unfolding simulatedOf
-simulated-short m s h =
-    let p : Played = steppedSide s (oldSideOf (s .worlds)) in
-    then-short p (λ (t : Scene). caughtOf m (oldStampOf (t .worlds)) t) (stepped-short s (oldSideOf (s .worlds)) h) (caught-short m (oldStampOf (p .scene .worlds)) (p .scene))
-
--- ---- what a frame begins with
-
 -- the worlds beside a load
 few-readied : (w : ClientWorldSimulations) (side : ℕ) (b : CommandBuffer) → Few w → length (held b) ≤ 64 → Few (readiedWith w side b)
 unfolding readiedWith
@@ -168,12 +141,6 @@ loaded-short s side t h few =
       few = rw ledger-worlds (few-with (readiedWith (s .worlds) side b) side _ (few-readied (s .worlds) side b few kept) own);
     }
 
--- the queued snapshot, where there is one
-queued-short : (s : Scene) (q : Queued) (side : ℕ) → Few (s .worlds) → Short 64 (loadedQueued s q side)
-unfolding loadedQueued
-queued-short s Nothing side h = still-short s h
-queued-short s (Held t x) side h = loaded-short s side t x h
-
 -- a reset leaves at most as many as there were
 reset-held : (w : Simulation) (t : Timestamp) (side : ℕ) → heldIn (resetOf w t side .world) ≤ heldIn w
 unfolding resetOf
@@ -183,62 +150,52 @@ reset-held w t side = go (resetsBack t (w .commands .timestamp))
     go true = omega (arith, ap length (emptied-held (movedOf (w .commands) t .buffer)))
     go false = omega (arith, moved-ledger (w .commands) t)
 
--- a reset of the new world
-pub reset-new-short : (s : Scene) → Few (s .worlds) → Short 64 (resetNew s)
-unfolding resetNew doneAt
-reset-new-short s h =
-    let side : ℕ = newSideOf (s .worlds) in
+-- a side's reset
+reset-short : (s : Scene) (side : ℕ) (t : Timestamp) → Few (s .worlds) → Short 64 (resetAt s side t)
+unfolding doneAt
+reset-short s side t h =
     let w : Simulation = worldOf (s .worlds) side in
-    let o : Timestamp = oldStampOf (s .worlds) in
     record {
-      words = omega (arith, reset-words w o side, reset-applies w o side, few-at (s .worlds) side h);
-      few = few-put s side (resetOf w o side .world) (resetOf w o side .applied) (resetOf w o side .leftout) h (omega (arith, reset-held w o side, few-at (s .worlds) side h));
+      words = omega (arith, reset-words w t side, reset-applies w t side, few-at (s .worlds) side h);
+      few = few-put s side (resetOf w t side .world) (resetOf w t side .applied) (resetOf w t side .leftout) h (omega (arith, reset-held w t side, few-at (s .worlds) side h));
     }
 
--- the weight changes nothing of it
-few-blended : (s : Scene) (p : Float) → Few (s .worlds) → Few (blendedOn s p .worlds)
-unfolding blendedOn
-few-blended s p h = record { left = h .left; right = h .right; base = h .base }
-
--- what a frame begins with
-pub opened-short : (t : ReconciliationStatus) (q : Queued) (p : Float) (s : Scene) → Few (s .worlds) → Short 64 (openedOf t q p s)
-unfolding openedOf
-opened-short AwaitingSnapshot q p s h = queued-short s q (oldSideOf (s .worlds)) h
-opened-short (Blending t) q p s h = still-short (blendedOn s p) (few-blended s p h)
-opened-short (Fastforwarding Healthy) q p s h = still-short s h
-opened-short (Fastforwarding Obsolete) q p s h = queued-short s q (newSideOf (s .worlds)) h
-opened-short (Fastforwarding Overshot) q p s h = reset-new-short s h
-
--- ---- what is published
-
--- a published state changes nothing of it
-few-state : (s : Scene) (l : LastStamp) → Few (s .worlds) → Few (withState s l .worlds)
-few-state s l h = record { left = h .left; right = h .right; base = h .base }
-
--- it is told in few words
+-- what is published is told in few words
 told-few : (w : Telling) → length (told w) ≤ 4
 unfolding mixWords weightWords
 told-few of-none = omega arith
 told-few (of-side side) = omega arith
 told-few (of-mix t) = omega arith
 
--- what a frame publishes, by the weight or not
-pub published-short : (b : Bool) (s : Scene) → Few (s .worlds) → Short 4 (publishedBy b s)
-published-short b s h = published-by (Short 4) s (λ l w. record { words = told-few w; few = few-state s l h }) b
+-- so are the steps of worlds, and each move of a frame
+short-steps : Steps Shortly 65
+short-steps = record { chains = short-chains; steps = λ s side l. stepped-short s side; counts = λ s x. quiet-short _ x }
+
+short-moves : Moves Shortly 64 64 65 4
+short-moves =
+    record {
+      stepping = short-steps;
+      fits = omega arith;
+      loads = λ s side t h l. loaded-short s side t h;
+      resets = λ s side t l. reset-short s side t;
+      weighs = λ s t x. quiet-short _ (record { left = x .left; right = x .right; base = x .base });
+      shows = λ s l w x. record { words = told-few w; few = record { left = x .left; right = x .right; base = x .base } };
+    }
 
 -- ---- the frame
 
--- the worlds' steps and what is published
-pub shown-short : (m : ℕ) (b : Bool) (s : Scene) → Few (s .worlds) → Short (65 + m * 65 + 4) (shownOf m b s)
-unfolding shownOf
-shown-short m b s h = then-short (simulatedOf m s) (publishedBy b) (simulated-short m s h) (published-short b (simulatedOf m s .scene))
+-- a step of the new world, counted
+pub stepped-new-short : (s : Scene) → Few (s .worlds) → Short 65 (steppedNew s)
+stepped-new-short = stepped-new-by short-steps
+
+-- the steps of a frame
+pub simulated-short : (m : ℕ) (s : Scene) → Few (s .worlds) → Short (65 + m * 65) (simulatedOf m s)
+simulated-short = simulated-by short-steps
+
+-- what a frame begins with
+pub opened-short : (t : ReconciliationStatus) (q : Queued) (p : Float) (s : Scene) → statusOf (s .worlds) ≡ t → Few (s .worlds) → Short 64 (openedOf t q p s)
+opened-short t q p s = opened-by (parts-by short-moves (record { m = 0; progress = p })) t q s
 
 -- a frame, with m catch-up steps at most
 pub frame-short : (rules : Rules) (s : Scene) → Few (s .worlds) → Short (64 + (65 + rules .m * 65 + 4)) (frameOf rules s)
-unfolding frameOf openOf
-frame-short rules s h =
-    let m : ℕ = rules .m in
-    let p : Float = rules .progress in
-    let t : ReconciliationStatus = statusOf (s .worlds) in
-    let q : Queued = snapshotOf s in
-    then-short (openedOf t q p s) (shownOf m (blendedBy t q)) (opened-short t q p s h) (shown-short m (blendedBy t q) (openedOf t q p s .scene))
+frame-short rules = frame-by (parts-by short-moves rules)

@@ -1,12 +1,12 @@
 -- What the frames of an update, a skip after them, and the end of an update come to. Assumes nothing.
-use mathlib.Core.Bool.{Bool, true, false, cond}
+use mathlib.Core.Bool.{cond}
 use mathlib.Core.List.{List, [], _∷_, _++_, append-nil}
 use mathlib.Core.Path.{_≡_, refl, ap, sym, _∙_}
-use Prim.Native.Nat.{ℕ, zero, suc, _+_, _-_, _*_, _%_, _^_, _<_, _≤_}
+use Prim.Native.Nat.{ℕ, suc, _+_, _*_, _%_, _^_, _<_, _≤_}
 use native.Mathlib.Omega.{arith}
 use lib.Dec.{eqb}
 use lib.IntN.{ℤ, pos, negsuc}
-use lib.Ieee.{Float, binary64, add, sub, lt}
+use lib.Ieee.{Float, binary64, sub}
 use lib.Ieee.Casts.{toSigned-in}
 use mir.Syntax.{w16}
 use mir.Val.{SFits}
@@ -16,20 +16,19 @@ use Rattle.timestamp.specs.Whole.{ceilOf}
 use Rattle.timestamp.specs.FloatTimestamps.{fromSeconds, ceilStampOf}
 use Rattle.tape.specs.Words.{stepsOn}
 use Rattle.settings.specs.declared.Settings.{Settings}
-use Rattle.settings.specs.Settings.{lagFrameCountOf}
-use Rattle.settings.specs.Tweening.{shapedOf}
 use Rattle.client.specs.declared.ClientWorldSimulations.{ClientWorldSimulations}
 use Rattle.client.specs.declared.Scene.{Scene}
-use Rattle.client.specs.Sides.{oldStampOf, withWorlds, Played, andThen}
-use Rattle.client_frame.specs.Frame.{frameOf, frameStops}
-use Rattle.client_skip.specs.Skip.{skippedOf, tweenOf, weightOk, postUpdateOf}
+use Rattle.client.specs.Sides.{oldStampOf, withWorlds, andThen}
+use Rattle.client_frame.specs.Frame.{frameOf}
+use Rattle.client_skip.specs.Skip.{skippedOf, postUpdateOf}
 use Rattle.session_laws.proofs.TraceStamps.{lagOf, lag-is, lag-there, next-sum}
 use Rattle.session_laws.proofs.TraceSteps.{lagIn}
 use Rattle.session_laws.proofs.TraceFrames.{QueuedFits, Fitting, OneFrame, one-frame}
 use Rattle.session_laws.proofs.TraceArrivals.{Alike, alike-fitting, alike-lag, post-alike, post-queued, OneSkip, one-skip}
 use Rattle.fixed_timestepper.specs.declared.Stop.{Stop}
 use Rattle.fixed_timestepper.specs.declared.Stop.the-variants.{Done, TooManyFrames, StatusStops, WeightStops}
-use Rattle.fixed_timestepper.specs.TimeKeeper.{nought, rulesOf, Event, FrameFrom, SkipFrom, Run, ended, framed, goesOn, whileBelow, runOf, compensatedOf, correctedOf, skipsOf, skipped, maybeSkipped, endsWith, finishedOf, concluded, advancedOf, updatedOf}
+use Rattle.fixed_timestepper.specs.TimeKeeper.{rulesOf, Event, FrameFrom, SkipFrom, Run, ended, framed, compensatedOf, correctedOf, skipped, endsWith, advancedOf, updatedOf}
+use Rattle.fixed_timestepper.proofs.Induction.{frame, later, Runs, run-by, Ends, ended-by}
 use Rattle.demand.specs.Demand.{newIn, framesIn, distancesIn, wordsIn, Ruled, newSteps, SameWorlds, Walk}
 use Rattle.demand.proofs.TraceLaw.{Linked, lastIn, linked-append, last-append}
 use Rattle.demand.proofs.TraceCounts.{frame-new, frames-append, distances-append, new-append, words-append, ruled-append}
@@ -111,33 +110,24 @@ ran-framed c s r hm hs h i =
       walk = (same-self (s .worlds), i .walk);
     }
 
-ran-goes : (b : Bool) (c : Settings) (s : Scene) (o : Float) (r : Run) → Fitting (s .worlds) → Ran c s r → Ran c s (goesOn b s o r)
-ran-goes true c s o r h i = ran-ended c StatusStops s o h
-ran-goes false c s o r h i = i
-
-ran-while : (b : Bool) (c : Settings) (s : Scene) (o : Float) (r : Run) → Fitting (s .worlds) → Ran c s r → Ran c s (whileBelow b s o r)
-ran-while true c s o r h i = i
-ran-while false c s o r h i = ran-ended c Done s o h
-
 room-first : (x m n : ℕ) → m ≤ 64 → x + 64 * suc n < 2 ^ 32 → x + m < 2 ^ 32
 room-first x m n h k = omega arith
 
 room-rest : (y x m k n : ℕ) → m ≤ 64 → k ≤ m → y ≡ x + k → x + 64 * suc n < 2 ^ 32 → y + 64 * n < 2 ^ 32
 room-rest y x m k n h l e r = omega arith
 
-pub ran : (n : ℕ) (c : Settings) (s : Scene) (o : Float) → 1 ≤ c .m → c .m ≤ 64 → Fitting (s .worlds) → s .steps + 64 * n < 2 ^ 32 → Ran c s (runOf n c s o)
-unfolding runOf
-ran zero c s o hm hl h k = ran-while (lt o nought) c s o (ended TooManyFrames s o) h (ran-ended c TooManyFrames s o h)
-ran (suc n) c s o hm hl h k =
-    let p : Played = frameOf (rulesOf c) s in
-    let f : OneFrame (rulesOf c) s p = one-frame (rulesOf c) s in
-    let x : Float = add binary64 o (c .timestep) in
-    let b : Bool = frameStops (rulesOf c) s in
-    let hs : s .steps + c .m < 2 ^ 32 = room-first (s .steps) (c .m) n hl k in
-    ran-while (lt o nought) c s o (framed (rulesOf c) s (goesOn b (p .scene) x (runOf n c (p .scene) x))) h
-    (ran-framed c s (goesOn b (p .scene) x (runOf n c (p .scene) x)) hm hs h
-    (ran-goes b c (p .scene) x (runOf n c (p .scene) x) (f .fitting h)
-    (ran n c (p .scene) x hm hl (f .fitting h) (room-rest (p .scene .steps) (s .steps) (c .m) (stepsOn (newIn (rulesOf c) s) (p .words)) n hl (f .few) (f .steps hs) k))))
+-- the frames of an update, with room for the steps of each
+ran : (c : Settings) → 1 ≤ c .m → c .m ≤ 64 → Runs c (λ n s o r. Fitting (s .worlds) → s .steps + 64 * n < 2 ^ 32 → Ran c s r)
+ran c hm hl =
+    record {
+      full = λ s o e h k. ran-ended c TooManyFrames s o h;
+      done = λ n s o e h k. ran-ended c Done s o h;
+      stops = λ n s o e h k. ran-framed c s (ended StatusStops (frame c s .scene) (later c o)) hm (room-first (s .steps) (c .m) n hl k) h (ran-ended c StatusStops (frame c s .scene) (later c o) (one-frame (rulesOf c) s .fitting h));
+      goes = λ n s o r e i h k.
+          let f : OneFrame (rulesOf c) s (frame c s) = one-frame (rulesOf c) s in
+          let hs : s .steps + c .m < 2 ^ 32 = room-first (s .steps) (c .m) n hl k in
+          ran-framed c s r hm hs h (i (f .fitting h) (room-rest (frame c s .scene .steps) (s .steps) (c .m) (stepsOn (newIn (rulesOf c) s) (frame c s .words)) n hl (f .few) (f .steps hs) k));
+    }
 
 -- ---- the skip
 
@@ -183,14 +173,6 @@ ran-skipped c s r server i =
       walk = walk-append (s .worlds) (u .worlds) (skippedOf u t .scene .worlds) tr es (i .walk) (same-self (u .worlds), same-self (skippedOf u t .scene .worlds));
     }
 
-skipped-by : (b : Bool) (c : Settings) (s : Scene) (r : Run) (server : Float) → Ran c s r → Ran c s (cond b (skipped r server c) r)
-skipped-by true c s r server i = ran-skipped c s r server i
-skipped-by false c s r server i = i
-
-ran-maybe : (c : Settings) (s : Scene) (r : Run) (server : Float) → Ran c s r → Ran c s (maybeSkipped r server c)
-unfolding maybeSkipped
-ran-maybe c s r server i = skipped-by (skipsOf (oldStampOf (r .played .scene .worlds)) (r .overshoot) server c) c s r server i
-
 -- ---- the end
 
 ran-stops : (c : Settings) (s : Scene) (r : Run) (stop : Stop) → Ran c s r → Ran c s (endsWith r (r .played .scene) stop)
@@ -211,27 +193,17 @@ ran-ends c s r w stop a q i =
       walk = walk-on (s .worlds) (r .played .scene .worlds) w (r .trace) (i .walk) (same-of a);
     }
 
-finished-by : (b : Bool) (c : Settings) (s : Scene) (r : Run) (t : Float) (lag : ℕ) → Ran c s r →
-    Ran c s (cond b (endsWith r (withWorlds (r .played .scene) (postUpdateOf (r .played .scene .worlds) t lag)) Done) (endsWith r (r .played .scene) WeightStops))
-finished-by true c s r t lag i =
-    ran-ends c s r (postUpdateOf (r .played .scene .worlds) t lag) Done (post-alike (r .played .scene .worlds) t lag) (rw (post-queued (r .played .scene .worlds) t lag) (i .fitting .queued)) i
-finished-by false c s r t lag i = ran-stops c s r WeightStops i
-
-ran-finished : (c : Settings) (s : Scene) (r : Run) → Ran c s r → Ran c s (finishedOf r c)
-unfolding finishedOf
-ran-finished c s r i = finished-by (weightOk (tweenOf (r .overshoot) (c .timestep))) c s r (shapedOf (c .method) (tweenOf (r .overshoot) (c .timestep))) (bitsOf (lagFrameCountOf c)) i
-
-ran-concluded : (stop : Stop) (c : Settings) (s : Scene) (r : Run) (server : Float) → Ran c s r → Ran c s (concluded stop r server c)
-ran-concluded Done c s r server i = ran-finished c s (maybeSkipped r server c) (ran-maybe c s r server i)
-ran-concluded TooManyFrames c s r server i = i
-ran-concluded StatusStops c s r server i = i
-ran-concluded WeightStops c s r server i = i
-
-ran-advanced : (c : Settings) (s : Scene) (o delta server : Float) → 1 ≤ c .m → c .m ≤ 64 → Fitting (s .worlds) → s .steps ≡ 0 → Ran c s (advancedOf c s o delta server)
-unfolding advancedOf
-ran-advanced c s o delta server hm hl h e = ran 65 c s (sub binary64 o (compensatedOf (oldStampOf (s .worlds)) o delta server c)) hm hl h (omega arith)
+ran-over : (c : Settings) (s : Scene) (server : Float) → Ends c server (Ran c s) (Ran c s)
+ran-over c s server =
+    record {
+      rests = λ r i. i;
+      skips = λ r i. ran-skipped c s r server i;
+      shows = λ r t lag i. ran-ends c s r (postUpdateOf (r .played .scene .worlds) t lag) Done (post-alike (r .played .scene .worlds) t lag) (rw (post-queued (r .played .scene .worlds) t lag) (i .fitting .queued)) i;
+      stops = λ r i. ran-stops c s r WeightStops i;
+    }
 
 -- one update of the worlds
 pub ran-updated : (c : Settings) (s : Scene) (o delta server : Float) → 1 ≤ c .m → c .m ≤ 64 → Fitting (s .worlds) → s .steps ≡ 0 → Ran c s (updatedOf c s o delta server)
-unfolding updatedOf
-ran-updated c s o delta server hm hl h e = ran-concluded (advancedOf c s o delta server .stop) c s (advancedOf c s o delta server) server (ran-advanced c s o delta server hm hl h e)
+unfolding advancedOf
+ran-updated c s o delta server hm hl h e =
+    ended-by (ran-over c s server) s o delta (run-by (ran c hm hl) 65 s (sub binary64 o (compensatedOf (oldStampOf (s .worlds)) o delta server c)) h (omega arith))

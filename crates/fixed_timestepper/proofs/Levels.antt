@@ -21,7 +21,8 @@ use Rattle.fixed_timestepper.specs.declared.Advanced.{Advanced}
 use Rattle.fixed_timestepper.specs.TimeKeeper.{nought, rulesOf, Run, ended, framed, goesOn, runOf, skipsOf, Advances}
 use Rattle.fixed_timestepper.specs.Inner.{isSingle, levelRun, Skips}
 use Rattle.fixed_timestepper.proofs.Ending.{skip-none}
-use Rattle.fixed_timestepper.proofs.Running.{frame, goes-at, done-at}
+use Rattle.fixed_timestepper.proofs.Induction.{frame}
+use Rattle.fixed_timestepper.proofs.Running.{goes-at, done-at}
 
 -- ---- the tests
 

@@ -1,3 +1,4 @@
+pub mod Induction
 pub mod Keeping
 pub mod Ending
 pub mod Running

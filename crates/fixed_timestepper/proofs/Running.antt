@@ -1,7 +1,7 @@
 -- The loop that plays frames, over plain values: what is left to play from here gives what the whole gives. Assumes nothing.
 use mathlib.Core.Path.{_≡_, refl, ap, sym, _∙_, subst}
 use mathlib.Core.Bool.{Bool, true, false}
-use mathlib.Core.List.{List, [], _∷_, _++_}
+use mathlib.Core.List.{List}
 use Prim.Native.Nat.{ℕ, zero, suc, _+_, _-_, _*_, _≤_, _<_}
 use native.Mathlib.Omega.{arith}
 use lib.ListN.{length, length-append}
@@ -12,14 +12,13 @@ use Rattle.settings.specs.declared.Settings.{Settings}
 use Rattle.settings.specs.Settings.{blendProgressOf}
 use Rattle.client.specs.declared.Scene.{Scene}
 use Rattle.client.specs.declared.Framed.{Framed}
-use Rattle.client.specs.Sides.{Played}
 use Rattle.client_frame.specs.declared.Rules.{Rules}
 use Rattle.client_frame.specs.Frame.{frameOf, frameStops, Frames}
-use Rattle.client_frame.proofs.Bounds.{Few, Short, frame-short}
+use Rattle.client_frame.proofs.Bounds.{Few, frame-short}
 use Rattle.fixed_timestepper.specs.declared.Stop.{Stop}
 use Rattle.fixed_timestepper.specs.declared.Stop.the-variants.{Done, TooManyFrames, StatusStops}
-use Rattle.fixed_timestepper.specs.declared.Advanced.{Advanced}
 use Rattle.fixed_timestepper.specs.TimeKeeper.{nought, rulesOf, Run, ended, framed, goesOn, whileBelow, runOf, Advances}
+use Rattle.fixed_timestepper.proofs.Induction.{frame, Runs, run-by}
 
 -- n frames were played from the scene `from`; the run q is what is left, from the scene s and the place p on
 pub record Running (c : Settings) (from : Scene) (start : Float) (was tape : List ℕ) (s : Scene) (o : Float) (p n : ℕ) : Type 0 where
@@ -49,10 +48,6 @@ over-with c from start {was} {tape} {s} {o} {p} {n} x r e =
       stop = sym (ap (λ (y : Run). y .stop) e) ∙ r .stop;
       puts = r .puts p tape (puts-as (sym (ap (λ (y : Run). y .played .words) e)) (puts-none tape p));
     }
-
--- the frame of a scene
-abbrev pub frame : Settings → Scene → Played
-frame c s = frameOf (rulesOf c) s
 
 -- a frame, and then the run from the scene after it
 abbrev onward : ℕ → Settings → Scene → Float → Run
@@ -165,25 +160,16 @@ framed-as c s {rules} {was} {last} {place} {f} e h = subst (λ (r : Rules). Fram
 
 -- ---- how many words a run puts
 
-below-few : (b : Bool) (s : Scene) (o : Float) (r : Run) (n : ℕ) → length (r .played .words) ≤ n → length (whileBelow b s o r .played .words) ≤ n
-below-few true s o r n h = h
-below-few false s o r n h = omega arith
-
-on-few : (b : Bool) (s : Scene) (o : Float) (r : Run) (n : ℕ) → length (r .played .words) ≤ n → length (goesOn b s o r .played .words) ≤ n
-on-few true s o r n h = omega arith
-on-few false s o r n h = h
-
-framed-words : (rules : Rules) (s : Scene) (r : Run) → length (framed rules s r .played .words) ≡ length (frameOf rules s .words) + length (r .played .words)
-unfolding framed
-framed-words rules s r = simp length-append
-
 -- at most 4,293 words a frame
+short-runs : (c : Settings) → c .m ≤ 64 → Runs c (λ n s o r. Few (s .worlds) → length (r .played .words) ≤ n * 4293)
+unfolding framed
+short-runs c m =
+    record {
+      full = λ s o e h. omega arith;
+      done = λ n s o e h. omega arith;
+      stops = λ n s o e h. simp length-append (omega (arith, frame-short (rulesOf c) s h .words));
+      goes = λ n s o r e k h. simp length-append (omega (arith, frame-short (rulesOf c) s h .words, k (frame-short (rulesOf c) s h .few)));
+    }
+
 pub run-few : (n : ℕ) (c : Settings) → c .m ≤ 64 → (s : Scene) (o : Float) → Few (s .worlds) → length (runOf n c s o .played .words) ≤ n * 4293
-unfolding runOf
-run-few zero c m s o h = below-few (lt o nought) s o (ended TooManyFrames s o) 0 (omega arith)
-run-few (suc n) c m s o h =
-    let f = frame-short (rulesOf c) s h in
-    let x = add binary64 o (c .timestep) in
-    let q = goesOn (frameStops (rulesOf c) s) (frame c s .scene) x (runOf n c (frame c s .scene) x) in
-    let k = on-few (frameStops (rulesOf c) s) (frame c s .scene) x (runOf n c (frame c s .scene) x) (n * 4293) (run-few n c m (frame c s .scene) x (f .few)) in
-    below-few (lt o nought) s o (framed (rulesOf c) s q) (suc n * 4293) (omega (arith, framed-words (rulesOf c) s q, f .words, k))
+run-few n c m s o = run-by (short-runs c m) n s o

@@ -16,7 +16,8 @@ use Rattle.client.specs.declared.Scene.{Scene}
 use Rattle.client.specs.Sides.{newSideOf, oldSideOf, worldOf, withWorld, ledgerOf, withLedger}
 use Rattle.client_receive.specs.Receive.{offeredBase, offeredSide, receivedOf, notesOf}
 use Rattle.session_laws.proofs.LedgerBooks.{books-more, books-takes}
-use Rattle.session_laws.proofs.LedgerSides.{Kept, kept-more, new-below, old-below}
+use Rattle.client_frame.proofs.Induction.{new-below, old-below}
+use Rattle.session_laws.proofs.LedgerSides.{Kept, kept-more}
 use Rattle.session_laws.proofs.LedgerFrames.{SameBuffers}
 
 -- an insertion takes one or none

@@ -33,12 +33,11 @@ use Rattle.client.specs.Sides.{worldOf, ledgerOf, emptyLedger}
 use Rattle.client_receive.specs.Receive.{receivedOf}
 use Rattle.session_laws.proofs.LedgerBooks.{Books}
 use Rattle.session_laws.proofs.LedgerSides.{heldAt, Kept, kept-more}
-use Rattle.session_laws.proofs.LedgerFrames.{SameBuffers, same-buffers-then, same-buffers-kept}
+use Rattle.session_laws.proofs.LedgerFrames.{SameBuffers, same-buffers-then, same-buffers-kept, KeptBy, updated-kept}
 use Rattle.session_laws.proofs.LedgerArrivals.{received-kept, notes-alike}
 use Rattle.fixed_timestepper.specs.declared.Stop.{Stop}
 use Rattle.fixed_timestepper.specs.declared.Stop.the-variants.{Done, TooManyFrames, StatusStops, WeightStops}
 use Rattle.fixed_timestepper.specs.TimeKeeper.{Run, stopNumber}
-use Rattle.session_laws.proofs.LedgerRuns.{KeptBy, updated-kept}
 use Rattle.session_state.specs.declared.Stage.{Stage}
 use Rattle.session_state.specs.declared.Stage.the-variants.{SyncingClock, SyncingInitialState, Ready}
 use Rattle.session_state.specs.declared.Session.{Session}

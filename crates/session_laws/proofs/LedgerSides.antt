@@ -4,7 +4,6 @@ use mathlib.Core.Bool.{Bool, true, false, cond}
 use mathlib.Core.List.{List, [], _∷_}
 use Prim.Native.Nat.{ℕ, zero, suc, _+_, _-_, _^_, _≤_, _<_}
 use native.Mathlib.Omega.{arith}
-use lib.Dec.{eqb}
 use lib.ListN.{length}
 use Rattle.timestamp.specs.declared.Timestamp.{Timestamp}
 use Rattle.tape.specs.Words.{stepWord, commandsOn}
@@ -16,7 +15,7 @@ use Rattle.simulation.specs.declared.Simulation.{Simulation}
 use Rattle.simulation.specs.World.{Done, nextStamp, stepOf, resetOf, flushedOf, keptOf, resetsBack}
 use Rattle.client.specs.declared.ClientWorldSimulations.{ClientWorldSimulations}
 use Rattle.client.specs.declared.Scene.{Scene}
-use Rattle.client.specs.Sides.{newSideOf, oldSideOf, worldOf, withWorld, ledgerOf, withLedger, still, doneAt, putOf}
+use Rattle.client.specs.Sides.{worldOf, withWorld, ledgerOf, withLedger, doneAt, putOf}
 use Rattle.session_laws.proofs.LedgerBooks.{Books, books-as, books-applies, books-more}
 
 -- how many entries a world holds
@@ -88,23 +87,6 @@ kept-as e c = record { books = books-as e refl (c .books); base = c .base }
 -- a larger bound
 pub kept-more : {x h n m k : ℕ} {s : Scene} → n ≤ m → Kept x h n k s → Kept x h m k s
 kept-more e c = record { books = books-more e (c .books); base = c .base }
-
--- both sides are 0 or 1
-pub new-below : (w : ClientWorldSimulations) → newSideOf w < 2
-unfolding newSideOf
-new-below w = go (eqb (w .new) 0)
-  where
-    go : (b : Bool) → cond b 0 1 < 2
-    go true = omega arith
-    go false = omega arith
-
-pub old-below : (w : ClientWorldSimulations) → oldSideOf w < 2
-unfolding oldSideOf
-old-below w = go (eqb (w .new) 0)
-  where
-    go : (b : Bool) → cond b 1 0 < 2
-    go true = omega arith
-    go false = omega arith
 
 -- something is done to the world of a side
 pub done-kept : {h n k : ℕ} (x side : ℕ) (s : Scene) (d : Done) → x < 2 → side < 2 → n < 2 ^ 64 → Spends (worldOf (s .worlds) side) side d → Kept x h n k s → Kept x h n (k + commandsOn x (d .words)) (doneAt s side d .scene)

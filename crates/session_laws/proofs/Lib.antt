@@ -10,7 +10,6 @@ pub mod LedgerFrames
 pub mod LedgerArrivals
 pub mod SoundSkips
 pub mod SoundRuns
-pub mod LedgerRuns
 pub mod SoundParts
 pub mod SoundCalls
 pub mod TraceReading

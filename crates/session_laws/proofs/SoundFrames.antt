@@ -17,86 +17,59 @@ use Rattle.timestamp.specs.declared.Ordering.{Ordering}
 use Rattle.timestamp.specs.declared.Ordering.the-variants.{Less, Equal}
 use Rattle.timestamp.specs.Timestamps.{sumOf, orderOf}
 use Rattle.timestamp.proofs.Order.{order-equal, order-less}
+use Rattle.settings.specs.declared.Settings.{Settings}
+use Rattle.settings.specs.Settings.{blendProgressOf}
 use Rattle.command.specs.Buffer.{emptiedOf}
 use Rattle.command.proofs.Soundness.{moved-sound, emptied-sound}
 use Rattle.simulation.specs.World.{nextStamp, stepOf, resetOf, isLess}
-use Rattle.client.specs.declared.FastforwardingHealth.the-variants.{Healthy, Obsolete, Overshot}
-use Rattle.client.specs.declared.ReconciliationStatus.{ReconciliationStatus}
-use Rattle.client.specs.declared.ReconciliationStatus.the-variants.{AwaitingSnapshot, Fastforwarding, Blending}
-use Rattle.client.specs.declared.Queued.{Queued}
-use Rattle.client.specs.declared.Queued.the-variants.{Nothing, Held}
-use Rattle.client.specs.declared.Published.{Published}
+use Rattle.client.specs.declared.ReconciliationStatus.the-variants.{Blending}
 use Rattle.client.specs.declared.ClientWorldSimulations.{ClientWorldSimulations}
 use Rattle.client.specs.declared.Scene.{Scene}
-use Rattle.client.specs.Sides.{newSideOf, oldSideOf, worldOf, withPublished, oldStampOf, newStampOf, Played, still, andThen, doneAt}
+use Rattle.client.specs.Sides.{newSideOf, oldSideOf, worldOf, oldStampOf, newStampOf, Played, still, andThen, doneAt}
 use Rattle.client.specs.Status.{statusBy, statusOf, overshotOf, newerOf}
+use Rattle.client_frame.specs.Frame.{clamped, blendedOn, resetNew, steppedSide, caughtUpOf, steppedNew, unless, caughtOf, simulatedOf}
+use Rattle.client_frame.proofs.Induction.{Keeps, keeps-chains, Same, same-chains, Parts, frame-by, resetAt, Steps, simulated-by}
+use Rattle.fixed_timestepper.specs.TimeKeeper.{rulesOf}
+use Rattle.fixed_timestepper.proofs.Induction.{Updates, both-by, AllMoves}
 use Rattle.client_frame.specs.declared.Rules.{Rules}
-use Rattle.client_frame.specs.Frame.{loadedQueued, clamped, blendedOn, resetNew, openedOf, steppedSide, caughtUpOf, steppedNew, unless, caughtOf, simulatedOf, blendedBy, publishedBy, shownOf, snapshotOf, openOf, frameOf}
-use Rattle.client_frame.proofs.Induction.{published-by}
 use Rattle.client_skip.specs.Skip.{resetSide, resetAlong, skipsBack, emptiedBase, resetBoth, skippedOf, postUpdateOf}
 use Rattle.session_laws.proofs.SoundWorlds.{Kept, Weighed, is-nought, is-even, side-sound, old-at-old, new-at-old, new-at-new, old-at-new, put-old-side, weighed-as, base-kept, base-weighed, published-kept, published-weighed, weight-kept, weight-weighed, done-worlds, done-kept, done-weight, step-init, step-sound, step-stamp, reset-init, reset-sound, reset-stamp, loaded-kept, loaded-weighed}
 
 -- ---- the buffers, the queued snapshot and the initialisation
 
 -- a step of a side
-pub stepped-kept : (s : Scene) (side : ℕ) → Kept (s .worlds) → Kept (steppedSide s side .scene .worlds)
+stepped-kept : (s : Scene) (side : ℕ) → Kept (s .worlds) → Kept (steppedSide s side .scene .worlds)
 unfolding steppedSide
 stepped-kept s side k =
     let x = worldOf (s .worlds) side in
     done-kept s side (stepOf x side) (step-sound x side (side-sound (s .worlds) side k)) (step-init x side) k
 
-stepped-new-kept : (s : Scene) → Kept (s .worlds) → Kept (steppedNew s .scene .worlds)
-unfolding steppedNew
-stepped-new-kept s k = stepped-kept s (newSideOf (s .worlds)) k
-
-unless-keeps : (P : ClientWorldSimulations → Type 0) (b : Bool) (s : Scene) (p : Played) → P (s .worlds) → P (p .scene .worlds) → P (unless b s p .scene .worlds)
-unless-keeps P true s p h k = h
-unless-keeps P false s p h k = k
-
-caught-kept : (n : ℕ) (o : Timestamp) (s : Scene) → Kept (s .worlds) → Kept (caughtOf n o s .scene .worlds)
-unfolding caughtOf andThen
-caught-kept zero o s k = k
-caught-kept (suc n) o s k =
-    unless-keeps Kept (caughtUpOf (newStampOf (s .worlds)) o) s (andThen (steppedNew s) (caughtOf n o)) k (caught-kept n o (steppedNew s .scene) (stepped-new-kept s k))
-
-simulated-kept : (m : ℕ) (s : Scene) → Kept (s .worlds) → Kept (simulatedOf m s .scene .worlds)
-unfolding simulatedOf andThen
-simulated-kept m s k =
-    let t = steppedSide s (oldSideOf (s .worlds)) .scene in
-    caught-kept m (oldStampOf (t .worlds)) t (stepped-kept s (oldSideOf (s .worlds)) k)
-
--- a publish changes the published states alone
-publish-keeps : (P : ClientWorldSimulations → Type 0) (s : Scene) → ((q : Published) → P (withPublished (s .worlds) q)) → (b : Bool) → P (publishedBy b s .scene .worlds)
-publish-keeps P s h b = published-by (λ (p : Played). P (p .scene .worlds)) s (λ l w. h _) b
-
-shown-kept : (m : ℕ) (b : Bool) (s : Scene) → Kept (s .worlds) → Kept (shownOf m b s .scene .worlds)
-unfolding shownOf andThen
-shown-kept m b s k =
-    let t = simulatedOf m s .scene in
-    publish-keeps Kept t (λ q. published-kept (t .worlds) q (simulated-kept m s k)) b
-
-reset-side-kept : (s : Scene) (side : ℕ) (t : Timestamp) → Kept (s .worlds) → Kept (doneAt s side (resetOf (worldOf (s .worlds) side) t side) .scene .worlds)
+-- a reset of a side
+reset-side-kept : (s : Scene) (side : ℕ) (t : Timestamp) → Kept (s .worlds) → Kept (resetAt s side t .scene .worlds)
 reset-side-kept s side t k =
     let x = worldOf (s .worlds) side in
     done-kept s side (resetOf x t side) (reset-sound x t side (side-sound (s .worlds) side k)) (reset-init x t side) k
 
-loaded-queued-kept : (s : Scene) (q : Queued) (side : ℕ) → Kept (s .worlds) → Kept (loadedQueued s q side .scene .worlds)
-unfolding loadedQueued
-loaded-queued-kept s Nothing side k = k
-loaded-queued-kept s (Held t h) side k = loaded-kept s side t h k
+-- what every update ends with
+post-kept : (w : ClientWorldSimulations) (t : Float) (lag : ℕ) → Kept w → Kept (postUpdateOf w t lag)
+unfolding postUpdateOf
+post-kept w t lag k = record { left = k .left; right = k .right; base = moved-sound (w .base) (oldStampOf w) (k .base); queued = k .queued; init = k .init }
 
-opened-kept : (st : ReconciliationStatus) (q : Queued) (p : Float) (s : Scene) → Kept (s .worlds) → Kept (openedOf st q p s .scene .worlds)
-unfolding openedOf blendedOn resetNew
-opened-kept AwaitingSnapshot q p s k = loaded-queued-kept s q (oldSideOf (s .worlds)) k
-opened-kept (Blending t) q p s k = weight-kept (s .worlds) _ k
-opened-kept (Fastforwarding Healthy) q p s k = k
-opened-kept (Fastforwarding Obsolete) q p s k = loaded-queued-kept s q (newSideOf (s .worlds)) k
-opened-kept (Fastforwarding Overshot) q p s k = reset-side-kept s (newSideOf (s .worlds)) (oldStampOf (s .worlds)) k
-
--- a frame
-pub frame-kept : (rules : Rules) (s : Scene) → Kept (s .worlds) → Kept (frameOf rules s .scene .worlds)
-unfolding frameOf andThen openOf
-frame-kept rules s k = shown-kept (rules .m) (blendedBy (statusOf (s .worlds)) (snapshotOf s)) (openOf rules s .scene) (opened-kept (statusOf (s .worlds)) (snapshotOf s) (rules .progress) s k)
+-- each move of an update
+pub kept-moves : AllMoves (Keeps Kept) 0 0 0 0
+kept-moves =
+    record {
+      moves = record {
+        stepping = record { chains = keeps-chains Kept; steps = λ s side l. stepped-kept s side; counts = λ s k. k };
+        fits = omega arith;
+        loads = λ s side t h l. loaded-kept s side t h;
+        resets = λ s side t l. reset-side-kept s side t;
+        weighs = λ s t. weight-kept (s .worlds) t;
+        shows = λ s l w. published-kept (s .worlds) _;
+      };
+      empties = λ s k. base-kept (s .worlds) (emptiedOf (s .worlds .base)) (emptied-sound (s .worlds .base) (k .base)) k;
+      ends = λ s t lag. post-kept (s .worlds) t lag;
+    }
 
 -- ---- equal stamps
 
@@ -178,41 +151,16 @@ simulated-even m s e =
 
 -- ---- the weight
 
-stepped-weight : (s : Scene) (side : ℕ) → steppedSide s side .scene .worlds .weight ≡ s .worlds .weight
+-- the steps of worlds leave it
+weight-steps : Steps (Same (λ (w : ClientWorldSimulations). w .weight)) 0
 unfolding steppedSide
-stepped-weight s side = done-weight s side (stepOf (worldOf (s .worlds) side) side)
+weight-steps = record { chains = same-chains (λ (w : ClientWorldSimulations). w .weight); steps = λ s side l. done-weight s side (stepOf (worldOf (s .worlds) side) side); counts = λ s. refl }
 
-stepped-new-weight : (s : Scene) → steppedNew s .scene .worlds .weight ≡ s .worlds .weight
-unfolding steppedNew
-stepped-new-weight s = stepped-weight s (newSideOf (s .worlds))
-
-caught-weight : (n : ℕ) (o : Timestamp) (s : Scene) → caughtOf n o s .scene .worlds .weight ≡ s .worlds .weight
-unfolding caughtOf andThen
-caught-weight zero o s = refl
-caught-weight (suc n) o s =
-    unless-keeps (λ (v : ClientWorldSimulations). v .weight ≡ s .worlds .weight) (caughtUpOf (newStampOf (s .worlds)) o) s (andThen (steppedNew s) (caughtOf n o)) refl (caught-weight n o (steppedNew s .scene) ∙ stepped-new-weight s)
-
-simulated-weight : (m : ℕ) (s : Scene) → simulatedOf m s .scene .worlds .weight ≡ s .worlds .weight
-unfolding simulatedOf andThen
-simulated-weight m s =
-    let t = steppedSide s (oldSideOf (s .worlds)) .scene in
-    caught-weight m (oldStampOf (t .worlds)) t ∙ stepped-weight s (oldSideOf (s .worlds))
-
-simulated-weighed : (m : ℕ) (s : Scene) → Weighed (s .worlds) → Weighed (simulatedOf (suc m) s .scene .worlds)
-simulated-weighed m s (is-nought h) = is-nought (subst (λ (t : Float). T (eq t zeroF)) (sym (simulated-weight (suc m) s)) h)
-simulated-weighed m s (is-even e a b) =
-    is-even (simulated-even m s e) (subst (λ (t : Float). T (le zeroF t)) (sym (simulated-weight (suc m) s)) a) (subst (λ (t : Float). T (le t oneF)) (sym (simulated-weight (suc m) s)) b)
-
-shown-weighed : (m : ℕ) (b : Bool) (s : Scene) → Weighed (s .worlds) → Weighed (shownOf (suc m) b s .scene .worlds)
-unfolding shownOf andThen
-shown-weighed m b s h =
-    let t = simulatedOf (suc m) s .scene in
-    publish-keeps Weighed t (λ q. published-weighed (t .worlds) q (simulated-weighed m s h)) b
-
--- so with at least one catch-up step
-shown-some : (m : ℕ) (b : Bool) (s : Scene) → 1 ≤ m → Weighed (s .worlds) → Weighed (shownOf m b s .scene .worlds)
-shown-some zero b s l h = absurd (omega arith)
-shown-some (suc m) b s l h = shown-weighed m b s h
+simulated-weighed : (m : ℕ) (s : Scene) → 1 ≤ m → Weighed (s .worlds) → Weighed (simulatedOf m s .scene .worlds)
+simulated-weighed zero s l h = absurd (omega arith)
+simulated-weighed (suc m) s l (is-nought h) = is-nought (subst (λ (t : Float). T (eq t zeroF)) (sym (simulated-by weight-steps (suc m) s)) h)
+simulated-weighed (suc m) s l (is-even e a b) =
+    is-even (simulated-even m s e) (subst (λ (t : Float). T (le zeroF t)) (sym (simulated-by weight-steps (suc m) s)) a) (subst (λ (t : Float). T (le t oneF)) (sym (simulated-by weight-steps (suc m) s)) b)
 
 -- in Blending the stamps are equal
 blending-by : (a l v q : Bool) (t u : Float) → statusBy a l v q t ≡ Blending u → a ≡ true
@@ -252,11 +200,6 @@ unit-within x a b =
 clamped-unit : (x p : Float) → T (le zeroF x) → T (le x oneF) → Within p 1024 → T (le zeroF (clamped (add binary64 x p))) × T (le (clamped (add binary64 x p)) oneF)
 clamped-unit x p a b h = clamp-unit (add binary64 x p) (add-within x p 1 1024 (lit< tt) (unit-within x a b) h .0)
 
-loaded-queued-weighed : (s : Scene) (q : Queued) (side : ℕ) → Weighed (s .worlds) → Weighed (loadedQueued s q side .scene .worlds)
-unfolding loadedQueued
-loaded-queued-weighed s Nothing side h = h
-loaded-queued-weighed s (Held t n) side h = loaded-weighed s side t n
-
 -- a reset of the new world to the old stamp
 reset-new-weighed : (s : Scene) → Weighed (s .worlds) → Weighed (resetNew s .scene .worlds)
 unfolding resetNew
@@ -271,66 +214,35 @@ reset-new-weighed s h = go h
         let n = ap newStampOf (done-worlds s side d) ∙ new-at-new (s .worlds) (d .world) ∙ reset-stamp (worldOf (s .worlds) side) (oldStampOf (s .worlds)) side in
         is-even (ap (λ (x : Timestamp). x .0) (o ∙ sym n)) (subst (λ (t : Float). T (le zeroF t)) (sym (done-weight s side d)) a) (subst (λ (t : Float). T (le t oneF)) (sym (done-weight s side d)) b)
 
-opened-weighed : (st : ReconciliationStatus) (q : Queued) (p : Float) (s : Scene) → statusOf (s .worlds) ≡ st → Within p 1024 → Weighed (s .worlds) → Weighed (openedOf st q p s .scene .worlds)
-unfolding openedOf blendedOn
-opened-weighed AwaitingSnapshot q p s e i h = loaded-queued-weighed s q (oldSideOf (s .worlds)) h
-opened-weighed (Blending t) q p s e i h =
+-- a weight that moves on
+blended-weighed : (s : Scene) (p t : Float) → Within p 1024 → statusOf (s .worlds) ≡ Blending t → Weighed (s .worlds) → Weighed (blendedOn s p .worlds)
+unfolding blendedOn
+blended-weighed s p t i e h =
     let u = weighed-unit (s .worlds) h in
     let c = clamped-unit (s .worlds .weight) p (u .0) (u .1) i in
     weight-weighed (s .worlds) (clamped (add binary64 (s .worlds .weight) p)) (blending-even (s .worlds) t e) (c .0) (c .1)
-opened-weighed (Fastforwarding Healthy) q p s e i h = h
-opened-weighed (Fastforwarding Obsolete) q p s e i h = loaded-queued-weighed s q (newSideOf (s .worlds)) h
-opened-weighed (Fastforwarding Overshot) q p s e i h = reset-new-weighed s h
 
--- a frame of at least one catch-up step
-pub frame-weighed : (rules : Rules) (s : Scene) → 1 ≤ rules .m → Within (rules .progress) 1024 → Weighed (s .worlds) → Weighed (frameOf rules s .scene .worlds)
-unfolding frameOf andThen openOf
-frame-weighed rules s l i h =
-    shown-some (rules .m) (blendedBy (statusOf (s .worlds)) (snapshotOf s)) (openOf rules s .scene) l (opened-weighed (statusOf (s .worlds)) (snapshotOf s) (rules .progress) s refl i h)
+-- the parts of a frame of at least one catch-up step
+weighed-parts : (rules : Rules) → 1 ≤ rules .m → Within (rules .progress) 1024 → Parts (Keeps Weighed) rules 0 0 0
+weighed-parts rules l i =
+    record {
+      chains = keeps-chains Weighed;
+      loads = λ s side t h b k. loaded-weighed s side t h;
+      resets = reset-new-weighed;
+      blends = λ s t e. blended-weighed s (rules .progress) t i e;
+      simulates = λ s. simulated-weighed (rules .m) s l;
+      shows = λ s l w. published-weighed (s .worlds) _;
+    }
 
 -- ---- a skip
-
-reset-along-kept : (s : Scene) (t : Timestamp) → Kept (s .worlds) → Kept (resetAlong s t .scene .worlds)
-unfolding resetAlong resetSide
-reset-along-kept s t k = go (eqb (newStampOf (s .worlds) .0) (oldStampOf (s .worlds) .0))
-  where
-    go : (b : Bool) → Kept (cond b (resetSide s (newSideOf (s .worlds)) t) (still s) .scene .worlds)
-    go true = reset-side-kept s (newSideOf (s .worlds)) t k
-    go false = k
-
-emptied-base-kept : (b : Bool) (s : Scene) → Kept (s .worlds) → Kept (emptiedBase b s .worlds)
-emptied-base-kept true s k = base-kept (s .worlds) (emptiedOf (s .worlds .base)) (emptied-sound (s .worlds .base) (k .base)) k
-emptied-base-kept false s k = k
-
-pub skip-kept : (s : Scene) (t : Timestamp) → Kept (s .worlds) → Kept (skippedOf s t .scene .worlds)
-unfolding skippedOf resetBoth andThen resetSide
-skip-kept s t k =
-    emptied-base-kept (skipsBack t (oldStampOf (s .worlds))) (resetBoth s t .scene) (reset-side-kept (resetAlong s t .scene) (oldSideOf (s .worlds)) t (reset-along-kept s t k))
-
-emptied-base-weighed : (b : Bool) (s : Scene) → Weighed (s .worlds) → Weighed (emptiedBase b s .worlds)
-emptied-base-weighed true s k = base-weighed (s .worlds) (emptiedOf (s .worlds .base)) k
-emptied-base-weighed false s k = k
 
 -- the new world goes along where the stamps are equal: the side of each world stays, and the new stamp is t
 along-even : (s : Scene) (t : Timestamp) → oldStampOf (s .worlds) .0 ≡ newStampOf (s .worlds) .0 → resetAlong s t ≡ resetSide s (newSideOf (s .worlds)) t
 unfolding resetAlong
 along-even s t e = ap (λ (b : Bool). cond b (resetSide s (newSideOf (s .worlds)) t) (still s)) (eq-eqb (newStampOf (s .worlds) .0) (oldStampOf (s .worlds) .0) (sym e))
 
-reset-weight : (s : Scene) (side : ℕ) (t : Timestamp) → resetSide s side t .scene .worlds .weight ≡ s .worlds .weight
-unfolding resetSide
-reset-weight s side t = done-weight s side (resetOf (worldOf (s .worlds) side) t side)
-
-along-weight : (s : Scene) (t : Timestamp) → resetAlong s t .scene .worlds .weight ≡ s .worlds .weight
-unfolding resetAlong
-along-weight s t = go (eqb (newStampOf (s .worlds) .0) (oldStampOf (s .worlds) .0))
-  where
-    go : (b : Bool) → cond b (resetSide s (newSideOf (s .worlds)) t) (still s) .scene .worlds .weight ≡ s .worlds .weight
-    go true = reset-weight s (newSideOf (s .worlds)) t
-    go false = refl
-
 both-weight : (s : Scene) (t : Timestamp) → resetBoth s t .scene .worlds .weight ≡ s .worlds .weight
-unfolding resetBoth andThen
-both-weight s t = reset-weight (resetAlong s t .scene) (oldSideOf (s .worlds)) t ∙ along-weight s t
+both-weight s t = both-by {reset = 0} (weight-steps .chains) (λ u side x l. done-weight u side (resetOf (worldOf (u .worlds) side) x side)) s t
 
 -- equal stamps are both t after it
 both-even : (s : Scene) (t : Timestamp) → oldStampOf (s .worlds) .0 ≡ newStampOf (s .worlds) .0 → oldStampOf (resetBoth s t .scene .worlds) ≡ newStampOf (resetBoth s t .scene .worlds)
@@ -355,16 +267,25 @@ both-weighed s t (is-nought h) = is-nought (subst (λ (x : Float). T (eq x zeroF
 both-weighed s t (is-even e a b) =
     is-even (ap (λ (x : Timestamp). x .0) (both-even s t e)) (subst (λ (x : Float). T (le zeroF x)) (sym (both-weight s t)) a) (subst (λ (x : Float). T (le x oneF)) (sym (both-weight s t)) b)
 
-pub skip-weighed : (s : Scene) (t : Timestamp) → Weighed (s .worlds) → Weighed (skippedOf s t .scene .worlds)
+emptied-base-weighed : (b : Bool) (s : Scene) → Weighed (s .worlds) → Weighed (emptiedBase b s .worlds)
+emptied-base-weighed true s k = base-weighed (s .worlds) (emptiedOf (s .worlds .base)) k
+emptied-base-weighed false s k = k
+
+skip-weighed : (s : Scene) (t : Timestamp) → Weighed (s .worlds) → Weighed (skippedOf s t .scene .worlds)
 unfolding skippedOf
 skip-weighed s t h = emptied-base-weighed (skipsBack t (oldStampOf (s .worlds))) (resetBoth s t .scene) (both-weighed s t h)
 
--- ---- what every update ends with
-
-pub post-kept : (w : ClientWorldSimulations) (t : Float) (lag : ℕ) → Kept w → Kept (postUpdateOf w t lag)
-unfolding postUpdateOf
-post-kept w t lag k = record { left = k .left; right = k .right; base = moved-sound (w .base) (oldStampOf w) (k .base); queued = k .queued; init = k .init }
-
-pub post-weighed : (w : ClientWorldSimulations) (t : Float) (lag : ℕ) → Weighed w → Weighed (postUpdateOf w t lag)
+-- what every update ends with
+post-weighed : (w : ClientWorldSimulations) (t : Float) (lag : ℕ) → Weighed w → Weighed (postUpdateOf w t lag)
 unfolding postUpdateOf oldStampOf newStampOf oldSideOf newSideOf worldOf
 post-weighed w t lag h = weighed-as (postUpdateOf w t lag) w refl refl refl h
+
+-- the parts of an update
+pub weighed-updates : (c : Settings) → 1 ≤ c .m → Within (blendProgressOf c) 1024 → Updates (Keeps Weighed) c 0 0
+weighed-updates c l i =
+    record {
+      chains = keeps-chains Weighed;
+      frames = frame-by (weighed-parts (rulesOf c) l i);
+      skips = skip-weighed;
+      ends = λ s t lag. post-weighed (s .worlds) t lag;
+    }

@@ -2,11 +2,11 @@
 use mathlib.Core.Path.{_≡_, refl, sym, subst}
 use mathlib.Core.Logic.{_⊎_, inl, inr}
 use mathlib.Core.Bool.{Bool, true, false, not, cond}
-use Prim.Native.Nat.{ℕ, zero, suc, _^_}
+use Prim.Native.Nat.{ℕ, suc, _^_}
 use native.Mathlib.Omega.{arith}
 use lib.Dec.{T, lit<}
 use lib.IntN.{pos}
-use lib.Ieee.{Float, nan, inf, fin, binary64, fits, add, sub, mul, lt, le}
+use lib.Ieee.{Float, nan, inf, fin, binary64, fits, sub, mul, lt, le}
 use lib.Ieee.Scale.{finite}
 use Rattle.float_laws.proofs.Value.{q-le-refl, val, oneF, le-of-val}
 use Rattle.float_laws.proofs.Order.{between-finite, float-le-trans, float-le-of-lt, float-le-of-not-lt}
@@ -18,16 +18,15 @@ use Rattle.timestamp.specs.declared.Timestamp.{Timestamp}
 use Rattle.settings.specs.declared.Settings.{Settings}
 use Rattle.settings.specs.Settings.{passesOf, blendProgressOf, least64, sixtyFour64}
 use Rattle.settings.proofs.Limits.{timestep-within, blend-within, max-tests, steps-few, sixty-four-exact}
-use Rattle.client.specs.declared.ClientWorldSimulations.{ClientWorldSimulations}
 use Rattle.client.specs.declared.Scene.{Scene}
-use Rattle.client.specs.Sides.{oldStampOf, withWorlds, Played, andThen}
-use Rattle.client_frame.specs.Frame.{frameOf, frameStops}
-use Rattle.client_skip.specs.Skip.{skippedOf, tweenOf, weightOk, postUpdateOf}
+use Rattle.client.specs.Sides.{oldStampOf}
+use Rattle.client_skip.specs.Skip.{tweenOf, weightOk}
 use Rattle.session_laws.proofs.SoundWorlds.{Kept, Weighed}
-use Rattle.session_laws.proofs.SoundFrames.{frame-kept, frame-weighed, skip-kept, skip-weighed, post-kept, post-weighed}
+use Rattle.session_laws.proofs.SoundFrames.{kept-moves, weighed-updates}
 use Rattle.fixed_timestepper.specs.declared.Stop.{Stop}
 use Rattle.fixed_timestepper.specs.declared.Stop.the-variants.{Done, TooManyFrames, StatusStops, WeightStops}
-use Rattle.fixed_timestepper.specs.TimeKeeper.{nought, atLeastZero, driftOf, beyondDeadband, uncappedOf, compensatedOf, rulesOf, Run, ended, framed, goesOn, whileBelow, runOf, correctedOf, skipsOf, skipped, maybeSkipped, endsWith, finishedOf, concluded, advancedOf, updatedOf}
+use Rattle.fixed_timestepper.specs.TimeKeeper.{nought, atLeastZero, driftOf, beyondDeadband, uncappedOf, compensatedOf, Run, framed, skipsOf, skipped, maybeSkipped, endsWith, finishedOf, concluded, advancedOf, updatedOf}
+use Rattle.fixed_timestepper.proofs.Induction.{Runs, run-by, updated-by, moves-by}
 use Rattle.session_laws.proofs.SoundSkips.{corrected-in}
 
 -- ---- what settings that pass give
@@ -97,13 +96,6 @@ compensated-capped stamp o delta server c p l = cap (c .max) (uncappedOf stamp o
 
 -- ---- the overshoot after the frames
 
--- a frame under the settings c, and the overshoot after it
-abbrev frameBy : Settings → Scene → Played
-frameBy c s = frameOf (rulesOf c) s
-
-abbrev later : Settings → Float → Float
-later c o = add binary64 o (c .timestep)
-
 -- finite and from 0 to the timestep
 pub record InStep (t o : Float) : Type 0 where
   pub number : T (finite o)
@@ -111,89 +103,31 @@ pub record InStep (t o : Float) : Type 0 where
   pub high : T (le o t)
 
 -- the frames end by themselves once the overshoot is not below 0, and no addition takes it above the timestep
-pub run-overshoot : (n k : ℕ) (c : Settings) (s : Scene) (o : Float) → Step (c .timestep) → After (c .timestep) k o → runOf n c s o .stop ≡ Done → InStep (c .timestep) (runOf n c s o .overshoot)
-unfolding runOf framed
-run-overshoot zero k c s o st a e = go (lt o nought) (λ (h : T (not (lt o nought))). float-le-of-not-lt o nought (a .finite-x) tt h) e
-  where
-    go : (b : Bool) → (T (not b) → T (le nought o)) → whileBelow b s o (ended TooManyFrames s o) .stop ≡ Done → InStep (c .timestep) (whileBelow b s o (ended TooManyFrames s o) .overshoot)
-    go true h q = absurd (let z : _≡_ {A = ℕ} 0 1 = cc in omega arith)
-    go false h q = record { number = a .finite-x; low = h tt; high = le-of-val o (c .timestep) (a .finite-x) (st .finite-t) (a .ceiling) }
-run-overshoot (suc n) k c s o st a e =
-    go (lt o nought) (λ (h : T (lt o nought)). frames-step (c .timestep) k o st a h) (λ (h : T (not (lt o nought))). float-le-of-not-lt o nought (a .finite-x) tt h)
-    (λ g q. run-overshoot n (suc k) c (frameBy c s .scene) (later c o) st g q) e
-  where
-    on : (b : Bool) → (runOf n c (frameBy c s .scene) (later c o) .stop ≡ Done → InStep (c .timestep) (runOf n c (frameBy c s .scene) (later c o) .overshoot)) → goesOn b (frameBy c s .scene) (later c o) (runOf n c (frameBy c s .scene) (later c o)) .stop ≡ Done → InStep (c .timestep) (goesOn b (frameBy c s .scene) (later c o) (runOf n c (frameBy c s .scene) (later c o)) .overshoot)
-    on true r q = absurd (let z : _≡_ {A = ℕ} 0 1 = cc in omega arith)
-    on false r q = r q
-
-    go : (b : Bool) → (T b → After (c .timestep) (suc k) (later c o)) → (T (not b) → T (le nought o))
-        → (After (c .timestep) (suc k) (later c o) → runOf n c (frameBy c s .scene) (later c o) .stop ≡ Done → InStep (c .timestep) (runOf n c (frameBy c s .scene) (later c o) .overshoot))
-        → whileBelow b s o (framed (rulesOf c) s (goesOn (frameStops (rulesOf c) s) (frameBy c s .scene) (later c o) (runOf n c (frameBy c s .scene) (later c o)))) .stop ≡ Done
-        → InStep (c .timestep) (whileBelow b s o (framed (rulesOf c) s (goesOn (frameStops (rulesOf c) s) (frameBy c s .scene) (later c o) (runOf n c (frameBy c s .scene) (later c o)))) .overshoot)
-    go true g h r q = on (frameStops (rulesOf c) s) (r (g tt)) q
-    go false g h r q = record { number = a .finite-x; low = h tt; high = le-of-val o (c .timestep) (a .finite-x) (st .finite-t) (a .ceiling) }
-
--- ---- what every frame, skip and end keep
-
-module _ (P : ClientWorldSimulations → Type 0) (c : Settings)
-    (frames : (s : Scene) → P (s .worlds) → P (frameOf (rulesOf c) s .scene .worlds))
-    (skips : (s : Scene) (t : Timestamp) → P (s .worlds) → P (skippedOf s t .scene .worlds))
-    (posts : (w : ClientWorldSimulations) (t : Float) (lag : ℕ) → P w → P (postUpdateOf w t lag)) where
-  run-keeps : (n : ℕ) (s : Scene) (o : Float) → P (s .worlds) → P (runOf n c s o .played .scene .worlds)
-  unfolding runOf framed
-  run-keeps zero s o h = go (lt o nought)
-    where
-      go : (b : Bool) → P (whileBelow b s o (ended TooManyFrames s o) .played .scene .worlds)
-      go true = h
-      go false = h
-  run-keeps (suc n) s o h = go (lt o nought) (run-keeps n (frameBy c s .scene) (later c o) (frames s h))
-    where
-      on : (b : Bool) → P (runOf n c (frameBy c s .scene) (later c o) .played .scene .worlds) → P (goesOn b (frameBy c s .scene) (later c o) (runOf n c (frameBy c s .scene) (later c o)) .played .scene .worlds)
-      on true r = frames s h
-      on false r = r
-
-      go : (b : Bool) → P (runOf n c (frameBy c s .scene) (later c o) .played .scene .worlds) → P (whileBelow b s o (framed (rulesOf c) s (goesOn (frameStops (rulesOf c) s) (frameBy c s .scene) (later c o) (runOf n c (frameBy c s .scene) (later c o)))) .played .scene .worlds)
-      go true r = on (frameStops (rulesOf c) s) r
-      go false r = h
-
-  skip-keeps : (r : Run) (server : Float) → P (r .played .scene .worlds) → P (maybeSkipped r server c .played .scene .worlds)
-  unfolding maybeSkipped skipped andThen
-  skip-keeps r server h = go (skipsOf (oldStampOf (r .played .scene .worlds)) (r .overshoot) server c)
-    where
-      go : (b : Bool) → P (cond b (skipped r server c) r .played .scene .worlds)
-      go true = skips (r .played .scene) (correctedOf server (c .timestep)) h
-      go false = h
-
-  finish-keeps : (r : Run) → P (r .played .scene .worlds) → P (finishedOf r c .played .scene .worlds)
-  unfolding finishedOf
-  finish-keeps r h = go (weightOk (tweenOf (r .overshoot) (c .timestep))) _ _
-    where
-      go : (b : Bool) (t : Float) (lag : ℕ) → P (cond b (endsWith r (withWorlds (r .played .scene) (postUpdateOf (r .played .scene .worlds) t lag)) Done) (endsWith r (r .played .scene) WeightStops) .played .scene .worlds)
-      go true t lag = posts (r .played .scene .worlds) t lag h
-      go false t lag = h
-
-  concluded-keeps : (x : Stop) (r : Run) (server : Float) → P (r .played .scene .worlds) → P (concluded x r server c .played .scene .worlds)
-  concluded-keeps Done r server h = finish-keeps (maybeSkipped r server c) (skip-keeps r server h)
-  concluded-keeps TooManyFrames r server h = h
-  concluded-keeps StatusStops r server h = h
-  concluded-keeps WeightStops r server h = h
-
-  updated-keeps : (s : Scene) (o delta server : Float) → P (s .worlds) → P (updatedOf c s o delta server .played .scene .worlds)
-  unfolding updatedOf advancedOf
-  updated-keeps s o delta server h =
-      concluded-keeps (advancedOf c s o delta server .stop) (advancedOf c s o delta server) server (run-keeps 65 s (sub binary64 o (compensatedOf (oldStampOf (s .worlds)) o delta server c)) h)
+overshoot-runs : (c : Settings) → Step (c .timestep) → Runs c (λ n s o r. (k : ℕ) → After (c .timestep) k o → r .stop ≡ Done → InStep (c .timestep) (r .overshoot))
+unfolding framed
+overshoot-runs c st =
+    record {
+      full = λ s o e k a q. absurd (let z : _≡_ {A = ℕ} 0 1 = cc in omega arith);
+      done = λ n s o e k a q.
+          record {
+            number = a .finite-x;
+            low = float-le-of-not-lt o nought (a .finite-x) tt (subst (λ (b : Bool). T (not b)) (sym e) tt);
+            high = le-of-val o (c .timestep) (a .finite-x) (st .finite-t) (a .ceiling);
+          };
+      stops = λ n s o e k a q. absurd (let z : _≡_ {A = ℕ} 0 1 = cc in omega arith);
+      goes = λ n s o r e i k a q. i (suc k) (frames-step (c .timestep) k o st a (subst T (sym e) tt)) q;
+    }
 
 -- ---- one update of the worlds
 
 module _ (c : Settings) (pass : passesOf c ≡ true) where
   -- buffers, queued snapshot and initialisation stay sound
   pub updated-kept : (s : Scene) (o delta server : Float) → Kept (s .worlds) → Kept (updatedOf c s o delta server .played .scene .worlds)
-  updated-kept s o delta server k = updated-keeps Kept c (λ t. frame-kept (rulesOf c) t) skip-kept post-kept s o delta server k
+  updated-kept s o delta server = updated-by (moves-by kept-moves c) s o delta server
 
   -- and so does the weight
   pub updated-weighed : (s : Scene) (o delta server : Float) → Weighed (s .worlds) → Weighed (updatedOf c s o delta server .played .scene .worlds)
-  updated-weighed s o delta server h =
-      updated-keeps Weighed c (λ t i. frame-weighed (rulesOf c) t (steps-few c pass .0) (progress-within c pass) i) skip-weighed post-weighed s o delta server h
+  updated-weighed s o delta server = updated-by (weighed-updates c (steps-few c pass .0) (progress-within c pass)) s o delta server
 
   module _ (fit : T (fits binary64 (c .timestep))) where
     -- the overshoot after the frames, from one of 0 to the timestep
@@ -204,7 +138,7 @@ module _ (c : Settings) (pass : passesOf c ≡ true) where
         let m = max-tests c pass in
         let k = compensated-capped (oldStampOf (s .worlds)) o delta server c (max-finite c pass fit) (m .0) in
         let st = step-of c pass fit in
-        run-overshoot 65 0 c s (sub binary64 o d) st
+        run-by (overshoot-runs c st) 65 s (sub binary64 o d) 0
         (frames-start o d (c .timestep) st (i .number) (k .number) (i .low) (i .high) (k .low) (float-le-trans d (c .max) (mul binary64 sixtyFour64 (c .timestep)) (k .high) (m .1))) e
 
     -- after a skip, where the weight passes

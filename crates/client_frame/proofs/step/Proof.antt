@@ -1,4 +1,5 @@
 -- `step` meets its contract: the frame by its parts. Assumes nothing.
+use mathlib.Core.Path.{sym}
 use borrow.Author.Needs.{needs}
 use native.Mathlib.Omega.{arith}
 use Rattle.command.proofs.Lists.{mapped-length}
@@ -34,7 +35,7 @@ show-requires c κs =
     let l = o .before .before in
     let i = l .before .before in
     let s = i .before .before .before in
-    (omega (arith, o .«open» .ensures .puts .at, opened-short (i .infer-current-reconciliation-status .result) (l .loads .result) (s .args .rules .progress) (s .args .s) (starts-few s) .words, s .pre .0), omega (arith, s .pre .1))
+    (omega (arith, o .«open» .ensures .puts .at, opened-short (i .infer-current-reconciliation-status .result) (l .loads .result) (s .args .rules .progress) (s .args .s) (sym (i .infer-current-reconciliation-status .ensures)) (starts-few s) .words, s .pre .0), omega (arith, s .pre .1))
 
 stops-requires : tie.Need-stops-requires
 stops-requires c κs = search needs
