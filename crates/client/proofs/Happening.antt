@@ -1,9 +1,8 @@
 -- What the code of the sides comes to, over plain values, and how one thing that happens follows another. Assumes nothing.
-use mathlib.Core.Path.{_≡_, refl, ap, sym, _∙_}
-use mathlib.Core.List.{List, _++_}
+use mathlib.Core.Path.{_≡_, refl, ap, _∙_}
+use mathlib.Core.List.{List}
 use Prim.Native.Nat.{ℕ}
 use Rattle.timestamp.specs.declared.Timestamp.{Timestamp}
-use Rattle.tape.specs.Tape.{Puts}
 use Rattle.tape.proofs.Writing.{puts-none, puts-then, puts-as}
 use Rattle.simulation.specs.declared.Simulation.{Simulation}
 use Rattle.simulation.specs.declared.Stepped.{Stepped}
@@ -12,7 +11,8 @@ use Rattle.client.specs.declared.ClientWorldSimulations.{ClientWorldSimu
 use Rattle.client.specs.declared.Ledger.{Ledger}
 use Rattle.client.specs.declared.Scene.{Scene}
 use Rattle.client.specs.declared.Shown.{Shown}
-use Rattle.client.specs.Sides.{newSideOf, oldSideOf, worldOf, withWorld, stampOf, oldStampOf, newStampOf, ledgerOf, withLedger, withWorlds, applies, putOf, Played, still, andThen, doneAt, Plays}
+use Rattle.client.specs.Ledgers.{applies}
+use Rattle.client.specs.Sides.{newSideOf, oldSideOf, worldOf, withWorld, stampOf, oldStampOf, newStampOf, ledgerOf, withLedger, withWorlds, putOf, Played, still, andThen, doneAt, Plays}
 
 -- the stamp of the old world, by its side
 pub old-stamp-is : (w : ClientWorldSimulations) {side : ℕ} {s : Simulation} {t : Timestamp} → side ≡ oldSideOf w → s ≡ worldOf w side → t ≡ stampOf s → t ≡ oldStampOf w
@@ -25,10 +25,10 @@ unfolding newStampOf
 new-stamp-is w hs hw ht = ht ∙ ap stampOf (hw ∙ ap (worldOf w) hs)
 
 -- a world that is put back, with its ledger
-pub put-is : (s : Scene) (side : ℕ) (w : Simulation) (n k : ℕ) {v : ClientWorldSimulations} {l : Ledger} {r : Scene}
-    → v ≡ withWorld (s .worlds) side w → l ≡ ledgerOf s side → r ≡ withLedger (withWorlds s v) side (applies l n k) → r ≡ putOf s side w n k
+pub put-is : (s : Scene) (side : ℕ) (w : Simulation) (n k : ℕ) {v : ClientWorldSimulations} {l x : Ledger} {r : Scene}
+    → v ≡ withWorld (s .worlds) side w → l ≡ ledgerOf s side → x ≡ applies l n k → r ≡ withLedger (withWorlds s v) side x → r ≡ putOf s side w n k
 unfolding putOf
-put-is s side w n k hv hl hr = hr ∙ (λ i. withLedger (withWorlds s (hv i)) side (applies (hl i) n k))
+put-is s side w n k hv hl hx hr = hr ∙ (λ i. withLedger (withWorlds s (hv i)) side ((hx ∙ ap (λ (y : Ledger). applies y n k) hl) i))
 
 -- ---- what happens, one thing after another
 

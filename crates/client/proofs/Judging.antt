@@ -1,6 +1,6 @@
 -- What the code of a new client and of the status comes to, over plain values. Assumes nothing.
 use mathlib.Core.Path.{_≡_, ap, sym, _∙_}
-use mathlib.Core.Bool.{Bool, true, false}
+use mathlib.Core.Bool.{Bool, false}
 use mathlib.Core.List.{[]}
 use Prim.Native.Nat.{ℕ}
 use lib.Dec.{eqb}
@@ -15,36 +15,15 @@ use Rattle.simulation.specs.declared.Simulation.{Simulation}
 use Rattle.simulation.specs.World.{newWorld}
 use Rattle.client.specs.declared.Queued.{Queued}
 use Rattle.client.specs.declared.Queued.the-variants.{Nothing, Held}
-use Rattle.client.specs.declared.LastStamp.the-variants.{Never}
-use Rattle.client.specs.declared.DisplayTime.the-variants.{NotDisplayed}
 use Rattle.client.specs.declared.ClientWorldSimulations.{ClientWorldSimulations}
-use Rattle.client.specs.Sides.{oldStampOf, newStampOf, newWorldsOf}
+use Rattle.client.specs.Sides.{oldStampOf, newStampOf, startingWith, newWorldsOf}
 use Rattle.client.specs.Status.{isGreater, laterOf, overshotOf, newerOf, statusBy, statusOf}
 
 -- the worlds of a new client
 pub new-is : (t : Timestamp) {l r : Simulation} {b : CommandBuffer} → l ≡ newWorld t → r ≡ newWorld t → b ≡ laid [] (record { 0 = 0 })
-    → _≡_ {A = ClientWorldSimulations}
-    (record {
-      left = l;
-      right = r;
-      new = 0;
-      base = b;
-      snapshots = record { queued = Nothing; lastqueued = Never; lastreceived = Never };
-      weight = fin false 1 (pos 0);
-      published = record { before = Never; after = Never; time = NotDisplayed };
-    })
-    (newWorldsOf t)
+    → startingWith l r b ≡ newWorldsOf t
 unfolding newWorldsOf
-new-is t hl hr hb =
-    λ i. record {
-      left = hl i;
-      right = hr i;
-      new = 0;
-      base = hb i;
-      snapshots = record { queued = Nothing; lastqueued = Never; lastreceived = Never };
-      weight = fin false 1 (pos 0);
-      published = record { before = Never; after = Never; time = NotDisplayed };
-    }
+new-is t hl hr hb = λ i. startingWith (hl i) (hr i) (hb i)
 
 -- ---- the status
 

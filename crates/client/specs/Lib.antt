@@ -1,2 +1,3 @@
+pub mod Ledgers
 pub mod Sides
 pub mod Status

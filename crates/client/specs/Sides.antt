@@ -1,6 +1,6 @@
 -- The two sides of a client, as document 01 has them under "src/old_new.rs", and the ledger of each, as under "src/client.rs". Side 0 is left and side 1 right.
 -- Definitions only. Assumes nothing.
-use Prim.Native.Nat.{ℕ, _+_, _%_, _^_}
+use Prim.Native.Nat.{ℕ}
 use mathlib.Core.Bool.{false, cond}
 use mathlib.Core.List.{List, [], _++_}
 use mathlib.Core.Path.{_≡_}
@@ -22,6 +22,7 @@ use Rattle.client.specs.declared.ClientWorldSimulations.{ClientWorldSimu
 use Rattle.client.specs.declared.Ledger.{Ledger}
 use Rattle.client.specs.declared.Scene.{Scene}
 use Rattle.client.specs.declared.Shown.{Shown}
+use Rattle.client.specs.Ledgers.{applies}
 
 -- the side of the new world
 unfoldable pub newSideOf : ClientWorldSimulations → ℕ
@@ -35,12 +36,22 @@ oldSideOf w = cond (eqb (w .new) 0) 1 0
 unfoldable pub worldOf : ClientWorldSimulations → ℕ → Simulation
 worldOf w side = cond (eqb side 0) (w .left) (w .right)
 
+-- the worlds with another one on the left
+abbrev pub withLeft : ClientWorldSimulations → Simulation → ClientWorldSimulations
+withLeft w x = record { left = x; right = w .right; new = w .new; base = w .base; snapshots = w .snapshots; weight = w .weight; published = w .published }
+
+-- and on the right
+abbrev pub withRight : ClientWorldSimulations → Simulation → ClientWorldSimulations
+withRight w x = record { left = w .left; right = x; new = w .new; base = w .base; snapshots = w .snapshots; weight = w .weight; published = w .published }
+
 -- the worlds with another one at a side
 unfoldable pub withWorld : ClientWorldSimulations → ℕ → Simulation → ClientWorldSimulations
-withWorld w side s =
-    cond (eqb side 0)
-    (record { left = s; right = w .right; new = w .new; base = w .base; snapshots = w .snapshots; weight = w .weight; published = w .published })
-    (record { left = w .left; right = s; new = w .new; base = w .base; snapshots = w .snapshots; weight = w .weight; published = w .published })
+withWorld w side s = cond (eqb side 0) (withLeft w s) (withRight w s)
+
+-- the worlds with another side new
+abbrev pub withNew : ClientWorldSimulations → ℕ → ClientWorldSimulations
+withNew w side =
+    record { left = w .left; right = w .right; new = side; base = w .base; snapshots = w .snapshots; weight = w .weight; published = w .published }
 
 -- the worlds with another base buffer
 abbrev pub withBase : ClientWorldSimulations → CommandBuffer → ClientWorldSimulations
@@ -74,72 +85,44 @@ oldStampOf w = stampOf (worldOf w (oldSideOf w))
 unfoldable pub newStampOf : ClientWorldSimulations → Timestamp
 newStampOf w = stampOf (worldOf w (newSideOf w))
 
--- the worlds of a client whose first stamp is t: left new, right old; the base's midpoint starts at 0
-unfoldable pub newWorldsOf : Timestamp → ClientWorldSimulations
-newWorldsOf t =
+-- two worlds and a base as a client starts with them: the left one is new, nothing is queued or published, and the weight is 1
+abbrev pub startingWith : Simulation → Simulation → CommandBuffer → ClientWorldSimulations
+startingWith l r b =
     record {
-      left = newWorld t;
-      right = newWorld t;
+      left = l;
+      right = r;
       new = 0;
-      base = laid [] (record { 0 = 0 });
+      base = b;
       snapshots = record { queued = Nothing; lastqueued = Never; lastreceived = Never };
       weight = fin false 1 (pos 0);
       published = record { before = Never; after = Never; time = NotDisplayed };
     }
 
--- ---- ledgers
+-- the worlds of a client whose first stamp is t; the base's midpoint starts at 0
+unfoldable pub newWorldsOf : Timestamp → ClientWorldSimulations
+newWorldsOf t = startingWith (newWorld t) (newWorld t) (laid [] (record { 0 = 0 }))
 
--- a ledger with nothing in it
-abbrev pub emptyLedger : Ledger
-emptyLedger = record { held = 0; taken = 0; copied = 0; replaced = 0; applied = 0; leftout = 0 }
-
--- a count with some more, as 64 bits have it; that none ever wraps is a law
-abbrev pub counted : ℕ → ℕ → ℕ
-counted a n = (a + n) % 2 ^ 64
-
--- a ledger with so many more taken
-abbrev pub takes : Ledger → ℕ → Ledger
-takes l n =
-    record { held = l .held; taken = counted (l .taken) n; copied = l .copied; replaced = l .replaced; applied = l .applied; leftout = l .leftout }
-
--- a ledger with so many more applied and left out
-abbrev pub applies : Ledger → ℕ → ℕ → Ledger
-applies l n k =
-    record {
-      held = l .held;
-      taken = l .taken;
-      copied = l .copied;
-      replaced = l .replaced;
-      applied = counted (l .applied) n;
-      leftout = counted (l .leftout) k;
-    }
-
--- a ledger with so many more copied, replaced and left out
-abbrev pub loads : Ledger → ℕ → ℕ → ℕ → Ledger
-loads l c r k =
-    record {
-      held = l .held;
-      taken = l .taken;
-      copied = counted (l .copied) c;
-      replaced = counted (l .replaced) r;
-      applied = l .applied;
-      leftout = counted (l .leftout) k;
-    }
+-- ---- scenes
 
 -- the ledger of a side
 unfoldable pub ledgerOf : Scene → ℕ → Ledger
 ledgerOf s side = cond (eqb side 0) (s .left) (s .right)
 
+-- the scene with other ledgers
+abbrev pub withLedgers : Scene → Ledger → Ledger → Scene
+withLedgers s l r = record { worlds = s .worlds; left = l; right = r; steps = s .steps }
+
 -- the scene with another ledger at a side
 unfoldable pub withLedger : Scene → ℕ → Ledger → Scene
-withLedger s side l =
-    cond (eqb side 0)
-    (record { worlds = s .worlds; left = l; right = s .right; steps = s .steps })
-    (record { worlds = s .worlds; left = s .left; right = l; steps = s .steps })
+withLedger s side l = cond (eqb side 0) (withLedgers s l (s .right)) (withLedgers s (s .left) l)
 
 -- the scene with other worlds
 abbrev pub withWorlds : Scene → ClientWorldSimulations → Scene
 withWorlds s w = record { worlds = w; left = s .left; right = s .right; steps = s .steps }
+
+-- the scene with another count of steps
+abbrev pub withSteps : Scene → ℕ → Scene
+withSteps s n = record { worlds = s .worlds; left = s .left; right = s .right; steps = n }
 
 -- a world that was stepped or reset is put back at its side, with what it applied and left out in the side's ledger
 unfoldable pub putOf : Scene → ℕ → Simulation → ℕ → ℕ → Scene

@@ -4,6 +4,7 @@
 ghost use mathlib.Core.Path.{_≡_};
 ghost use Rattle.client.specs.Sides.{newWorldsOf};
 
+pub mod ledgers;
 pub mod sides;
 pub mod status;
 

@@ -1,9 +1,10 @@
 // The two sides: which world is old and which is new, by a number, and a ledger for each. (src/old_new.rs of crystalorb.)
 ghost use mathlib.Core.Path.{_≡_};
-ghost use Rattle.client.specs.Sides.{newSideOf, oldSideOf, worldOf, withWorld, stampOf, oldStampOf, newStampOf, ledgerOf, withLedger, emptyLedger, putOf};
+ghost use Rattle.client.specs.Sides.{newSideOf, oldSideOf, worldOf, withWorld, stampOf, oldStampOf, newStampOf, ledgerOf, withLedger, putOf};
 use super::ClientWorldSimulations;
 use super::Ledger;
 use super::Scene;
+use super::ledgers;
 use simulation::Simulation;
 use timestamp::Timestamp;
 
@@ -97,20 +98,6 @@ pub fn set_ledger(s: Scene, side: u32, l: Ledger) -> Scene
     t
 }
 
-// A ledger with nothing in it.
-pub fn empty_ledger() -> Ledger
-    ensures { λ r. ⌜ r ≡ emptyLedger ⌝ }
-{
-    Ledger {
-        held: 0,
-        taken: 0,
-        copied: 0,
-        replaced: 0,
-        applied: 0,
-        leftout: 0,
-    }
-}
-
 // A world that was stepped or reset is put back at its side, with what it applied and left out.
 pub fn put_stepped(s: Scene, side: u32, d: simulation::Stepped) -> Scene
     ensures { λ r. ⌜ r ≡ putOf s side (d .world) (d .applied) (d .leftout) ⌝ }
@@ -118,11 +105,7 @@ pub fn put_stepped(s: Scene, side: u32, d: simulation::Stepped) -> Scene
     let w = s.worlds;
     let sim = d.world;
     let put = set_side(w, side, sim);
-    let mut l = get_ledger(s, side);
-    let applied = l.applied;
-    let leftout = l.leftout;
-    l.applied = std::num::wrapping_add_usize(applied, d.applied);
-    l.leftout = std::num::wrapping_add_usize(leftout, d.leftout);
+    let l = ledgers::count(get_ledger(s, side), d.applied, d.leftout);
     let mut t = s;
     t.worlds = put;
     set_ledger(t, side, l)

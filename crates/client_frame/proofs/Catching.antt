@@ -15,7 +15,8 @@ use Rattle.simulation.specs.World.{Does, stepOf}
 use Rattle.client.specs.declared.Ledger.{Ledger}
 use Rattle.client.specs.declared.Scene.{Scene}
 use Rattle.client.specs.declared.Shown.{Shown}
-use Rattle.client.specs.Sides.{newSideOf, worldOf, withWorld, stampOf, newStampOf, ledgerOf, withLedger, counted, applies, putOf, Played, still, andThen, Plays}
+use Rattle.client.specs.Ledgers.{applies}
+use Rattle.client.specs.Sides.{newSideOf, worldOf, withWorld, stampOf, newStampOf, ledgerOf, withLedger, putOf, still, andThen, Plays, withLeft, withRight, withWorlds, withLedgers, withSteps}
 use Rattle.client_frame.specs.Frame.{caughtUpOf, steppedSide, steppedNew, caughtOf}
 use Rattle.client_frame.specs.Inner.{putBack}
 use Rattle.client.proofs.Happening.{new-stamp-is, plays-still, plays-as, plays-then}
@@ -89,35 +90,16 @@ caught-as m s e h = plays-as (ap (λ (x : Timestamp). caughtOf m x s) e) h
 
 -- ---- the new world steps apart from its scene
 
--- a ledger with so many more applied and left out
-pub counts-are : (l : Ledger) (n k : ℕ) {a b : ℕ} → a ≡ counted (l .applied) n → b ≡ counted (l .leftout) k
-    → _≡_ {A = Ledger} (record { held = l .held; taken = l .taken; copied = l .copied; replaced = l .replaced; applied = a; leftout = b }) (applies l n k)
-counts-are l n k ha hb i = record { held = l .held; taken = l .taken; copied = l .copied; replaced = l .replaced; applied = ha i; leftout = hb i }
-
 module _ (s : Scene) (side : ℕ) (w : Simulation) (l : Ledger) (n : ℕ) where
   -- put back on the left
   pub back-left : side ≡ 0
-      → _≡_ {A = Scene}
-      (record {
-        worlds = record { left = w; right = s .worlds .right; new = s .worlds .new; base = s .worlds .base; snapshots = s .worlds .snapshots; weight = s .worlds .weight; published = s .worlds .published };
-        left = l;
-        right = s .right;
-        steps = n;
-      })
-      (putBack s side w l n)
+      → withSteps (withLedgers (withWorlds s (withLeft (s .worlds) w)) l (s .right)) n ≡ putBack s side w l n
   unfolding putBack withLedger withWorld
   back-left e = rw (eq-eqb _ _ e) refl
 
   -- and on the right
   pub back-right : (side ≡ 0 → ⊥)
-      → _≡_ {A = Scene}
-      (record {
-        worlds = record { left = s .worlds .left; right = w; new = s .worlds .new; base = s .worlds .base; snapshots = s .worlds .snapshots; weight = s .worlds .weight; published = s .worlds .published };
-        left = s .left;
-        right = l;
-        steps = n;
-      })
-      (putBack s side w l n)
+      → withSteps (withLedgers (withWorlds s (withRight (s .worlds) w)) (s .left) l) n ≡ putBack s side w l n
   unfolding putBack withLedger withWorld
   back-right e = rw (ne-eqb _ _ e) refl
 
@@ -141,13 +123,7 @@ module _ (s : Scene) (side : ℕ) (w : Simulation) (l : Ledger) (n : ℕ) where
 
   -- another world is put in its place
   back-again : (b : Bool) → eqb side 0 ≡ b → (x : Simulation) (i k st : ℕ)
-      → _≡_ {A = Scene} (putBack s side x (applies l i k) st)
-      (record {
-        worlds = putOf (putBack s side w l n) side x i k .worlds;
-        left = putOf (putBack s side w l n) side x i k .left;
-        right = putOf (putBack s side w l n) side x i k .right;
-        steps = st;
-      })
+      → putBack s side x (applies l i k) st ≡ withSteps (putOf (putBack s side w l n) side x i k) st
   unfolding putBack putOf withLedger withWorld ledgerOf
   back-again true e x i k st = rw e refl
   back-again false e x i k st = rw e refl
@@ -167,7 +143,7 @@ apart-step s side w l n {st} {x} {was} {last} {place} {r} hs hd hx hn =
     let u : Scene = putOf v side (r .world) (r .applied) (r .leftout) in
     let one : Plays (steppedSide v side) was place (record { scene = u; at = r .at }) last = step-plays v side (back-world s side w l n (eqb side 0) refl) hd refl in
     let more : st ≡ (u .steps + 1) % 2 ^ 32 = hn ∙ ap (λ (i : ℕ). (i + 1) % 2 ^ 32) (back-steps s side w l n (eqb side 0) refl (r .world) (r .applied) (r .leftout)) in
-    let all : Plays (steppedNew v) was place (record { scene = record { worlds = u .worlds; left = u .left; right = u .right; steps = st }; at = r .at }) last =
+    let all : Plays (steppedNew v) was place (record { scene = withSteps u st; at = r .at }) last =
     step-new-plays v (hs ∙ sym (back-new s side w l n (eqb side 0) refl)) one more in
     record {
       scene = ap (λ (y : Ledger). putBack s side (r .world) y st) hx ∙ back-again s side w l n (eqb side 0) refl (r .world) (r .applied) (r .leftout) st ∙ all .scene;

@@ -1,7 +1,7 @@
 -- What the code of a frame comes to, over plain values: one rule for each return. Assumes nothing.
 use mathlib.Core.Path.{_≡_, refl, ap, sym, _∙_}
 use mathlib.Core.Bool.{Bool, true, false, cond}
-use mathlib.Core.List.{List, []}
+use mathlib.Core.List.{List}
 use Prim.Native.Nat.{ℕ, _+_, _%_, _^_, _≤_, _<_}
 use lib.Dec.{ltb}
 use lib.IntN.{pos}
@@ -10,7 +10,6 @@ use borrow.Author.Tests.{lt-ltb, le-ltb, eq-eqb, ne-eqb}
 use Rattle.timestamp.specs.declared.Timestamp.{Timestamp}
 use Rattle.timestamp.specs.declared.Ordering.{Ordering}
 use Rattle.timestamp.specs.Timestamps.{orderOf, differenceOf}
-use Rattle.tape.specs.Tape.{Puts}
 use Rattle.tape.proofs.Writing.{puts-none}
 use Rattle.command.specs.declared.CommandBuffer.{CommandBuffer}
 use Rattle.command.specs.declared.Drained.{Drained}
@@ -29,8 +28,8 @@ use Rattle.client.specs.declared.ClientWorldSimulations.{ClientWorldSimulations
 use Rattle.client.specs.declared.Ledger.{Ledger}
 use Rattle.client.specs.declared.Scene.{Scene}
 use Rattle.client.specs.declared.Shown.{Shown}
-use Rattle.client.specs.declared.Framed.{Framed}
-use Rattle.client.specs.Sides.{newSideOf, oldSideOf, worldOf, withWorld, withWeight, withWorlds, withLedger, ledgerOf, counted, loads, applies, putOf, oldStampOf, newStampOf, Played, andThen, doneAt, Plays}
+use Rattle.client.specs.Ledgers.{loads, applies}
+use Rattle.client.specs.Sides.{newSideOf, oldSideOf, worldOf, withWorld, withWeight, withWorlds, withLedger, withSteps, ledgerOf, putOf, oldStampOf, newStampOf, Played, andThen, doneAt, Plays}
 use Rattle.client.specs.Status.{statusOf}
 use Rattle.client_publish.specs.declared.Stated.{Stated}
 use Rattle.client_publish.specs.Publish.{withState, publishedOld, publishedBlended}
@@ -43,34 +42,30 @@ use Rattle.client.proofs.Happening.{plays-still, plays-as, plays-then, plays-do
 -- ---- a load
 
 -- a load that is put at its side, and counted
-loaded-at : (s : Scene) (side : ℕ) (b : CommandBuffer) (h : ℕ) {d : Load} {was last : List ℕ} {place : ℕ} {r : Loaded} {v put : ClientWorldSimulations} {l : Ledger} {x y z : ℕ} {u : Scene}
+loaded-at : (s : Scene) (side : ℕ) (b : CommandBuffer) (h : ℕ) {d : Load} {was last : List ℕ} {place : ℕ} {r : Loaded} {v put : ClientWorldSimulations} {l x : Ledger} {u : Scene}
     → Loads d side h was place r last → v ≡ readiedWith (s .worlds) side b → put ≡ withWorld v side (r .world) → l ≡ ledgerOf s side
-    → x ≡ counted (l .copied) (r .copied) → y ≡ counted (l .replaced) (r .replaced) → z ≡ counted (l .leftout) (r .leftout)
-    → u ≡ withLedger (withWorlds s put) side (record { held = l .held; taken = l .taken; copied = x; replaced = y; applied = l .applied; leftout = z })
+    → x ≡ loads l (r .copied) (r .replaced) (r .leftout) → u ≡ withLedger (withWorlds s put) side x
     → Plays (loadedAt s side b h d) was place (record { scene = u; at = r .at }) last
 unfolding loadedAt
-loaded-at s side b h {d} {was} {last} {place} {r} {v} {put} {l} {x} {y} {z} {u} hd hv hp hl hx hy hz hu =
+loaded-at s side b h {d} {was} {last} {place} {r} {v} {put} {l} {x} {u} hd hv hp hl hx hu =
     let worlds : put ≡ withWorld (readiedWith (s .worlds) side b) side (d .world) = hp ∙ (λ i. withWorld (hv i) side (hd .world i)) in
-    let counts : _≡_ {A = Ledger} (record { held = l .held; taken = l .taken; copied = x; replaced = y; applied = l .applied; leftout = z }) (loads l (r .copied) (r .replaced) (r .leftout)) =
-    (λ i. record { held = l .held; taken = l .taken; copied = hx i; replaced = hy i; applied = l .applied; leftout = hz i }) in
     let ledger : loads l (r .copied) (r .replaced) (r .leftout) ≡ loads (ledgerOf s side) (d .copied) (d .replaced) (d .leftout) =
     (λ i. loads (hl i) (hd .copied i) (hd .replaced i) (hd .leftout i)) in
     record {
-      scene = hu ∙ (λ i. withLedger (withWorlds s (worlds i)) side ((counts ∙ ledger) i));
+      scene = hu ∙ (λ i. withLedger (withWorlds s (worlds i)) side ((hx ∙ ledger) i));
       puts = hd .puts;
     }
 
 -- a snapshot is loaded into a side, from the base that was drained up to it
-pub load-plays : (s : Scene) (side : ℕ) (t : Timestamp) (h : ℕ) {d : Drained} {sim : Simulation} {was last : List ℕ} {place : ℕ} {r : Loaded} {v put : ClientWorldSimulations} {l : Ledger} {x y z : ℕ} {u : Scene}
+pub load-plays : (s : Scene) (side : ℕ) (t : Timestamp) (h : ℕ) {d : Drained} {sim : Simulation} {was last : List ℕ} {place : ℕ} {r : Loaded} {v put : ClientWorldSimulations} {l x : Ledger} {u : Scene}
     → d ≡ drainedOf (s .worlds .base) t → sim ≡ worldOf (s .worlds) side → Loads (loadOf sim (d .buffer) t) side h was place r last
     → v ≡ readiedWith (s .worlds) side (d .buffer) → put ≡ withWorld v side (r .world) → l ≡ ledgerOf s side
-    → x ≡ counted (l .copied) (r .copied) → y ≡ counted (l .replaced) (r .replaced) → z ≡ counted (l .leftout) (r .leftout)
-    → u ≡ withLedger (withWorlds s put) side (record { held = l .held; taken = l .taken; copied = x; replaced = y; applied = l .applied; leftout = z })
+    → x ≡ loads l (r .copied) (r .replaced) (r .leftout) → u ≡ withLedger (withWorlds s put) side x
     → Plays (loadedOf s side t h) was place (record { scene = u; at = r .at }) last
 unfolding loadedOf
-load-plays s side t h {d} hd hs hr hv hp hl hx hy hz hu =
+load-plays s side t h {d} hd hs hr hv hp hl hx hu =
     let e : d .buffer ≡ restOf (s .worlds .base) t = ap (λ (q : Drained). q .buffer) hd in
-    plays-as (λ i. loadedAt s side (e i) h (loadOf (hs i) (e i) t)) (loaded-at s side (d .buffer) h hr hv hp hl hx hy hz hu)
+    plays-as (λ i. loadedAt s side (e i) h (loadOf (hs i) (e i) t)) (loaded-at s side (d .buffer) h hr hv hp hl hx hu)
 
 -- where nothing is queued nothing is loaded
 pub queued-none : (s : Scene) (q : Queued) (side : ℕ) (was : List ℕ) (place : ℕ) → q ≡ Nothing → Plays (loadedQueued s q side) was place (record { scene = s; at = place }) was
@@ -164,13 +159,11 @@ caught-up-is n o h e = ap (λ (x : Ordering). cond (isLess x) false true) (sym e
 -- the new world steps, and the step is counted
 pub step-new-plays : (s : Scene) {side n : ℕ} {was last : List ℕ} {place : ℕ} {r : Shown}
     → side ≡ newSideOf (s .worlds) → Plays (steppedSide s side) was place r last → n ≡ (r .scene .steps + 1) % 2 ^ 32
-    → Plays (steppedNew s) was place (record { scene = record { worlds = r .scene .worlds; left = r .scene .left; right = r .scene .right; steps = n }; at = r .at }) last
+    → Plays (steppedNew s) was place (record { scene = withSteps (r .scene) n; at = r .at }) last
 unfolding steppedNew
 step-new-plays s {side} {n} {was} {last} {place} {r} hs h hn =
     let k : Plays (steppedSide s (newSideOf (s .worlds))) was place r last = plays-as (ap (steppedSide s) hs) h in
-    let counts : _≡_ {A = Scene} (record { worlds = r .scene .worlds; left = r .scene .left; right = r .scene .right; steps = n }) (withStep (r .scene)) =
-    (λ i. record { worlds = r .scene .worlds; left = r .scene .left; right = r .scene .right; steps = hn i }) in
-    record { scene = counts ∙ ap withStep (k .scene); puts = k .puts }
+    record { scene = ap (withSteps (r .scene)) hn ∙ ap withStep (k .scene); puts = k .puts }
 
 -- the old world steps, and then the new one catches up with it, m steps at most
 pub simulate-plays : (m : ℕ) (s : Scene) {side k : ℕ} {was mid last : List ℕ} {place : ℕ} {a b : Shown}

@@ -22,7 +22,8 @@ use Rattle.client.specs.declared.Queued.the-variants.{Nothing, Held}
 use Rattle.client.specs.declared.ClientWorldSimulations.{ClientWorldSimulations}
 use Rattle.client.specs.declared.Scene.{Scene}
 use Rattle.client.specs.declared.Framed.{Framed}
-use Rattle.client.specs.Sides.{newSideOf, oldSideOf, worldOf, withWorld, withWeight, withWorlds, withLedger, ledgerOf, loads, oldStampOf, newStampOf, Played, still, andThen, doneAt}
+use Rattle.client.specs.Ledgers.{loads}
+use Rattle.client.specs.Sides.{newSideOf, oldSideOf, worldOf, withWorld, withWeight, withWorlds, withLedger, ledgerOf, oldStampOf, newStampOf, Played, still, andThen, doneAt, withBase, withNew, withSnapshots, withSteps}
 use Rattle.client.specs.Status.{statusOf}
 use Rattle.client_publish.specs.Publish.{publishedOld, publishedBlended}
 use Rattle.client_frame.specs.declared.Rules.{Rules}
@@ -38,15 +39,13 @@ loadsOf (Fastforwarding Overshot) q = Nothing
 -- the worlds as a load into a side leaves them beside the world that it loads: that side is new, nothing is queued, the weight is 0, and the base is another
 unfoldable pub readiedWith : ClientWorldSimulations → ℕ → CommandBuffer → ClientWorldSimulations
 readiedWith w side b =
-    record {
-      left = w .left;
-      right = w .right;
-      new = side;
-      base = b;
-      snapshots = record { queued = Nothing; lastqueued = w .snapshots .lastqueued; lastreceived = w .snapshots .lastreceived };
-      weight = fin false 0 (pos 0);
-      published = w .published;
-    }
+    withBase
+    (withNew
+    (withWeight
+    (withSnapshots w (record { queued = Nothing; lastqueued = w .snapshots .lastqueued; lastreceived = w .snapshots .lastreceived }))
+    (fin false 0 (pos 0)))
+    side)
+    b
 
 -- a load l is put at a side beside the base b, and counted in the side's ledger; h is the snapshot's handle
 unfoldable pub loadedAt : Scene → ℕ → CommandBuffer → ℕ → Load → Played
@@ -95,7 +94,7 @@ caughtUpOf n o = cond (isLess (orderOf (n .0) (o .0))) false true
 
 -- the scene with one more step of the new world counted
 abbrev pub withStep : Scene → Scene
-withStep s = record { worlds = s .worlds; left = s .left; right = s .right; steps = (s .steps + 1) % 2 ^ 32 }
+withStep s = withSteps s ((s .steps + 1) % 2 ^ 32)
 
 -- the new world steps, and the step is counted
 unfoldable pub steppedNew : Scene → Played

@@ -2,7 +2,7 @@
 ghost use mathlib.Core.Path.{_≡_};
 ghost use mathlib.Core.Bool.{true};
 ghost use Prim.Native.Nat.{_<_, _≤_};
-ghost use Rattle.client.specs.Sides.{Plays, oldStampOf, applies};
+ghost use Rattle.client.specs.Sides.{Plays, oldStampOf};
 ghost use Rattle.client_publish.specs.Inner.{States};
 ghost use Rattle.client_frame.specs.Frame.{loadsOf, readiedWith, loadedOf, clamped, blendedOn, resetNew, openedOf, steppedSide, caughtUpOf, caughtOf, simulatedOf, blendedBy, publishedBy, isObsolete, tooFarOf, stopsOf, shownOf, frameOf, frameStops, Frames};
 ghost use Rattle.client_frame.specs.Inner.{putBack};
@@ -15,6 +15,7 @@ use client::ReconciliationStatus;
 use client::Scene;
 use client::Shown;
 use client::Snapshots;
+use client::ledgers;
 use client::sides;
 use client::status;
 use client_publish::Stated;
@@ -94,13 +95,7 @@ pub fn load_snapshot(
     let sim = r.world;
     let v = readied(w, side, base);
     let put = sides::set_side(v, side, sim);
-    let mut l = sides::get_ledger(s, side);
-    let copied = l.copied;
-    let replaced = l.replaced;
-    let leftout = l.leftout;
-    l.copied = std::num::wrapping_add_usize(copied, r.copied);
-    l.replaced = std::num::wrapping_add_usize(replaced, r.replaced);
-    l.leftout = std::num::wrapping_add_usize(leftout, r.leftout);
+    let l = ledgers::count_load(sides::get_ledger(s, side), r.copied, r.replaced, r.leftout);
     let mut t = s;
     t.worlds = put;
     Shown {
@@ -208,7 +203,7 @@ pub fn step_side(s: Scene, side: u32, tape: &mut [u32], at: usize) -> Shown
     ensures { λ r. ⌜ Plays (steppedSide s side) (now (tape .entry)) at r (now (tape .exit)) ⌝ }
 {
     let r = simulation::step(sides::get_side(s.worlds, side), side, tape, at);
-    let l = count(sides::get_ledger(s, side), r.applied, r.leftout);
+    let l = ledgers::count(sides::get_ledger(s, side), r.applied, r.leftout);
     let world = r.world;
     Shown {
         scene: put_back(s, side, world, l, s.steps),
@@ -225,18 +220,6 @@ pub fn has_caught_up(new: Timestamp, old: Timestamp) -> bool
         Ordering::Equal => true,
         Ordering::Greater => true,
     }
-}
-
-// A ledger with so many more applied and left out.
-pub fn count(l: Ledger, applied: usize, leftout: usize) -> Ledger
-    ensures { λ r. ⌜ r ≡ applies l applied leftout ⌝ }
-{
-    let mut t = l;
-    let a = t.applied;
-    let b = t.leftout;
-    t.applied = std::num::wrapping_add_usize(a, applied);
-    t.leftout = std::num::wrapping_add_usize(b, leftout);
-    t
 }
 
 // The scene with a world and its ledger at a side, and another count of steps.
@@ -311,13 +294,13 @@ pub fn catch_up(s: Scene, m: u32, tape: &mut [u32], at: usize) -> Shown
             let mut b = t.commands;
             b.timestamp = next;
             t.commands = b;
-            l = count(l, 0, 0);
+            l = ledgers::count(l, 0, 0);
             p = tape::put(tape, p, tape::step_word(side));
         } else {
             let r = simulation::step(t, side, tape, p);
             let u = r.world;
             t = u;
-            l = count(l, r.applied, r.leftout);
+            l = ledgers::count(l, r.applied, r.leftout);
             p = r.at;
         }
     }

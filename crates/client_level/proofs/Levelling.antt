@@ -25,7 +25,8 @@ use Rattle.client.specs.declared.ClientWorldSimulations.{ClientWorldSimulations
 use Rattle.client.specs.declared.LastStamp.{LastStamp}
 use Rattle.client.specs.declared.Ledger.{Ledger}
 use Rattle.client.specs.declared.Scene.{Scene}
-use Rattle.client.specs.Sides.{newSideOf, oldSideOf, worldOf, withWorld, withWeight, withWorlds, withLedger, ledgerOf, stampOf, oldStampOf, newStampOf, applies, putOf, Played, still, andThen, doneAt, Plays}
+use Rattle.client.specs.Ledgers.{applies}
+use Rattle.client.specs.Sides.{newSideOf, oldSideOf, worldOf, withWorld, withWeight, withWorlds, withLedger, ledgerOf, stampOf, oldStampOf, newStampOf, putOf, Played, still, andThen, doneAt, Plays, withLeft, withRight, withLedgers, withSteps}
 use Rattle.client.specs.Status.{statusBy, statusOf}
 use Rattle.client.proofs.Happening.{plays-as, plays-then}
 use Rattle.client_publish.specs.declared.Stated.{Stated}
@@ -176,12 +177,11 @@ midScene s = putOf s (oldSideOf (s .worlds)) (movedOn (worldOf (s .worlds) (oldS
 
 -- the worlds with both stamps moved on
 abbrev movedBoth : ClientWorldSimulations → ClientWorldSimulations
-movedBoth w =
-    record { left = movedOn (w .left); right = movedOn (w .right); new = w .new; base = w .base; snapshots = w .snapshots; weight = w .weight; published = w .published }
+movedBoth w = withLeft (withRight w (movedOn (w .right))) (movedOn (w .left))
 
 -- the scene after both worlds' steps
 abbrev levelled : Scene → Scene
-levelled s = record { worlds = movedBoth (s .worlds); left = applies (s .left) 0 0; right = applies (s .right) 0 0; steps = (s .steps + 1) % 2 ^ 32 }
+levelled s = withStep (withLedgers (withWorlds s (movedBoth (s .worlds))) (applies (s .left) 0 0) (applies (s .right) 0 0))
 
 -- what the steps of a level frame leave of the sides
 record Sides (s : Scene) : Type 0 where
@@ -276,23 +276,17 @@ published-stays s = blended-by (Stays s) s (state-stays s)
 abbrev reweighted : Float → Scene → Scene
 reweighted p s = withWorlds s (withWeight (s .worlds) (levelWeight (statusOf (s .worlds)) (s .worlds .weight) p))
 
--- the scene with a stamp of both worlds, a weight, ledgers and steps
+-- a world with another stamp
+abbrev stampedAt : Simulation → Timestamp → Simulation
+stampedAt w n = worldWith (around n (w .commands)) (w .init)
+
+-- the scene with a stamp of each world, a weight, ledgers and steps
+abbrev levelAt : Scene → Timestamp → Timestamp → Float → Ledger → Ledger → ℕ → Scene
+levelAt s n o t l r k = withSteps (withLedgers (withWorlds s (withWeight (withLeft (withRight (s .worlds) (stampedAt (s .worlds .right) o)) (stampedAt (s .worlds .left) n)) t)) l r) k
+
+-- the same stamp for both
 abbrev levelWith : Scene → Timestamp → Float → Ledger → Ledger → ℕ → Scene
-levelWith s n t l r k =
-    record {
-      worlds = record {
-        left = worldWith (around n (s .worlds .left .commands)) (s .worlds .left .init);
-        right = worldWith (around n (s .worlds .right .commands)) (s .worlds .right .init);
-        new = s .worlds .new;
-        base = s .worlds .base;
-        snapshots = s .worlds .snapshots;
-        weight = t;
-        published = s .worlds .published;
-      };
-      left = l;
-      right = r;
-      steps = k;
-    }
+levelWith s n t l r k = levelAt s n n t l r k
 
 -- what a level frame begins with: the weight moves on or not, it publishes by the weight, and it does not stop
 record Opens (rules : Rules) (s : Scene) : Type 0 where
@@ -365,20 +359,7 @@ module _ (rules : Rules) (s : Scene) (level : isLevel (s .worlds) (rules .m) ≡
       → levelWith s n t l r k ≡ levelled (reweighted (rules .progress) s)
   level-scene {n} hn ht hl hr hk =
       let right : n .0 ≡ sumOf (stampOf (s .worlds .right) .0) 1 = hn ∙ ap (λ (x : ℕ). sumOf x 1) (stamps-by (eqb (s .worlds .new) 0) (s .worlds) refl (parts .stamps)) in
-      (λ i. record {
-        worlds = record {
-          left = worldWith (around (record { 0 = hn i }) (s .worlds .left .commands)) (s .worlds .left .init);
-          right = worldWith (around (record { 0 = right i }) (s .worlds .right .commands)) (s .worlds .right .init);
-          new = s .worlds .new;
-          base = s .worlds .base;
-          snapshots = s .worlds .snapshots;
-          weight = ht i;
-          published = s .worlds .published;
-        };
-        left = hl i;
-        right = hr i;
-        steps = hk i;
-      })
+      (λ i. levelAt s (record { 0 = hn i }) (record { 0 = right i }) (ht i) (hl i) (hr i) (hk i))
 
   -- a level frame as the code leaves it
   pub level-plays : {f : ReconciliationStatus} {n : Timestamp} {t : Float} {l r : Ledger} {k at q : ℕ} {was mid last : List ℕ} {a : Stated} {u : Scene}

@@ -12,6 +12,7 @@ use client::Queued;
 use client::ReconciliationStatus;
 use client::Scene;
 use client::Shown;
+use client::ledgers;
 use client::sides;
 use client::status;
 use client_frame::Rules;
@@ -99,8 +100,8 @@ pub fn level_frame(s: Scene, rules: Rules, tape: &mut [u32], at: usize) -> Shown
     v.weight = level_weight(t, w.weight, rules.progress);
     let mut e = s;
     e.worlds = v;
-    e.left = client_frame::count(s.left, 0, 0);
-    e.right = client_frame::count(s.right, 0, 0);
+    e.left = ledgers::count(s.left, 0, 0);
+    e.right = ledgers::count(s.right, 0, 0);
     let steps = s.steps;
     e.steps = std::num::wrapping_add_u32(steps, 1);
     let r = client_publish::publish_blended_state(e, tape, p);

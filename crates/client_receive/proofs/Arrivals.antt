@@ -15,11 +15,11 @@ use Rattle.client.specs.declared.Queued.the-variants.{Nothing, Held}
 use Rattle.client.specs.declared.LastStamp.{LastStamp}
 use Rattle.client.specs.declared.LastStamp.the-variants.{Never, Last}
 use Rattle.client.specs.declared.Snapshots.{Snapshots}
-use Rattle.client.specs.declared.ClientWorldSimulations.{ClientWorldSimulations}
 use Rattle.client.specs.declared.Ledger.{Ledger}
 use Rattle.client.specs.declared.Scene.{Scene}
 use Rattle.client.specs.declared.Received.{Received}
-use Rattle.client.specs.Sides.{newSideOf, oldSideOf, worldOf, withWorld, withLedger, ledgerOf, counted, takes}
+use Rattle.client.specs.Ledgers.{takes}
+use Rattle.client.specs.Sides.{newSideOf, oldSideOf, worldOf, withWorld, withLedger, ledgerOf, withLeft, withRight, withBase, withWorlds, withLedgers}
 use Rattle.client.specs.Status.{laterOf}
 use Rattle.client_receive.specs.Inner.{anyFull}
 use Rattle.client_receive.specs.Receive.{fullBy, offeredBase, offeredSide, receivedOf, fromFutureOf, freshOf, notedOf, snapshotsBy, snapshotsOf}
@@ -39,29 +39,19 @@ pub full-third : (b l r : Outcome) {f g h : Bool} → f ≡ fullBy b → f ≡ f
 unfolding anyFull
 full-third b l r hf e hg d hh = hh ∙ (λ i. sym (sym hf ∙ e) i || (sym (sym hg ∙ d) i || fullBy r))
 
--- a ledger with what an insertion put in
-pub takes-is : (l : Ledger) (o : Outcome) {k n : ℕ} → k ≡ takenBy o → n ≡ counted (l .taken) k
-    → _≡_ {A = Ledger} (record { held = l .held; taken = n; copied = l .copied; replaced = l .replaced; applied = l .applied; leftout = l .leftout }) (takes l (takenBy o))
-takes-is l o hk hn i = record { held = l .held; taken = (hn ∙ ap (counted (l .taken)) hk) i; copied = l .copied; replaced = l .replaced; applied = l .applied; leftout = l .leftout }
-
 or-swap : (a b : Bool) → a || b ≡ b || a
 or-swap true true = refl
 or-swap true false = refl
 or-swap false true = refl
 or-swap false false = refl
 
+-- a scene with another base, other worlds and other ledgers
+abbrev offered : Scene → Insertion → Scheduled → Scheduled → Ledger → Ledger → Scene
+offered s i a b l r = withLedgers (withWorlds s (withLeft (withRight (withBase (s .worlds) (i .buffer)) (b .world)) (a .world))) l r
+
 -- what three insertions leave
 received : Scene → Insertion → Scheduled → Scheduled → Bool → Received
-received s i a b f =
-    record {
-      scene = record {
-        worlds = record { left = a .world; right = b .world; new = s .worlds .new; base = i .buffer; snapshots = s .worlds .snapshots; weight = s .worlds .weight; published = s .worlds .published };
-        left = takes (s .left) (takenBy (a .outcome));
-        right = takes (s .right) (takenBy (b .outcome));
-        steps = s .steps;
-      };
-      full = f;
-    }
+received s i a b f = record { scene = offered s i a b (takes (s .left) (takenBy (a .outcome))) (takes (s .right) (takenBy (b .outcome))); full = f }
 
 -- the command goes to all three, whichever side is new
 received-by : (s : Scene) (e : Entry) (new : Bool) → eqb (s .worlds .new) 0 ≡ new
@@ -77,28 +67,10 @@ received-by s e false h = rw h refl
 pub received-is : (s : Scene) (e : Entry) {i : Insertion} {a b : Scheduled} {l r : Ledger} {f : Bool}
     → i ≡ insertedOf (s .worlds .base) e → a ≡ scheduledOf (s .worlds .left) e → b ≡ scheduledOf (s .worlds .right) e
     → l ≡ takes (s .left) (takenBy (a .outcome)) → r ≡ takes (s .right) (takenBy (b .outcome)) → f ≡ anyFull (i .outcome) (a .outcome) (b .outcome)
-    → _≡_ {A = Received}
-    (record {
-      scene = record {
-        worlds = record { left = a .world; right = b .world; new = s .worlds .new; base = i .buffer; snapshots = s .worlds .snapshots; weight = s .worlds .weight; published = s .worlds .published };
-        left = l;
-        right = r;
-        steps = s .steps;
-      };
-      full = f;
-    })
-    (receivedOf s e)
+    → _≡_ {A = Received} (record { scene = offered s i a b l r; full = f }) (receivedOf s e)
 unfolding received
 received-is s e {i} {a} {b} {l} {r} {f} hi ha hb hl hr hf =
-    (λ j. record {
-      scene = record {
-        worlds = record { left = a .world; right = b .world; new = s .worlds .new; base = i .buffer; snapshots = s .worlds .snapshots; weight = s .worlds .weight; published = s .worlds .published };
-        left = hl j;
-        right = hr j;
-        steps = s .steps;
-      };
-      full = hf j;
-    })
+    (λ j. record { scene = offered s i a b (hl j) (hr j); full = hf j })
     ∙ (λ j. received s (hi j) (ha j) (hb j) (anyFull (hi j .outcome) (ha j .outcome) (hb j .outcome)))
     ∙ received-by s e (eqb (s .worlds .new) 0) refl
 

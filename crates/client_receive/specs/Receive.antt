@@ -16,7 +16,8 @@ use Rattle.client.specs.declared.Snapshots.{Snapshots}
 use Rattle.client.specs.declared.ClientWorldSimulations.{ClientWorldSimulations}
 use Rattle.client.specs.declared.Scene.{Scene}
 use Rattle.client.specs.declared.Received.{Received}
-use Rattle.client.specs.Sides.{newSideOf, oldSideOf, worldOf, withWorld, withBase, withSnapshots, withWorlds, withLedger, ledgerOf, takes, oldStampOf}
+use Rattle.client.specs.Ledgers.{takes}
+use Rattle.client.specs.Sides.{newSideOf, oldSideOf, worldOf, withWorld, withBase, withSnapshots, withWorlds, withLedger, ledgerOf, oldStampOf}
 use Rattle.client.specs.Status.{laterOf}
 
 -- a buffer takes the command but holds 64: refusal 23
@@ -24,6 +25,14 @@ abbrev pub fullBy : Outcome → Bool
 fullBy Taken = false
 fullBy OutOfRange = false
 fullBy Full = true
+
+-- nothing is received yet
+abbrev pub noneReceived : Scene → Received
+noneReceived s = record { scene = s; full = false }
+
+-- what was received, with another word on whether a buffer was full
+abbrev pub withFull : Received → Bool → Received
+withFull r f = record { scene = r .scene; full = f }
 
 -- a command is offered to the base buffer
 unfoldable pub offeredBase : Scene → Entry → Received
@@ -43,7 +52,7 @@ offeredSide s side e =
 
 -- what was received, and then more; once a buffer was full it stays said
 abbrev pub alsoFull : Bool → Received → Received
-alsoFull f r = record { scene = r .scene; full = f || r .full }
+alsoFull f r = withFull r (f || r .full)
 
 -- a command arrives: it goes to the base, the old and the new world, in this order
 unfoldable pub receivedOf : Scene → Entry → Received

@@ -1,7 +1,7 @@
 // Commands and snapshots that arrive: `receive_command` and what `receive_snapshot` decides, of src/client.rs of crystalorb.
 ghost use mathlib.Core.Path.{_≡_};
 ghost use Rattle.command.specs.Buffer.{takenBy};
-ghost use Rattle.client.specs.Sides.{takes};
+ghost use Rattle.client.specs.Ledgers.{takes};
 ghost use Rattle.client_receive.specs.Inner.{anyFull};
 ghost use Rattle.client_receive.specs.Receive.{fullBy, receivedOf, fromFutureOf, freshOf, notedOf, snapshotsOf};
 use client::ClientWorldSimulations;
@@ -11,6 +11,7 @@ use client::Queued;
 use client::Received;
 use client::Scene;
 use client::Snapshots;
+use client::ledgers;
 use client::sides;
 use client::status;
 use command::Entry;
@@ -56,10 +57,7 @@ pub fn any_full(base: Outcome, left: Outcome, right: Outcome) -> bool
 pub fn take(l: Ledger, o: Outcome) -> Ledger
     ensures { λ r. ⌜ r ≡ takes l (takenBy o) ⌝ }
 {
-    let mut t = l;
-    let taken = t.taken;
-    t.taken = std::num::wrapping_add_usize(taken, taken_by(o));
-    t
+    ledgers::count_taken(l, taken_by(o))
 }
 
 // A command goes to the base, the old and the new world. `full` says whether one of them takes it but has no room: refusal 23. None of the

@@ -30,7 +30,7 @@ use Rattle.client.specs.declared.Scene.{Scene}
 use Rattle.client.specs.declared.Shown.{Shown}
 use Rattle.client.specs.Sides.{newSideOf, oldSideOf, worldOf, withBase, withWorlds, oldStampOf, newStampOf, putOf, still, doneAt, Plays}
 use Rattle.client.specs.Status.{laterOf}
-use Rattle.client_skip.specs.Skip.{resetSide, resetAlong, skipsBack, emptiedBase, resetBoth, skippedOf, weightOk, timeOf, displayedBy, displayedOf, backBy, revisedOf, postUpdateOf}
+use Rattle.client_skip.specs.Skip.{resetSide, resetAlong, skipsBack, emptiedBase, resetBoth, skippedOf, weightOk, timeOf, displayedBy, displayedOf, backBy, revisedOf, endingWith, postUpdateOf}
 use Rattle.client.proofs.Happening.{plays-still, plays-as, plays-then, plays-done}
 
 -- ---- a skip
@@ -184,25 +184,7 @@ pub ruleset revised-rules = (revised-never, revised-far, revised-later, revised-
 -- what an update ends with
 pub post-is : (w : ClientWorldSimulations) (t : Float) (lag : ℕ) {old : Timestamp} {p : Published} {m : Moved} {l : LastStamp}
     → old ≡ oldStampOf w → p ≡ displayedOf (w .published) t → m ≡ movedOf (w .base) old → l ≡ revisedOf (w .snapshots .lastqueued) old lag
-    → _≡_ {A = ClientWorldSimulations}
-    (record {
-      left = w .left;
-      right = w .right;
-      new = w .new;
-      base = m .buffer;
-      snapshots = record { queued = w .snapshots .queued; lastqueued = l; lastreceived = w .snapshots .lastreceived };
-      weight = w .weight;
-      published = p;
-    })
-    (postUpdateOf w t lag)
+    → endingWith w (m .buffer) l p ≡ postUpdateOf w t lag
 unfolding postUpdateOf
-post-is w t lag ho hp hm hl = λ i.
-    record {
-      left = w .left;
-      right = w .right;
-      new = w .new;
-      base = (hm ∙ ap (movedOf (w .base)) ho) i .buffer;
-      snapshots = record { queued = w .snapshots .queued; lastqueued = (hl ∙ ap (λ (x : Timestamp). revisedOf (w .snapshots .lastqueued) x lag) ho) i; lastreceived = w .snapshots .lastreceived };
-      weight = w .weight;
-      published = hp i;
-    }
+post-is w t lag ho hp hm hl =
+    λ i. endingWith w ((hm ∙ ap (movedOf (w .base)) ho) i .buffer) ((hl ∙ ap (λ (x : Timestamp). revisedOf (w .snapshots .lastqueued) x lag) ho) i) (hp i)

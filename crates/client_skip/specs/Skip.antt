@@ -8,6 +8,7 @@ use lib.Ieee.{Float, fin, binary64, add, sub, mul, div, le}
 use Rattle.timestamp.specs.declared.Timestamp.{Timestamp}
 use Rattle.timestamp.specs.Timestamps.{orderOf, differenceOf, inRange}
 use Rattle.timestamp.specs.FloatTimestamps.{floatOf}
+use Rattle.command.specs.declared.CommandBuffer.{CommandBuffer}
 use Rattle.command.specs.Buffer.{emptiedOf, movedOf}
 use Rattle.simulation.specs.World.{resetOf, isLess}
 use Rattle.client.specs.declared.LastStamp.{LastStamp}
@@ -16,7 +17,7 @@ use Rattle.client.specs.declared.DisplayTime.the-variants.{DisplayedAt}
 use Rattle.client.specs.declared.Published.{Published}
 use Rattle.client.specs.declared.ClientWorldSimulations.{ClientWorldSimulations}
 use Rattle.client.specs.declared.Scene.{Scene}
-use Rattle.client.specs.Sides.{newSideOf, oldSideOf, worldOf, withBase, withWorlds, oldStampOf, newStampOf, Played, still, andThen, doneAt}
+use Rattle.client.specs.Sides.{newSideOf, oldSideOf, worldOf, withBase, withWorlds, oldStampOf, newStampOf, Played, still, andThen, doneAt, withSnapshots, withPublished}
 use Rattle.client.specs.Status.{laterOf}
 
 -- the world of a side is reset to a stamp
@@ -75,15 +76,15 @@ unfoldable pub revisedOf : LastStamp → Timestamp → ℕ → LastStamp
 revisedOf Never old lag = Never
 revisedOf (Last l) old lag = cond (inRange (old .0) (l .0)) (cond (laterOf l old) (backBy old lag) (Last l)) (backBy old lag)
 
+-- the worlds with another base, another last queued stamp and other published states
+abbrev pub endingWith : ClientWorldSimulations → CommandBuffer → LastStamp → Published → ClientWorldSimulations
+endingWith w b l p =
+    withPublished
+    (withSnapshots
+    (withBase w b)
+    (record { queued = w .snapshots .queued; lastqueued = l; lastreceived = w .snapshots .lastreceived }))
+    p
+
 -- what every update ends with, at a shaped weight and a lag in frames
 unfoldable pub postUpdateOf : ClientWorldSimulations → Float → ℕ → ClientWorldSimulations
-postUpdateOf w t lag =
-    record {
-      left = w .left;
-      right = w .right;
-      new = w .new;
-      base = movedOf (w .base) (oldStampOf w) .buffer;
-      snapshots = record { queued = w .snapshots .queued; lastqueued = revisedOf (w .snapshots .lastqueued) (oldStampOf w) lag; lastreceived = w .snapshots .lastreceived };
-      weight = w .weight;
-      published = displayedOf (w .published) t;
-    }
+postUpdateOf w t lag = endingWith w (movedOf (w .base) (oldStampOf w) .buffer) (revisedOf (w .snapshots .lastqueued) (oldStampOf w) lag) (displayedOf (w .published) t)

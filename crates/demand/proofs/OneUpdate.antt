@@ -23,7 +23,7 @@ use Rattle.session_state.specs.declared.Stage.the-variants.{SyncingClock, Synci
 use Rattle.session_state.specs.declared.Session.{Session}
 use Rattle.inbox_passes.specs.Passes.{heardIn, receivedIn}
 use Rattle.session.specs.declared.UpdateAnswer.{UpdateAnswer}
-use Rattle.session.specs.Calls.{Reply, Answer, Updates, refusedAtOnce, refusedWith, sceneOf, clockAfter, stageAfter, acceptedOf, concludedOf, serverTimeBy, sceneAfter, playedOf, worldsUpdateOf, updateBy, updateOf}
+use Rattle.session.specs.Calls.{Reply, Answer, Updates, refusedAtOnce, refusedWith, unreceived, clockAfter, stageAfter, acceptedOf, concludedOf, serverTimeBy, sceneAfter, playedOf, worldsUpdateOf, updateBy, updateOf}
 use Rattle.session_laws.proofs.TraceReading.{sound-m, Read, read-in, keeps-self}
 use Rattle.session_laws.proofs.LedgerCalls.{update-settles}
 use Rattle.demand.specs.Events.{eventsOf}
@@ -106,9 +106,9 @@ updated-worlds s delta seconds inbox len h =
     let r : Run = playedOf s c delta seconds inbox in
     let q : Bool = tickedOf (s .clock) (s .settings .period) delta .request in
     updated-pick (heardIn seconds inbox (listenOf (s .clock)) .other) s len (refusedWith 22 s len)
-    (cond (receivedIn inbox (record { scene = sceneOf s; full = false }) .full) (refusedWith 23 s len) (concludedOf (r .stop) s c q r len))
+    (cond (receivedIn inbox (unreceived s) .full) (refusedWith 23 s len) (concludedOf (r .stop) s c q r len))
     (updated-refused 22 s len h)
-    (updated-pick (receivedIn inbox (record { scene = sceneOf s; full = false }) .full) s len (refusedWith 23 s len) (concludedOf (r .stop) s c q r len)
+    (updated-pick (receivedIn inbox (unreceived s) .full) s len (refusedWith 23 s len) (concludedOf (r .stop) s c q r len)
     (updated-refused 23 s len h)
     (updated-concluded (r .stop) s c q (sceneAfter s inbox) r len h (read-in s inbox) (ran-played s c delta seconds inbox h)))
 

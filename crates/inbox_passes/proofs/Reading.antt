@@ -15,7 +15,7 @@ use Rattle.client.specs.declared.Received.{Received}
 use Rattle.client.specs.declared.ClientWorldSimulations.{ClientWorldSimulations}
 use Rattle.client.specs.declared.Snapshots.{Snapshots}
 use Rattle.client.specs.Sides.{oldSideOf, worldOf, oldStampOf, withSnapshots}
-use Rattle.client_receive.specs.Receive.{alsoFull, snapshotsOf, notesOf}
+use Rattle.client_receive.specs.Receive.{alsoFull, snapshotsOf, notesOf, withFull}
 use Rattle.inbox_passes.specs.declared.Hearing.{Hearing}
 use Rattle.inbox_passes.specs.declared.Noting.{Noting}
 use Rattle.inbox_passes.specs.Passes.{isForWorlds, metOne, hasForWorlds, hearOne, heardIn, receiveOne, receivedIn, noteOne, notedIn}
@@ -108,12 +108,12 @@ receive-other r WrongWord e = refl
 receive-other r CutShort e = refl
 
 -- once a buffer was full it stays said
-pub also-true : {f : Bool} {r x : Received} → f ≡ true → r ≡ x → _≡_ {A = Received} (record { scene = r .scene; full = true }) (alsoFull f x)
-also-true {f} {r} {x} h e = λ i. record { scene = e i .scene; full = sym (ap (λ (b : Bool). b || x .full) h) i }
+pub also-true : {f : Bool} {r x : Received} → f ≡ true → r ≡ x → withFull r true ≡ alsoFull f x
+also-true {f} {r} {x} h e = λ i. withFull (e i) (sym (ap (λ (b : Bool). b || x .full) h) i)
 
 -- and else the last command says
 pub also-false : {f : Bool} {r x : Received} → f ≡ false → r ≡ x → r ≡ alsoFull f x
-also-false {f} {r} {x} h e = e ∙ (λ i. record { scene = x .scene; full = sym h i || x .full })
+also-false {f} {r} {x} h e = e ∙ (λ i. withFull x (sym h i || x .full))
 
 -- the second pass
 pub receive-folds : (words : List ℕ) (r : Received) → over receiveOne r (messagesOf words) ≡ receivedIn words r

@@ -29,7 +29,8 @@ use Rattle.client.specs.declared.ClientWorldSimulations.{ClientWorldSimulations
 use Rattle.client.specs.declared.Ledger.{Ledger}
 use Rattle.client.specs.declared.Received.{Received}
 use Rattle.client.specs.declared.Scene.{Scene}
-use Rattle.client.specs.Sides.{newWorldsOf, emptyLedger, withWorlds}
+use Rattle.client.specs.Ledgers.{emptyLedger}
+use Rattle.client.specs.Sides.{newWorldsOf, withWorlds}
 use Rattle.client_skip.specs.Skip.{tweenOf, weightOk}
 use Rattle.fixed_timestepper.specs.declared.Stop.{Stop}
 use Rattle.fixed_timestepper.specs.declared.Stop.the-variants.{Done, TooManyFrames, StatusStops, WeightStops}
@@ -37,6 +38,8 @@ use Rattle.fixed_timestepper.specs.declared.Advanced.{Advanced}
 use Rattle.fixed_timestepper.specs.TimeKeeper.{Run, endsWith, finishedOf, Advances}
 use Rattle.fixed_timestepper.specs.Inner.{endedOf, unendedOf, endedBy}
 use Rattle.fixed_timestepper.proofs.Updating.{ends-is}
+use Rattle.client_receive.specs.Receive.{noneReceived}
+use Rattle.session_state.specs.Session.{withClock, sessionWith}
 use Rattle.session_state.specs.declared.Stage.{Stage}
 use Rattle.session_state.specs.declared.Stage.the-variants.{SyncingInitialState}
 use Rattle.session_state.specs.declared.Session.{Session}
@@ -44,7 +47,7 @@ use Rattle.session.specs.declared.UpdateAnswer.{UpdateAnswer}
 use Rattle.session.specs.declared.ReportAnswer.{ReportAnswer}
 use Rattle.session_state.specs.Sound.{soundOf}
 use Rattle.inbox_passes.specs.Passes.{hasForWorlds, heardIn, receivedIn, notedIn}
-use Rattle.session.specs.Calls.{timesOk, refusedAtOnce, Reply, Answer, refusedWith, withClock, startedAt, syncedOf, clockAfter, clockUpdateOf, sceneOf, closedOf, stageAfter, acceptedOf, concludedOf, serverTimeBy, unreceived, sceneWith, playedWith, playedOf, worldsUpdateOf, updateBy, updateOf, Updates, unreported, reportBy, reportOf}
+use Rattle.session.specs.Calls.{timesOk, refusedAtOnce, Reply, Answer, refusedWith, startedAt, syncedOf, clockAfter, clockUpdateOf, sceneOf, closedOf, stageAfter, acceptedOf, concludedOf, serverTimeBy, unreceived, sceneWith, playedWith, playedOf, worldsUpdateOf, updateBy, updateOf, Updates, unreported, reportBy, reportOf}
 use Rattle.session.specs.Inner.{refusedAtEnd, refusedAfter, acceptedBy, concludedBy, unendedWith}
 use Rattle.session_state.proofs.Judging.{was-false, was-true}
 
@@ -134,11 +137,11 @@ synced-none s c seconds ht hp h e = λ i. cond (sym (sym hp ∙ h) i) (startedAt
 -- there is one: the worlds start at its stamp
 pub synced-at : (s : Session) (c : Clock) (seconds : Float) {p : Bool} {t : ServerTime} {x : Float} {st : Timestamp} {w : ClientWorldSimulations} → t ≡ serverSecondsOf (c .offset) seconds → p ≡ readyOf c → p ≡ true → t ≡ At x
     → st .0 ≡ bitsOf (stampOf (fromSeconds x (s .settings .timestep))) → w ≡ newWorldsOf st
-    → record { settings = s .settings; stage = SyncingInitialState; clock = c; worlds = w; overshoot = fin false 0 (pos 0) } ≡ syncedOf s c seconds
+    → sessionWith s SyncingInitialState c w (fin false 0 (pos 0)) ≡ syncedOf s c seconds
 unfolding syncedOf
 synced-at s c seconds {p} {t} {x} {st} {w} ht hp h e hst hw =
-    let a : record { settings = s .settings; stage = SyncingInitialState; clock = c; worlds = w; overshoot = fin false 0 (pos 0) } ≡ startedAt s c (At x) =
-    λ i. record { settings = s .settings; stage = SyncingInitialState; clock = c; worlds = (hw ∙ (λ j. newWorldsOf (record { 0 = hst j }))) i; overshoot = fin false 0 (pos 0) } in
+    let a : sessionWith s SyncingInitialState c w (fin false 0 (pos 0)) ≡ startedAt s c (At x) =
+    λ i. sessionWith s SyncingInitialState c ((hw ∙ (λ j. newWorldsOf (record { 0 = hst j }))) i) (fin false 0 (pos 0)) in
     a ∙ (λ i. cond (sym (sym hp ∙ h) i) (startedAt s c (sym (sym ht ∙ e) i)) (withClock s c))
 
 -- the clock is not ready
@@ -202,12 +205,12 @@ after-stopped x y t n len e h = h ∙ (λ i. refusedAfter (sym e i) t n len)
 -- an accepted update, by the calls that make it
 pub accept-is : (s : Session) (c : Clock) (request : Bool) (a : Advanced) (was : List ℕ) {last : List ℕ} {w : ClientWorldSimulations} {st : Stage} {l r : Ledger} → last ≡ cleared was (a .at) → w ≡ endedOf (s .settings) (a .scene .worlds) (a .overshoot)
     → st ≡ stageAfter (s .stage) (w .published .time) → l ≡ closedOf (a .scene .left) (w .left .commands) → r ≡ closedOf (a .scene .right) (w .right .commands)
-    → Updates (acceptedBy s c request a was) (record { refusal = 0; session = record { settings = s .settings; stage = st; clock = c; worlds = w; overshoot = a .overshoot }; frames = a .frames; steps = a .scene .steps; request = request; left = l; right = r; words = a .at }) last
+    → Updates (acceptedBy s c request a was) (record { refusal = 0; session = sessionWith s st c w (a .overshoot); frames = a .frames; steps = a .scene .steps; request = request; left = l; right = r; words = a .at }) last
 unfolding acceptedBy
 accept-is s c request a was hz hw hs hL hR =
     record {
       refusal = refl;
-      session = λ i. record { settings = s .settings; stage = (hs ∙ ap (λ (v : ClientWorldSimulations). stageAfter (s .stage) (v .published .time)) hw) i; clock = c; worlds = hw i; overshoot = a .overshoot };
+      session = λ i. sessionWith s ((hs ∙ ap (λ (v : ClientWorldSimulations). stageAfter (s .stage) (v .published .time)) hw) i) c (hw i) (a .overshoot);
       frames = refl;
       steps = refl;
       request = refl;
@@ -274,7 +277,7 @@ module _ (s : Session) (c : Clock) (request : Bool) (u : Run) {was mid : List �
       let w : endedOf (s .settings) (a .scene .worlds) (a .overshoot) ≡ endedOf (s .settings) (u .played .scene .worlds) (u .overshoot) = λ i. endedOf (s .settings) (h .scene i .worlds) (h .overshoot i) in
       λ i. record {
         refusal = 0;
-        session = record { settings = s .settings; stage = stageAfter (s .stage) (w i .published .time); clock = c; worlds = w i; overshoot = h .overshoot i };
+        session = sessionWith s (stageAfter (s .stage) (w i .published .time)) c (w i) (h .overshoot i);
         frames = h .frames i;
         steps = h .scene i .steps;
         request = request;
@@ -332,11 +335,11 @@ unfolding worldsUpdateOf
 worlds-other s delta seconds inbox len hl hh o h = at-true _ _ (other-is s seconds inbox hl hh o) h
 
 -- what was received
-received-is : (s : Session) (inbox : List ℕ) {scene : Scene} {got : Received} → scene ≡ sceneOf s → got ≡ receivedIn inbox (record { scene = scene; full = false }) → got ≡ receivedIn inbox (unreceived s)
-received-is s inbox hs hg = hg ∙ (λ i. receivedIn inbox (record { scene = hs i; full = false }))
+received-is : (s : Session) (inbox : List ℕ) {scene : Scene} {got : Received} → scene ≡ sceneOf s → got ≡ receivedIn inbox (noneReceived scene) → got ≡ receivedIn inbox (unreceived s)
+received-is s inbox hs hg = hg ∙ (λ i. receivedIn inbox (noneReceived (hs i)))
 
 pub worlds-full : (s : Session) (delta seconds : Float) (inbox : List ℕ) (len : ℕ) {start heard : Heard} {scene : Scene} {got : Received} {r : UpdateAnswer} {last : List ℕ} → start ≡ listenOf (s .clock) → heard ≡ heardIn seconds inbox start → heard .other ≡ false
-    → scene ≡ sceneOf s → got ≡ receivedIn inbox (record { scene = scene; full = false }) → got .full ≡ true
+    → scene ≡ sceneOf s → got ≡ receivedIn inbox (noneReceived scene) → got .full ≡ true
     → Updates (refusedWith 23 s len .reply) r last → Updates (worldsUpdateOf s delta seconds inbox len .reply) r last
 unfolding worldsUpdateOf
 worlds-full s delta seconds inbox len hl hh o hs hg f h =
@@ -344,7 +347,7 @@ worlds-full s delta seconds inbox len hl hh o hs hg f h =
 
 pub worlds-played : (s : Session) (delta seconds : Float) (inbox was : List ℕ) {start heard : Heard} {scene : Scene} {got : Received} {t : Ticked} {c : Clock} {a : Advanced} {mid : List ℕ} {r : UpdateAnswer} {last : List ℕ}
     → start ≡ listenOf (s .clock) → heard ≡ heardIn seconds inbox start → heard .other ≡ false
-    → scene ≡ sceneOf s → got ≡ receivedIn inbox (record { scene = scene; full = false }) → got .full ≡ false
+    → scene ≡ sceneOf s → got ≡ receivedIn inbox (noneReceived scene) → got .full ≡ false
     → t ≡ tickedOf (s .clock) (s .settings .period) delta → c ≡ settledOf (s .settings) (t .clock) heard
     → Advances (unendedWith s got c delta seconds inbox) was a mid → Updates (concludedBy s c (t .request) a mid) r last
     → Updates (worldsUpdateOf s delta seconds inbox (length was) .reply) r last

@@ -25,14 +25,17 @@ use Rattle.client.specs.declared.ReconciliationStatus.the-variants.{AwaitingSna
 use Rattle.client.specs.declared.Ledger.{Ledger}
 use Rattle.client.specs.declared.Scene.{Scene}
 use Rattle.client.specs.declared.Received.{Received}
-use Rattle.client.specs.Sides.{newWorldsOf, emptyLedger, withWorlds, oldStampOf, newStampOf}
+use Rattle.client.specs.Ledgers.{emptyLedger, withHeld}
+use Rattle.client.specs.Sides.{newWorldsOf, withWorlds, oldStampOf, newStampOf}
 use Rattle.client.specs.Status.{statusOf}
+use Rattle.client_receive.specs.Receive.{noneReceived}
 use Rattle.fixed_timestepper.specs.declared.Stop.{Stop}
 use Rattle.fixed_timestepper.specs.declared.Stop.the-variants.{Done, TooManyFrames, StatusStops, WeightStops}
 use Rattle.fixed_timestepper.specs.TimeKeeper.{Run, Event, stopNumber, updatedOf}
 use Rattle.session_state.specs.declared.Stage.{Stage}
 use Rattle.session_state.specs.declared.Stage.the-variants.{SyncingClock, SyncingInitialState, Ready}
 use Rattle.session_state.specs.declared.Session.{Session}
+use Rattle.session_state.specs.Session.{startingOf, sessionWith, withClock}
 use Rattle.session.specs.declared.OpenAnswer.{OpenAnswer}
 use Rattle.session.specs.declared.UpdateAnswer.{UpdateAnswer}
 use Rattle.session.specs.declared.ReportAnswer.{ReportAnswer}
@@ -43,7 +46,7 @@ use Rattle.inbox_passes.specs.Passes.{hasForWorlds, heardIn, receivedIn, notedI
 
 -- the session that settings start: the clock syncs, and no worlds exist yet
 unfoldable pub startOf : Settings → Session
-startOf c = record { settings = c; stage = SyncingClock; clock = newOf; worlds = newWorldsOf (record { 0 = 0 }); overshoot = fin false 0 (pos 0) }
+startOf c = startingOf c newOf (newWorldsOf (record { 0 = 0 }))
 
 -- open: refused with 1, the session is the one that it would have started
 unfoldable pub openOf : Settings → OpenAnswer
@@ -94,21 +97,10 @@ refusedWith n s len =
       trace = [];
     }
 
--- a session whose clock is another
-abbrev pub withClock : Session → Clock → Session
-withClock s c = record { settings = s .settings; stage = s .stage; clock = c; worlds = s .worlds; overshoot = s .overshoot }
-
 -- the session that starts its worlds at a server time: the first stamp uses it without lag, cut toward zero
 abbrev pub startedAt : Session → Clock → ServerTime → Session
 startedAt s c NoTime = s
-startedAt s c (At t) =
-    record {
-      settings = s .settings;
-      stage = SyncingInitialState;
-      clock = c;
-      worlds = newWorldsOf (record { 0 = bitsOf (stampOf (fromSeconds t (s .settings .timestep))) });
-      overshoot = fin false 0 (pos 0);
-    }
+startedAt s c (At t) = sessionWith s SyncingInitialState c (newWorldsOf (record { 0 = bitsOf (stampOf (fromSeconds t (s .settings .timestep))) })) (fin false 0 (pos 0))
 
 -- a session after an update in the first stage: worlds are made where the clock is ready
 unfoldable pub syncedOf : Session → Clock → Float → Session
@@ -144,7 +136,7 @@ sceneOf s = record { worlds = s .worlds; left = emptyLedger; right = emptyLedger
 
 -- a ledger with what its side holds after the call
 abbrev pub closedOf : Ledger → CommandBuffer → Ledger
-closedOf l b = record { held = length (held b); taken = l .taken; copied = l .copied; replaced = l .replaced; applied = l .applied; leftout = l .leftout }
+closedOf l b = withHeld l (length (held b))
 
 -- the stage after an update: Ready once there is a time to display
 abbrev pub stageAfter : Stage → DisplayTime → Stage
@@ -159,13 +151,7 @@ acceptedOf s c request r len =
     record {
       reply = record {
         refusal = 0;
-        session = record {
-          settings = s .settings;
-          stage = stageAfter (s .stage) (r .played .scene .worlds .published .time);
-          clock = c;
-          worlds = r .played .scene .worlds;
-          overshoot = r .overshoot;
-        };
+        session = sessionWith s (stageAfter (s .stage) (r .played .scene .worlds .published .time)) c (r .played .scene .worlds) (r .overshoot);
         frames = r .frames;
         steps = r .played .scene .steps;
         request = request;
@@ -191,7 +177,7 @@ serverTimeBy (At t) seconds = t
 
 -- nothing is received yet
 abbrev pub unreceived : Session → Received
-unreceived s = record { scene = sceneOf s; full = false }
+unreceived s = noneReceived (sceneOf s)
 
 -- the scene after an inbox's snapshots, its commands being received
 abbrev pub sceneWith : Received → List ℕ → Scene

@@ -17,6 +17,7 @@ use Rattle.fixed_timestepper.specs.declared.Stop.the-variants.{Done, TooManyFra
 use Rattle.fixed_timestepper.specs.TimeKeeper.{Run, stopNumber}
 use Rattle.fixed_timestepper.specs.Inner.{endedOf, unendedOf}
 use Rattle.session_state.specs.declared.Session.{Session}
+use Rattle.session_state.specs.Session.{sessionWith}
 use Rattle.session.specs.Calls.{Reply, refusedWith, stageAfter, closedOf, sceneWith, serverTimeBy}
 
 -- the frames of an update and its skip, once its commands are received
@@ -41,7 +42,7 @@ acceptedBy s c request a tape =
     let w = endedOf (s .settings) (a .scene .worlds) (a .overshoot) in
     record {
       refusal = 0;
-      session = record { settings = s .settings; stage = stageAfter (s .stage) (w .published .time); clock = c; worlds = w; overshoot = a .overshoot };
+      session = sessionWith s (stageAfter (s .stage) (w .published .time)) c w (a .overshoot);
       frames = a .frames;
       steps = a .scene .steps;
       request = request;

@@ -6,13 +6,14 @@ use lib.Dec.{ltb}
 use Rattle.timestamp.specs.declared.Timestamp.{Timestamp}
 use Rattle.timestamp.specs.Timestamps.{sumOf}
 use Rattle.command.specs.declared.Entry.{Entry}
-use Rattle.client.specs.declared.ClientWorldSimulations.{ClientWorldSimulations}
 use Rattle.client.specs.declared.Received.{Received}
-use Rattle.client.specs.Sides.{emptyLedger, oldStampOf}
+use Rattle.client.specs.Ledgers.{emptyLedger}
+use Rattle.client.specs.Sides.{oldStampOf}
 use Rattle.client_receive.specs.Receive.{receivedOf}
 use Rattle.session_state.specs.declared.Stage.{Stage}
 use Rattle.session_state.specs.declared.Stage.the-variants.{SyncingClock, SyncingInitialState, Ready}
 use Rattle.session_state.specs.declared.Session.{Session}
+use Rattle.session_state.specs.Session.{withWorldsOf}
 use Rattle.session.specs.declared.IssueAnswer.{IssueAnswer}
 use Rattle.session_state.specs.Sound.{soundOf}
 use Rattle.session.specs.Calls.{sceneOf, closedOf}
@@ -20,10 +21,6 @@ use Rattle.session.specs.Calls.{sceneOf, closedOf}
 -- a refused issue: the session unchanged, all else 0
 abbrev pub unissued : ℕ → Session → IssueAnswer
 unissued n s = record { refusal = n; session = s; stamp = record { 0 = 0 }; left = emptyLedger; right = emptyLedger }
-
--- a session with other worlds
-abbrev pub withWorldsOf : Session → ClientWorldSimulations → Session
-withWorldsOf s w = record { settings = s .settings; stage = s .stage; clock = s .clock; worlds = w; overshoot = s .overshoot }
 
 -- the entry of a command issued now: its stamp is the one after the old stamp
 abbrev pub entryOf : Session → ℕ → Entry

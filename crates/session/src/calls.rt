@@ -17,6 +17,7 @@ use client::Ledger;
 use client::Received;
 use client::ReconciliationStatus;
 use client::Scene;
+use client::ledgers;
 use client::sides;
 use client::status;
 use clocksync::Clock;
@@ -91,8 +92,8 @@ pub fn refuse(refusal: u32, session: Session, tape: &mut [u32]) -> UpdateAnswer
         frames: 0,
         steps: 0,
         request: false,
-        left: sides::empty_ledger(),
-        right: sides::empty_ledger(),
+        left: ledgers::empty_ledger(),
+        right: ledgers::empty_ledger(),
         words: 0,
     }
 }
@@ -150,8 +151,8 @@ pub fn update_clock(
         frames: 0,
         steps: 0,
         request: t.request,
-        left: sides::empty_ledger(),
-        right: sides::empty_ledger(),
+        left: ledgers::empty_ledger(),
+        right: ledgers::empty_ledger(),
         words: 0,
     }
 }
@@ -163,8 +164,8 @@ pub fn scene_of(session: Session) -> Scene
     let worlds = session.worlds;
     Scene {
         worlds,
-        left: sides::empty_ledger(),
-        right: sides::empty_ledger(),
+        left: ledgers::empty_ledger(),
+        right: ledgers::empty_ledger(),
         steps: 0,
     }
 }
@@ -173,9 +174,7 @@ pub fn scene_of(session: Session) -> Scene
 pub fn closed(l: Ledger, buffer: command::CommandBuffer) -> Ledger
     ensures { λ r. ⌜ r ≡ closedOf l buffer ⌝ }
 {
-    let mut t = l;
-    t.held = command::held_count(buffer);
-    t
+    ledgers::close(l, command::held_count(buffer))
 }
 
 // The stage after an update: Ready once there is something to display.
@@ -346,8 +345,8 @@ pub fn refuse_issue(refusal: u32, session: Session) -> IssueAnswer
         refusal,
         session,
         stamp: Timestamp(0),
-        left: sides::empty_ledger(),
-        right: sides::empty_ledger(),
+        left: ledgers::empty_ledger(),
+        right: ledgers::empty_ledger(),
     }
 }
 

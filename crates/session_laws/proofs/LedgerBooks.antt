@@ -3,7 +3,7 @@ use mathlib.Core.Path.{_≡_}
 use Prim.Native.Nat.{ℕ, _+_, _^_, _≤_, _<_}
 use native.Mathlib.Omega.{arith}
 use Rattle.client.specs.declared.Ledger.{Ledger}
-use Rattle.client.specs.Sides.{counted, takes, applies, loads}
+use Rattle.client.specs.Ledgers.{counted, takes, applies, loads}
 
 -- from a side that held h at the start: k command words so far, g entries held now, and h with what was taken and copied is at most n
 pub record Books (h n k : ℕ) (l : Ledger) (g : ℕ) : Type 0 where

@@ -29,8 +29,10 @@ use Rattle.client.specs.declared.DisplayTime.the-variants.{NotDisplayed, Displa
 use Rattle.client.specs.declared.Ledger.{Ledger}
 use Rattle.client.specs.declared.Scene.{Scene}
 use Rattle.client.specs.declared.Received.{Received}
-use Rattle.client.specs.Sides.{worldOf, ledgerOf, emptyLedger}
+use Rattle.client.specs.Ledgers.{emptyLedger}
+use Rattle.client.specs.Sides.{worldOf, ledgerOf}
 use Rattle.client_receive.specs.Receive.{receivedOf}
+use Rattle.session_state.specs.Session.{withWorldsOf}
 use Rattle.session_laws.proofs.LedgerBooks.{Books}
 use Rattle.session_laws.proofs.LedgerSides.{heldAt, Kept, kept-more}
 use Rattle.session_laws.proofs.LedgerFrames.{SameBuffers, same-buffers-then, same-buffers-kept, KeptBy, updated-kept}
@@ -44,8 +46,8 @@ use Rattle.session_state.specs.declared.Session.{Session}
 use Rattle.session.specs.declared.IssueAnswer.{IssueAnswer}
 use Rattle.session_state.specs.Sound.{soundOf, worldsSound, buffersSound, queuedSound, weightSound, initSound, connectedOf, overshootSound}
 use Rattle.inbox_passes.specs.Passes.{receiveOne, receivedIn, noteOne, notedIn, heardIn}
-use Rattle.session.specs.Calls.{timesOk, refusedAtOnce, Reply, Answer, refusedWith, sceneOf, closedOf, stageAfter, acceptedOf, concludedOf, serverTimeBy, sceneAfter, clockAfter, playedOf, worldsUpdateOf, updateBy, updateOf}
-use Rattle.session.specs.Issue.{unissued, withWorldsOf, entryOf, issuedBy, issuedOf, issueBy, issueOf}
+use Rattle.session.specs.Calls.{timesOk, refusedAtOnce, Reply, Answer, refusedWith, sceneOf, closedOf, stageAfter, acceptedOf, concludedOf, serverTimeBy, sceneAfter, clockAfter, playedOf, worldsUpdateOf, updateBy, updateOf, unreceived}
+use Rattle.session.specs.Issue.{unissued, entryOf, issuedBy, issuedOf, issueBy, issueOf}
 
 -- ---- what a sound session holds
 
@@ -131,8 +133,8 @@ commands-kept x inbox r p e c =
 -- the scene after the inbox of an update
 after-kept : (x : ℕ) (s : Session) (inbox : List ℕ) → x < 2 → refusalOf inbox ≡ 0 → Filled (s .worlds) → Kept x (heldAt x (s .worlds)) 8256 0 (sceneAfter s inbox)
 after-kept x s inbox p e f =
-    let r : Scene = receivedIn inbox (record { scene = sceneOf s; full = false }) .scene in
-    same-buffers-kept r (notedIn inbox (r .worlds)) (noted-alike inbox (r .worlds)) (commands-kept x inbox (record { scene = sceneOf s; full = false }) p e (start-kept x s f))
+    let r : Scene = receivedIn inbox (unreceived s) .scene in
+    same-buffers-kept r (notedIn inbox (r .worlds)) (noted-alike inbox (r .worlds)) (commands-kept x inbox (unreceived s) p e (start-kept x s f))
 
 -- the frames of an update
 played-kept : (x : ℕ) (s : Session) (c : Clock) (delta seconds : Float) (inbox : List ℕ) → x < 2 → refusalOf inbox ≡ 0 → Filled (s .worlds) → KeptBy x (heldAt x (s .worlds)) 12416 0 (playedOf s c delta seconds inbox)
@@ -215,7 +217,7 @@ worlds-settles x s delta seconds inbox len p w e f =
     let q : Bool = tickedOf (s .clock) (s .settings .period) delta .request in
     let r : Run = playedOf s c delta seconds inbox in
     let last : Answer = concludedOf (r .stop) s c q r len in
-    let full : Bool = receivedIn inbox (record { scene = sceneOf s; full = false }) .full in
+    let full : Bool = receivedIn inbox (unreceived s) .full in
     pick-settles (heardIn seconds inbox (listenOf (s .clock)) .other) x s (refusedWith 22 s len) (cond full (refusedWith 23 s len) last) (refused-settles 22 x s len w)
     (pick-settles full x s (refusedWith 23 s len) last (refused-settles 23 x s len w)
     (concluded-settles (r .stop) x s c q r len p w (played-kept x s c delta seconds inbox p e (sound-filled s f))))

@@ -27,6 +27,7 @@ use Rattle.clocksync.proofs.Ready.{hasOffset}
 use Rattle.client.specs.declared.DisplayTime.{DisplayTime}
 use Rattle.client.specs.declared.DisplayTime.the-variants.{NotDisplayed, DisplayedAt}
 use Rattle.client_receive.specs.Receive.{receivedOf}
+use Rattle.session_state.specs.Session.{withClock, withWorldsOf}
 use Rattle.session_laws.proofs.SoundWorlds.{new-kept, new-weighed, received-kept, received-weighed}
 use Rattle.fixed_timestepper.specs.declared.Stop.{Stop}
 use Rattle.fixed_timestepper.specs.declared.Stop.the-variants.{Done, TooManyFrames, StatusStops, WeightStops}
@@ -38,8 +39,8 @@ use Rattle.session_state.specs.declared.Session.{Session}
 use Rattle.session.specs.declared.IssueAnswer.{IssueAnswer}
 use Rattle.session_state.specs.Sound.{noOffset, connectedOf, soundOf}
 use Rattle.inbox_passes.specs.Passes.{hasForWorlds, heardIn, receivedIn}
-use Rattle.session.specs.Calls.{startOf, openOf, timesOk, refusedAtOnce, Answer, refusedWith, withClock, startedAt, syncedOf, clockAfter, clockUpdateOf, sceneOf, stageAfter, acceptedOf, concludedOf, serverTimeBy, sceneAfter, playedOf, worldsUpdateOf, updateBy, updateOf}
-use Rattle.session.specs.Issue.{unissued, withWorldsOf, entryOf, issuedBy, issuedOf, issueBy, issueOf}
+use Rattle.session.specs.Calls.{startOf, openOf, timesOk, refusedAtOnce, Answer, refusedWith, startedAt, syncedOf, clockAfter, clockUpdateOf, sceneOf, stageAfter, acceptedOf, concludedOf, serverTimeBy, sceneAfter, playedOf, worldsUpdateOf, updateBy, updateOf, unreceived}
+use Rattle.session.specs.Issue.{unissued, entryOf, issuedBy, issuedOf, issueBy, issueOf}
 use Rattle.session_laws.proofs.SoundParts.{sound-facts, facts-sound, FloatsFit, times-within, clock-after-sound, clock-after-timer, clock-after-slots, clock-after-ready, clock-after-first, server-within, scene-after-kept, scene-after-weighed}
 
 -- ---- open
@@ -235,7 +236,7 @@ module _ (s : Session) (delta seconds : Float) (inbox : List ℕ) (g : Given s d
   worlds-update-good : (len : ℕ) → worldsUpdateOf s delta seconds inbox len .reply .refusal ≡ 0 → Good (worldsUpdateOf s delta seconds inbox len .reply .session)
   unfolding worldsUpdateOf
   worlds-update-good len =
-      go (heardIn seconds inbox (listenOf (s .clock)) .other) (receivedIn inbox (record { scene = sceneOf s; full = false }) .full) _
+      go (heardIn seconds inbox (listenOf (s .clock)) .other) (receivedIn inbox (unreceived s) .full) _
       (concluded-good (playedOf s (clockAfter s delta seconds inbox) delta seconds inbox .stop) (tickedOf (s .clock) (s .settings .period) delta .request) len refl)
     where
       go : (a b : Bool) (r : Answer) → (r .reply .refusal ≡ 0 → Good (r .reply .session))
@@ -327,7 +328,7 @@ worlds-back : (s : Session) (delta seconds : Float) (inbox : List ℕ) (len : �
 unfolding worldsUpdateOf
 worlds-back s delta seconds inbox len =
     pick-back s (heardIn seconds inbox (listenOf (s .clock)) .other) (refusedWith 22 s len) _ (refused-back 22 s len)
-    (pick-back s (receivedIn inbox (record { scene = sceneOf s; full = false }) .full) (refusedWith 23 s len) _ (refused-back 23 s len)
+    (pick-back s (receivedIn inbox (unreceived s) .full) (refusedWith 23 s len) _ (refused-back 23 s len)
     (concluded-back (playedOf s (clockAfter s delta seconds inbox) delta seconds inbox .stop) s (clockAfter s delta seconds inbox) (tickedOf (s .clock) (s .settings .period) delta .request) (playedOf s (clockAfter s delta seconds inbox) delta seconds inbox) len))
 
 by-back : (x : Stage) (s : Session) (delta seconds : Float) (inbox : List ℕ) (len : ℕ) → Back s (updateBy x s delta seconds inbox len)

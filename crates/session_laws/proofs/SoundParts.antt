@@ -47,7 +47,7 @@ use Rattle.session_laws.proofs.SoundRuns.{InStep}
 use Rattle.session_state.specs.declared.Session.{Session}
 use Rattle.session_state.specs.Sound.{queuedSound, weightSound, initSound, buffersSound, worldsSound, overshootSound, connectedOf, soundOf}
 use Rattle.inbox_passes.specs.Passes.{hearOne, heardIn, receiveOne, receivedIn, noteOne, notedIn}
-use Rattle.session.specs.Calls.{timesOk, clockAfter, serverTimeBy, sceneAfter, sceneOf}
+use Rattle.session.specs.Calls.{timesOk, clockAfter, serverTimeBy, sceneAfter, unreceived}
 
 both : {a b : Bool} → a ≡ true → b ≡ true → a && b ≡ true
 both p q = rw (p, q)
@@ -366,7 +366,7 @@ unfolding receivedIn notedIn
 scene-after-kept s inbox k =
     let ms = messagesOf inbox in
     let b = messages-bounded inbox in
-    let r : Received = record { scene = sceneOf s; full = false } in
+    let r : Received = unreceived s in
     over-keeps Kept noteOne note-kept (over receiveOne r ms .scene .worlds) ms b (over-keeps (λ (x : Received). Kept (x .scene .worlds)) receiveOne receive-kept r ms b k)
 
 pub scene-after-weighed : (s : Session) (inbox : List ℕ) → Weighed (s .worlds) → Weighed (sceneAfter s inbox .worlds)
@@ -374,5 +374,5 @@ unfolding receivedIn notedIn
 scene-after-weighed s inbox k =
     let ms = messagesOf inbox in
     let b = messages-bounded inbox in
-    let r : Received = record { scene = sceneOf s; full = false } in
+    let r : Received = unreceived s in
     over-keeps Weighed noteOne note-weighed (over receiveOne r ms .scene .worlds) ms b (over-keeps (λ (x : Received). Weighed (x .scene .worlds)) receiveOne receive-weighed r ms b k)

@@ -21,7 +21,7 @@ use Rattle.client.specs.declared.Published.{Published}
 use Rattle.client.specs.declared.ClientWorldSimulations.{ClientWorldSimulations}
 use Rattle.client.specs.declared.Ledger.{Ledger}
 use Rattle.client.specs.declared.Scene.{Scene}
-use Rattle.client.specs.Sides.{newSideOf, oldSideOf, worldOf, withWorld, withBase, withSnapshots, withWeight, withPublished, withWorlds, withLedger, stampOf, oldStampOf, newStampOf, newWorldsOf, putOf, doneAt}
+use Rattle.client.specs.Sides.{newSideOf, oldSideOf, worldOf, withWorld, withBase, withSnapshots, withWeight, withPublished, withWorlds, withLedger, stampOf, oldStampOf, newStampOf, newWorldsOf, putOf, doneAt, withLeft, withRight, withLedgers}
 use Rattle.client_frame.specs.Frame.{readiedWith, loadedAt, loadedOf}
 use Rattle.client_receive.specs.Receive.{offeredBase, offeredSide, receivedOf, fromFutureOf, freshOf, snapshotsBy, snapshotsOf, notesOf}
 
@@ -51,12 +51,6 @@ pub data Weighed (w : ClientWorldSimulations) : Type 0 where
   is-even : oldStampOf w .0 ≡ newStampOf w .0 → T (le zeroF (w .weight)) → T (le (w .weight) oneF) → Weighed w
 
 -- ---- the world of a side
-
-abbrev withLeft : ClientWorldSimulations → Simulation → ClientWorldSimulations
-withLeft w x = record { left = x; right = w .right; new = w .new; base = w .base; snapshots = w .snapshots; weight = w .weight; published = w .published }
-
-abbrev withRight : ClientWorldSimulations → Simulation → ClientWorldSimulations
-withRight w x = record { left = w .left; right = x; new = w .new; base = w .base; snapshots = w .snapshots; weight = w .weight; published = w .published }
 
 -- the buffer of a side is sound
 pub side-sound : (w : ClientWorldSimulations) (side : ℕ) → Kept w → soundBuffer (worldOf w side .commands) ≡ true
@@ -209,7 +203,7 @@ pub ledger-worlds : (s : Scene) (side : ℕ) (l : Ledger) → withLedger s side 
 unfolding withLedger
 ledger-worlds s side l = go (eqb side 0)
   where
-    go : (b : Bool) → cond {A = Scene} b (record { worlds = s .worlds; left = l; right = s .right; steps = s .steps }) (record { worlds = s .worlds; left = s .left; right = l; steps = s .steps }) .worlds ≡ s .worlds
+    go : (b : Bool) → cond b (withLedgers s l (s .right)) (withLedgers s (s .left) l) .worlds ≡ s .worlds
     go true = refl
     go false = refl
 

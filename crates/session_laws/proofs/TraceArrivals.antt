@@ -1,7 +1,7 @@
 -- What arrives, a skip, and the end of an update: which of them change sides, stamps and weight. Assumes nothing.
 use mathlib.Core.Path.{_≡_, refl, ap, sym, _∙_}
 use mathlib.Core.Bool.{Bool, true, false, cond}
-use Prim.Native.Nat.{ℕ, _-_, _<_}
+use Prim.Native.Nat.{ℕ, _<_}
 use native.Mathlib.Omega.{arith}
 use lib.Dec.{eqb}
 use lib.Ieee.{Float}
@@ -16,7 +16,8 @@ use Rattle.client.specs.declared.Snapshots.{Snapshots}
 use Rattle.client.specs.declared.ClientWorldSimulations.{ClientWorldSimulations}
 use Rattle.client.specs.declared.Ledger.{Ledger}
 use Rattle.client.specs.declared.Scene.{Scene}
-use Rattle.client.specs.Sides.{newSideOf, oldSideOf, worldOf, withWorld, withWorlds, withLedger, ledgerOf, takes, stampOf, oldStampOf, newStampOf, Played, still, andThen, doneAt}
+use Rattle.client.specs.Ledgers.{takes}
+use Rattle.client.specs.Sides.{newSideOf, oldSideOf, worldOf, withWorld, withWorlds, withLedger, ledgerOf, stampOf, oldStampOf, newStampOf, Played, still, andThen, doneAt}
 use Rattle.client_receive.specs.Receive.{offeredBase, offeredSide, receivedOf, fromFutureOf, freshOf, snapshotsBy, snapshotsOf, notesOf}
 use Rattle.client_skip.specs.Skip.{resetSide, resetAlong, skipsBack, emptiedBase, resetBoth, skippedOf, postUpdateOf}
 use Rattle.session_laws.proofs.SoundWorlds.{done-worlds, reset-stamp}

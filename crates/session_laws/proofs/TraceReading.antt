@@ -28,7 +28,7 @@ use Rattle.session_state.specs.declared.Session.{Session}
 use Rattle.session.specs.declared.IssueAnswer.{IssueAnswer}
 use Rattle.session_state.specs.Sound.{soundOf, connectedOf, worldsSound, overshootSound}
 use Rattle.inbox_passes.specs.Passes.{receiveOne, receivedIn, noteOne, notedIn}
-use Rattle.session.specs.Calls.{sceneOf, sceneAfter}
+use Rattle.session.specs.Calls.{sceneOf, sceneAfter, unreceived}
 use Rattle.session.specs.Issue.{unissued, entryOf, issuedBy, issuedOf, issueBy, issueOf}
 
 -- ---- the settings of a sound session
@@ -107,8 +107,8 @@ pub record Read (s : Session) (t : Scene) : Type 0 where
 
 pub read-in : (s : Session) (inbox : List ℕ) → Read s (sceneAfter s inbox)
 read-in s inbox =
-    let r : Received = receivedIn inbox (record { scene = sceneOf s; full = false }) in
-    let o : Offers (sceneOf s) (r .scene) = receives inbox (record { scene = sceneOf s; full = false }) in
+    let r : Received = receivedIn inbox (unreceived s) in
+    let o : Offers (sceneOf s) (r .scene) = receives inbox (unreceived s) in
     let a : Alike (s .worlds) (notedIn inbox (r .scene .worlds)) = alike-then (o .alike) (notes inbox (r .scene .worlds)) in
     record {
       alike = a;

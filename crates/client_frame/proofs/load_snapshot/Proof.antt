@@ -23,26 +23,18 @@ set-side-requires c κs = search needs
 get-ledger-requires : tie.Need-get-ledger-requires
 get-ledger-requires c κs = search needs
 
-wrapping-add-usize-requires : tie.Need-wrapping-add-usize-requires
-wrapping-add-usize-requires c κs = search needs
-
-wrapping-add-usize-requires-2 : tie.Need-wrapping-add-usize-requires-2
-wrapping-add-usize-requires-2 c κs = search needs
-
-wrapping-add-usize-requires-3 : tie.Need-wrapping-add-usize-requires-3
-wrapping-add-usize-requires-3 c κs = search needs
+count-load-requires : tie.Need-count-load-requires
+count-load-requires c κs = search needs
 
 set-ledger-requires : tie.Need-set-ledger-requires
 set-ledger-requires c κs = search needs
 
 same-length : tie.Need-same-length
-same-length c = puts-length (c .before .before .before .before .before .before .before .before .before .before .apply-completed-snapshot .ensures .puts)
+same-length c = puts-length (c .before .before .before .before .before .before .before .before .apply-completed-snapshot .ensures .puts)
 
 returns : tie.Need-returns
 returns c =
-    let z = c .before in
-    let y = z .before in
-    let x = y .before in
+    let x = c .before in
     let l = x .before in
     let p = l .before in
     let v = p .before in
@@ -56,9 +48,7 @@ returns c =
     (v .readied .ensures)
     (p .set-side .ensures)
     (l .get-ledger .ensures)
-    (x .wrapping-add-usize .ensures)
-    (y .wrapping-add-usize2 .ensures)
-    (z .wrapping-add-usize3 .ensures)
+    (x .count-load .ensures)
     (c .set-ledger .ensures)
 
 pub load-snapshot-spec : {M : Type 1} → statement M
@@ -71,9 +61,7 @@ load-snapshot-spec =
     readied-requires
     set-side-requires
     get-ledger-requires
-    wrapping-add-usize-requires
-    wrapping-add-usize-requires-2
-    wrapping-add-usize-requires-3
+    count-load-requires
     set-ledger-requires
     same-length
     returns)

@@ -1,24 +1,18 @@
 -- `take` meets its contract: what was put in is counted. Assumes nothing.
 use borrow.Author.Needs.{needs}
-use Rattle.client_receive.proofs.Arrivals.{takes-is}
+use mathlib.Core.Path.{ap, _∙_}
+use Rattle.client.specs.Ledgers.{takes}
 use Rattle.client_receive.proofs.take.Statement.{statement}
 use Rattle.client_receive.proofs.take.Tie as tie
 
 taken-by-requires : tie.Need-taken-by-requires
 taken-by-requires c κs = search needs
 
-wrapping-add-usize-requires : tie.Need-wrapping-add-usize-requires
-wrapping-add-usize-requires c κs = search needs
+count-taken-requires : tie.Need-count-taken-requires
+count-taken-requires c κs = search needs
 
 returns : tie.Need-returns
-returns c =
-    let a = c .before .before .args in
-    takes-is (a .l) (a .o) (c .before .taken-by .ensures) (c .wrapping-add-usize .ensures)
+returns c = c .count-taken .ensures ∙ ap (takes (c .before .before .args .l)) (c .before .taken-by .ensures)
 
 pub take-spec : {M : Type 1} → statement M
-take-spec =
-    tie.close
-    (tie.spec
-    taken-by-requires
-    wrapping-add-usize-requires
-    returns)
+take-spec = tie.close (tie.spec taken-by-requires count-taken-requires returns)

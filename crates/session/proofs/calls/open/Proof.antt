@@ -1,10 +1,9 @@
 -- `open` meets its contract: the session that the settings start, and whether they pass. Assumes nothing.
 use borrow.Author.Needs.{needs}
 use mathlib.Core.Path.{sym, _∙_}
-use mathlib.Core.Bool.{false, cond}
-use lib.IntN.{pos}
-use lib.Ieee.{fin, ofBits}
-use Rattle.session_state.specs.declared.Stage.the-variants.{SyncingClock}
+use mathlib.Core.Bool.{cond}
+use lib.Ieee.{ofBits}
+use Rattle.session_state.specs.Session.{startingOf}
 use Rattle.session.specs.Calls.{openOf, startOf}
 use Rattle.session.proofs.calls.open.Statement.{statement}
 use Rattle.session.proofs.calls.open.Tie as tie
@@ -20,11 +19,11 @@ passes-requires c κs = search needs
 
 returns : tie.Need-returns
 unfolding openOf startOf ofBits
-returns c = λ i. record { refusal = cond (sym (sym (c .before .passes .ensures) ∙ c .if1 .taken) i) 0 1; session = record { settings = c .before .before .before .before .args .settings; stage = SyncingClock; clock = c .before .before .before .new .ensures i; worlds = c .before .before .new2 .ensures i; overshoot = fin false 0 (pos 0) } }
+returns c = λ i. record { refusal = cond (sym (sym (c .before .passes .ensures) ∙ c .if1 .taken) i) 0 1; session = startingOf (c .before .before .before .before .args .settings) (c .before .before .before .new .ensures i) (c .before .before .new2 .ensures i) }
 
 returns-2 : tie.Need-returns-2
 unfolding openOf startOf ofBits
-returns-2 c = λ i. record { refusal = cond (sym (sym (c .before .passes .ensures) ∙ c .if1 .left) i) 0 1; session = record { settings = c .before .before .before .before .args .settings; stage = SyncingClock; clock = c .before .before .before .new .ensures i; worlds = c .before .before .new2 .ensures i; overshoot = fin false 0 (pos 0) } }
+returns-2 c = λ i. record { refusal = cond (sym (sym (c .before .passes .ensures) ∙ c .if1 .left) i) 0 1; session = startingOf (c .before .before .before .before .args .settings) (c .before .before .before .new .ensures i) (c .before .before .new2 .ensures i) }
 
 pub open-spec : {M : Type 1} → statement M
 open-spec = tie.close (tie.spec new-requires new-requires-2 passes-requires returns returns-2)

@@ -1,0 +1,27 @@
+-- A session, by what a call changes of it: what is not named is carried. A field that is added goes into the two definitions here that write a session out.
+-- Definitions only. Assumes nothing.
+use mathlib.Core.Bool.{false}
+use lib.IntN.{pos}
+use lib.Ieee.{Float, fin}
+use Rattle.settings.specs.declared.Settings.{Settings}
+use Rattle.clocksync.specs.declared.Clock.{Clock}
+use Rattle.client.specs.declared.ClientWorldSimulations.{ClientWorldSimulations}
+use Rattle.session_state.specs.declared.Stage.{Stage}
+use Rattle.session_state.specs.declared.Stage.the-variants.{SyncingClock}
+use Rattle.session_state.specs.declared.Session.{Session}
+
+-- a session as settings start it, with this clock and these worlds
+abbrev pub startingOf : Settings → Clock → ClientWorldSimulations → Session
+startingOf c k w = record { settings = c; stage = SyncingClock; clock = k; worlds = w; overshoot = fin false 0 (pos 0) }
+
+-- the session with another stage, clock and overshoot and with other worlds
+abbrev pub sessionWith : Session → Stage → Clock → ClientWorldSimulations → Float → Session
+sessionWith s st c w o = record { settings = s .settings; stage = st; clock = c; worlds = w; overshoot = o }
+
+-- with another clock
+abbrev pub withClock : Session → Clock → Session
+withClock s c = sessionWith s (s .stage) c (s .worlds) (s .overshoot)
+
+-- with other worlds
+abbrev pub withWorldsOf : Session → ClientWorldSimulations → Session
+withWorldsOf s w = sessionWith s (s .stage) (s .clock) w (s .overshoot)
