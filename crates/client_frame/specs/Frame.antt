@@ -29,7 +29,7 @@ use Rattle.client_publish.specs.Publish.{publishedOld, publishedBlended}
 use Rattle.client_frame.specs.declared.Rules.{Rules}
 
 -- the snapshot that a frame of this status loads
-unfoldable pub loadsOf : ReconciliationStatus → Queued → Queued
+abbrev pub loadsOf : ReconciliationStatus → Queued → Queued
 loadsOf AwaitingSnapshot q = q
 loadsOf (Blending t) q = Nothing
 loadsOf (Fastforwarding Healthy) q = Nothing
@@ -119,7 +119,7 @@ unfoldable pub simulatedOf : ℕ → Scene → Played
 simulatedOf m s = andThen (steppedSide s (oldSideOf (s .worlds))) (λ t. caughtOf m (oldStampOf (t .worlds)) t)
 
 -- a frame of this status that loads q publishes by the weight; any other publishes the old world
-unfoldable pub blendedBy : ReconciliationStatus → Queued → Bool
+abbrev pub blendedBy : ReconciliationStatus → Queued → Bool
 blendedBy AwaitingSnapshot Nothing = true
 blendedBy AwaitingSnapshot (Held t h) = false
 blendedBy (Blending t) q = true
@@ -137,7 +137,7 @@ unfoldable pub shownOf : ℕ → Bool → Scene → Played
 shownOf m b s = andThen (simulatedOf m s) (publishedBy b)
 
 -- a status is Fastforwarding with Obsolete
-unfoldable pub isObsolete : ReconciliationStatus → Bool
+abbrev pub isObsolete : ReconciliationStatus → Bool
 isObsolete AwaitingSnapshot = false
 isObsolete (Blending t) = false
 isObsolete (Fastforwarding Healthy) = false

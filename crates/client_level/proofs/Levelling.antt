@@ -45,7 +45,6 @@ use Rattle.client_frame.proofs.Catching.{turn, stop}
 
 -- a status that leaves both worlds level is one of equal stamps
 even-by : (e l v n : Bool) (t : Float) (q : Queued) → levelBy (statusBy e l v n t) q ≡ true → e ≡ true
-unfolding levelBy
 even-by true l v n t q h = refl
 even-by false l true n t q h = h
 even-by false l false true t q h = h
@@ -296,7 +295,7 @@ record Opens (rules : Rules) (s : Scene) : Type 0 where
 
 -- by the status and what is queued
 opens-by : (t : ReconciliationStatus) (q : Queued) (rules : Rules) (s : Scene) → statusOf (s .worlds) ≡ t → s .worlds .snapshots .queued ≡ q → levelBy t q ≡ true → Opens rules s
-unfolding openOf openedOf blendedOn loadedQueued blendedBy stopsOf snapshotOf loadsOf levelBy levelWeight
+unfolding openOf openedOf blendedOn loadedQueued stopsOf snapshotOf levelWeight
 opens-by AwaitingSnapshot Nothing rules s t e h =
     let p : Float = rules .progress in
     let q : snapshotOf s ≡ Nothing = (λ i. loadsOf (t i) (e i)) in

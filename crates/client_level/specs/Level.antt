@@ -23,7 +23,7 @@ abbrev pub worldWaits : Simulation → Bool
 worldWaits w = waitsOf (w .commands) (nextStamp (stampOf w))
 
 -- a frame of this status, with q queued, leaves both worlds level: it blends, or it awaits and nothing is queued
-unfoldable pub levelBy : ReconciliationStatus → Queued → Bool
+abbrev pub levelBy : ReconciliationStatus → Queued → Bool
 levelBy AwaitingSnapshot Nothing = true
 levelBy AwaitingSnapshot (Held t h) = false
 levelBy (Blending t) q = true

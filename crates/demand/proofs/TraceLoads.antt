@@ -163,7 +163,7 @@ unfolding resetNew doneAt
 reset-new-quiet s = reset-quiet (worldOf (s .worlds) (newSideOf (s .worlds))) (oldStampOf (s .worlds)) (newSideOf (s .worlds))
 
 opened-once : (t : ReconciliationStatus) (q : Queued) (p : Float) (s : Scene) (o : Timestamp) → snapshotWords (openedOf t (loadsOf t q) p s .words) ≡ countLoad (loadBy (loadsOf t q) o)
-unfolding openedOf loadsOf
+unfolding openedOf
 opened-once AwaitingSnapshot q p s o = loaded-once s q (oldSideOf (s .worlds)) o
 opened-once (Blending t) q p s o = loads-none
 opened-once (Fastforwarding Healthy) q p s o = loads-none

@@ -215,7 +215,7 @@ opens-reset s far =
     }
 
 opens-by : (t : ReconciliationStatus) (q : Queued) (p : Float) (s : Scene) → statusOf (s .worlds) ≡ t → Opens (loadsOf t q) s (openedOf t (loadsOf t q) p s)
-unfolding openedOf loadsOf loadedQueued
+unfolding openedOf loadedQueued
 opens-by AwaitingSnapshot Nothing p s e = opens-still s
 opens-by AwaitingSnapshot (Held t h) p s e = opens-swapped s t h (awaiting-equal (s .worlds) e)
 opens-by (Blending t) q p s e = opens-blended s p
@@ -229,7 +229,6 @@ unfolding openOf snapshotOf
 opens rules s = opens-by (statusOf (s .worlds)) (s .worlds .snapshots .queued) (rules .progress) s refl
 
 loads-fit : (t : ReconciliationStatus) (q : Queued) → QueuedFits q → QueuedFits (loadsOf t q)
-unfolding loadsOf
 loads-fit AwaitingSnapshot q h = h
 loads-fit (Blending t) q h = tt
 loads-fit (Fastforwarding Healthy) q h = tt
