@@ -12,6 +12,7 @@ use Rattle.timestamp.specs.Timestamps.{sumOf}
 use Rattle.tape.specs.Tape.{Puts}
 use Rattle.tape.specs.Words.{stepWord}
 use Rattle.tape.proofs.Writing.{puts-as}
+use Rattle.timestamp.proofs.Tests.{apart}
 use Rattle.command.specs.declared.Entry.{Entry}
 use Rattle.command.specs.declared.CommandBuffer.{CommandBuffer}
 use Rattle.command.specs.Buffer.{around, movedOf, takenOf, restOf, commandWords}
@@ -19,11 +20,6 @@ use Rattle.command.specs.Ranks.{waitsOf}
 use Rattle.command.proofs.Ledger.{moved-lossless, drained-lossless}
 use Rattle.simulation.specs.declared.Simulation.{Simulation}
 use Rattle.simulation.specs.World.{worldWith, nextStamp, Done, Does, stepOf}
-
--- both of two tests
-pub both : (a b : Bool) → a && b ≡ true → (a ≡ true) × (b ≡ true)
-both true b h = (refl, h)
-both false b h = let z : _≡_ {A = ℕ} 0 1 = cc in absurd (omega arith)
 
 nothing : (xs : List Entry) → length xs ≡ 0 → xs ≡ []
 nothing [] h = refl
@@ -42,7 +38,7 @@ unfolding stepOf waitsOf commandWords
 step-waits w side h =
     let b : CommandBuffer = w .commands in
     let n : Timestamp = nextStamp (b .timestamp) in
-    let two : (eqb (length (takenOf b n)) 0 ≡ true) × (eqb (movedOf b n .dropped) 0 ≡ true) = both _ _ h in
+    let two : (eqb (length (takenOf b n)) 0 ≡ true) × (eqb (movedOf b n .dropped) 0 ≡ true) = apart _ _ h in
     let taken : length (takenOf b n) ≡ 0 = eqb-true _ _ (two .0) in
     let dropped : movedOf b n .dropped ≡ 0 = eqb-true _ _ (two .1) in
     let rest : restOf b n ≡ b = drained-lossless b n taken in

@@ -38,7 +38,8 @@ use Rattle.client_frame.specs.Frame.{loadsOf, loadedQueued, clamped, blendedOn,
 use Rattle.command.specs.Ranks.{waitsOf}
 use Rattle.client_level.specs.Level.{worldWaits, levelBy, isLevel, levelWeight, levelWords}
 use Rattle.client_frame.proofs.Framing.{stated-plays}
-use Rattle.client_frame.proofs.Waiting.{both, movedOn, step-waits}
+use Rattle.client_frame.proofs.Waiting.{movedOn, step-waits}
+use Rattle.timestamp.proofs.Tests.{apart}
 use Rattle.client_frame.proofs.Catching.{turn, stop}
 
 -- ---- the tests
@@ -77,9 +78,9 @@ pub record Level (w : ClientWorldSimulations) (m : ℕ) : Type 0 where
 pub level-parts : (w : ClientWorldSimulations) (m : ℕ) → isLevel w m ≡ true → Level w m
 unfolding isLevel
 level-parts w m h =
-    let a = both (not (eqb m 0)) _ h in
-    let b = both (levelBy (statusOf w) (w .snapshots .queued)) _ (a .1) in
-    let c = both (worldWaits (w .left)) _ (b .1) in
+    let a = apart (not (eqb m 0)) _ h in
+    let b = apart (levelBy (statusOf w) (w .snapshots .queued)) _ (a .1) in
+    let c = apart (worldWaits (w .left)) _ (b .1) in
     record {
       some = eqb-false _ _ (not-true _ (a .0));
       status = b .0;

@@ -9,6 +9,8 @@ use client::Published;
 use client::Scene;
 use client::sides;
 
+pub mod ending;
+
 // The published states move on by one: the last one is now the one before.
 pub fn with_state(s: Scene, state: LastStamp) -> Scene
     ensures { λ r. ⌜ r ≡ withState s state ⌝ }

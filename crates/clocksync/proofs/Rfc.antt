@@ -1,6 +1,6 @@
 -- The offset of a clock message against RFC 5905: without rounding the Rust's operations give its offset with T2 = T3, and the code's float is what they give with each result rounded. Assumes nothing.
 use mathlib.Core.Path.{_≡_, refl, ap}
-use Prim.Native.Nat.{ℕ, _+_, _*_, _≤_, _<_, _^_}
+use Prim.Native.Nat.{ℕ, _+_, _*_, _≤_, _^_}
 use native.Mathlib.Nat.{mul-le-mul-right}
 use native.Mathlib.Omega.{arith}
 use lib.Dec.{T, lit<}

@@ -17,7 +17,7 @@ use Rattle.float_laws.proofs.Within.{Within, within-widen, within-of-tests, tes
 use Rattle.float_laws.proofs.Clock.{AllWithin, sumUp, mean-within, offset-within, add-finite}
 use Rattle.settings.specs.declared.Settings.{Settings}
 use Rattle.settings.specs.Settings.{hour64, samplesToDiscardOf, samplesToStoreOf, passesOf}
-use Rattle.settings.proofs.Tests.{apart}
+use Rattle.timestamp.proofs.Tests.{apart, both}
 use Rattle.settings.proofs.Limits.{Limited, period-within, discard-few, store-few, samples-pass}
 use Rattle.settings.proofs.Few.{needed-range}
 use Rattle.clocksync.specs.Offset.{offsetOf}
@@ -34,9 +34,6 @@ use Rattle.clocksync.proofs.Samples.{sorted-length}
 is : (b : Bool) → b ≡ true → T b
 is b p = subst T (sym p) tt
 
-both : (a b : Bool) → a ≡ true → b ≡ true → a && b ≡ true
-both a b p q = ap (λ (z : Bool). z && b) p ∙ q
-
 -- ---- samples within 2^33, by the test and by the number
 
 -- the test says that a sample is within 2^33
@@ -51,7 +48,7 @@ sample-within x h =
 pub sample-passes : (x : Float) → Within x (2 ^ 33) → sampleOk x ≡ true
 sample-passes x w =
     let t = tests-of-within x (fin true 1 (pos 33)) (fin false 1 (pos 33)) (2 ^ 33) (refl, refl) (refl, refl) w in
-    both (le (fin true 1 (pos 33)) x) (le x (fin false 1 (pos 33))) (is-true _ (t .1)) (is-true _ (t .2))
+    both (is-true (le (fin true 1 (pos 33)) x) (t .1)) (is-true (le x (fin false 1 (pos 33))) (t .2))
 
 pub samples-within : (xs : List Float) → samplesOk xs ≡ true → AllWithin (2 ^ 33) xs
 unfolding samplesOk
@@ -175,7 +172,7 @@ timer-ticks s c delta pass f w h =
     go : (t : Float) → T (finite t) → (b : Bool) → lt (s .period) t ≡ b → Limited nothing64 hour64 (s .period) → timerOk (cond {A = Ticked} b (record { clock = timedOf c nothing64; request = true }) (record { clock = timedOf c t; request = false }) .clock .timer) ≡ true
     go t ft true e p = refl
     go t ft false e p =
-        both (finite t) (le t hour64) (is-true (finite t) ft)
+        both (is-true (finite t) ft)
         (is-true (le t hour64) (float-le-trans t (s .period) hour64 (float-le-of-not-lt (s .period) t (p .number) ft (subst (λ (b : Bool). T (not b)) (sym e) tt)) (p .high)))
 
 -- the timer after a tick is a value of the format

@@ -1,13 +1,14 @@
 -- Order and range are kept by every operation. Assumes nothing.
 use mathlib.Core.Path.{_≡_, refl, sym, ap, _∙_}
 use mathlib.Core.List.{List, [], _∷_, _++_}
-use mathlib.Core.Bool.{Bool, true, false, not, cond, _&&_, false≢true}
-use Prim.Native.Nat.{ℕ, _+_, _-_, _≤_, _<_}
+use mathlib.Core.Bool.{Bool, true, false, not, cond, _&&_}
+use Prim.Native.Nat.{ℕ, _≤_, _<_}
 use native.Mathlib.Omega.{arith}
 use native.Mathlib.Decide.{decLe}
 use lib.Dec.{leb}
 use borrow.Author.Tests.{le-leb, lt-leb, leb-true}
 use Rattle.timestamp.specs.declared.Timestamp.{Timestamp}
+use Rattle.timestamp.proofs.Tests.{apart, both}
 use Rattle.command.specs.declared.Entry.{Entry}
 use Rattle.command.specs.Lists.{filterB, allB}
 use Rattle.command.specs.Buffer.{inRangeOf, laterThan, placedOf}
@@ -15,25 +16,17 @@ use Rattle.command.specs.Ranks.{rankOf}
 use Rattle.command.specs.Soundness.{inOrderAfter, inOrder, orderedIn}
 use Rattle.command.proofs.Ranks.{rankIn, in-range-rank, later-rank}
 
--- both of two tests
-pub and-both : (a b : Bool) → a && b ≡ true → (a ≡ true) × (b ≡ true)
-and-both true b h = (refl, h)
-and-both false b h = absurd (false≢true h)
-
-pub both-and : {a b : Bool} → a ≡ true → b ≡ true → a && b ≡ true
-both-and p q = rw (p, q)
-
 -- ---- in range and in order, as facts
 
 pub in-range-tells : (m : Timestamp) (e : Entry) → inRangeOf m e ≡ true → (16385 ≤ rankIn m e) × (rankIn m e ≤ 49150)
 unfolding inRangeOf
 in-range-tells m e h =
-    let a = and-both (leb 16385 (rankIn m e)) (leb (rankIn m e) 49150) (sym (in-range-rank (m .0) (e .stamp .0)) ∙ h) in
+    let a = apart (leb 16385 (rankIn m e)) (leb (rankIn m e) 49150) (sym (in-range-rank (m .0) (e .stamp .0)) ∙ h) in
     (leb-true 16385 (rankIn m e) (a .0), leb-true (rankIn m e) 49150 (a .1))
 
 pub in-range-holds : (m : Timestamp) (e : Entry) → 16385 ≤ rankIn m e → rankIn m e ≤ 49150 → inRangeOf m e ≡ true
 unfolding inRangeOf
-in-range-holds m e low high = in-range-rank (m .0) (e .stamp .0) ∙ both-and (le-leb 16385 (rankIn m e) low) (le-leb (rankIn m e) 49150 high)
+in-range-holds m e low high = in-range-rank (m .0) (e .stamp .0) ∙ both (le-leb 16385 (rankIn m e) low) (le-leb (rankIn m e) 49150 high)
 
 -- each entry is in range, none ranks below lo, and none below one before it
 abbrev pub Ordered : Timestamp → ℕ → List Entry → Type 0
@@ -51,8 +44,8 @@ after-tells : (m : Timestamp) (x : Entry) (ys : List Entry) → inOrderAfter m x
 unfolding inOrderAfter
 after-tells m x [] h g = tt
 after-tells m x (y ∷ ys) h g =
-    let a = and-both (not (laterThan m y x)) (inOrderAfter m y ys) h in
-    let b = and-both (inRangeOf m y) (allB (inRangeOf m) ys) g in
+    let a = apart (not (laterThan m y x)) (inOrderAfter m y ys) h in
+    let b = apart (inRangeOf m y) (allB (inRangeOf m) ys) g in
     let r = in-range-tells m y (b .0) in
     (leb-true (rankIn m x) (rankIn m y) (sym (not-later m x y) ∙ a .0), r .0, r .1, after-tells m y ys (a .1) (b .1))
 
@@ -61,14 +54,14 @@ unfolding inOrderAfter
 after-holds m x [] s = (refl, refl)
 after-holds m x (y ∷ ys) s =
     let r = after-holds m y ys (s .3) in
-    (both-and (not-later m x y ∙ le-leb (rankIn m x) (rankIn m y) (s .0)) (r .0), both-and (in-range-holds m y (s .1) (s .2)) (r .1))
+    (both (not-later m x y ∙ le-leb (rankIn m x) (rankIn m y) (s .0)) (r .0), both (in-range-holds m y (s .1) (s .2)) (r .1))
 
 pub ordered-tells : (m : Timestamp) (xs : List Entry) → orderedIn m xs ≡ true → Ordered m 0 xs
 unfolding inOrder
 ordered-tells m [] h = tt
 ordered-tells m (x ∷ xs) h =
-    let a = and-both (inOrderAfter m x xs) (inRangeOf m x && allB (inRangeOf m) xs) h in
-    let b = and-both (inRangeOf m x) (allB (inRangeOf m) xs) (a .1) in
+    let a = apart (inOrderAfter m x xs) (inRangeOf m x && allB (inRangeOf m) xs) h in
+    let b = apart (inRangeOf m x) (allB (inRangeOf m) xs) (a .1) in
     let r = in-range-tells m x (b .0) in
     (omega arith, r .0, r .1, after-tells m x xs (a .0) (b .1))
 
@@ -77,7 +70,7 @@ unfolding inOrder
 ordered-holds m [] s = refl
 ordered-holds m (x ∷ xs) s =
     let r = after-holds m x xs (s .3) in
-    both-and (r .0) (both-and (in-range-holds m x (s .1) (s .2)) (r .1))
+    both (r .0) (both (in-range-holds m x (s .1) (s .2)) (r .1))
 
 -- ---- some go
 

@@ -2,7 +2,7 @@
 use mathlib.Core.Path.{_≡_, refl, sym, ap, _∙_}
 use mathlib.Core.List.{List, [], _∷_, _++_}
 use mathlib.Core.Bool.{Bool, true, false, not, cond, _&&_, and-false}
-use Prim.Native.Nat.{ℕ, _+_, _-_, _^_, _≤_, _<_}
+use Prim.Native.Nat.{ℕ, _+_, _^_, _≤_, _<_}
 use native.Mathlib.Omega.{arith}
 use native.Mathlib.Numerals.{add-one}
 use lib.Dec.{leb, ltb}
@@ -20,7 +20,8 @@ use Rattle.command.specs.Ranks.{soundRank}
 use Rattle.command.specs.Soundness.{inOrderAfter, inOrder, orderedIn, smallHandle, soundBuffer}
 use Rattle.command.proofs.Holding.{held-laid, stamp-laid, len-laid, held-len}
 use Rattle.command.proofs.Ranks.{rankIn, in-range-rank, later-rank}
-use Rattle.command.proofs.Ordered.{and-both, both-and, Ordered, ordered-tells, ordered-holds, ordered-filter, ordered-moved, ordered-placed}
+use Rattle.command.proofs.Ordered.{Ordered, ordered-tells, ordered-holds, ordered-filter, ordered-moved, ordered-placed}
+use Rattle.timestamp.proofs.Tests.{apart, both}
 use Rattle.command.proofs.Ledger.{Ways, is-out, is-full, is-taken, insertion-ways, placed-length, moved-held, moved-stamp, moved-len, rest-held, rest-stamp, rest-len, emptied-held, emptied-len}
 
 -- ---- the parts of soundness
@@ -33,13 +34,13 @@ pub record IsSound (b : CommandBuffer) : Type 0 where
 pub sound-tells : (b : CommandBuffer) → soundBuffer b ≡ true → IsSound b
 unfolding soundBuffer
 sound-tells b h =
-    let a = and-both (leb (b .len) 64 && orderedIn (b .timestamp) (held b)) (allB smallHandle (held b)) h in
-    let c = and-both (leb (b .len) 64) (orderedIn (b .timestamp) (held b)) (a .0) in
+    let a = apart (leb (b .len) 64 && orderedIn (b .timestamp) (held b)) (allB smallHandle (held b)) h in
+    let c = apart (leb (b .len) 64) (orderedIn (b .timestamp) (held b)) (a .0) in
     record { few = leb-true (b .len) 64 (c .0); order = ordered-tells (b .timestamp) (held b) (c .1); small = a .1 }
 
 pub sound-holds : (b : CommandBuffer) → IsSound b → soundBuffer b ≡ true
 unfolding soundBuffer
-sound-holds b s = both-and (both-and (le-leb (b .len) 64 (s .few)) (ordered-holds (b .timestamp) (held b) (s .order))) (s .small)
+sound-holds b s = both (both (le-leb (b .len) 64 (s .few)) (ordered-holds (b .timestamp) (held b) (s .order))) (s .small)
 
 -- no more than 64 are held
 pub sound-few : (b : CommandBuffer) → soundBuffer b ≡ true → length (held b) ≤ 64
@@ -50,22 +51,22 @@ sound-few b h = omega (arith, sound-tells b h .few, held-len b)
 small-filter : (p : Entry → Bool) (xs : List Entry) → allB smallHandle xs ≡ true → allB smallHandle (filterB p xs) ≡ true
 small-filter p [] h = refl
 small-filter p (x ∷ xs) h =
-    let a = and-both (smallHandle x) (allB smallHandle xs) h in
+    let a = apart (smallHandle x) (allB smallHandle xs) h in
     step (p x) (a .0) (small-filter p xs (a .1))
   where
     step : (v : Bool) → smallHandle x ≡ true → allB smallHandle (filterB p xs) ≡ true → allB smallHandle (cond v (x ∷ filterB p xs) (filterB p xs)) ≡ true
-    step true e r = both-and e r
+    step true e r = both e r
     step false e r = r
 
 small-append : (xs ys : List Entry) → allB smallHandle xs ≡ true → allB smallHandle ys ≡ true → allB smallHandle (xs ++ ys) ≡ true
 small-append [] ys h g = g
 small-append (x ∷ xs) ys h g =
-    let a = and-both (smallHandle x) (allB smallHandle xs) h in
-    both-and (a .0) (small-append xs ys (a .1) g)
+    let a = apart (smallHandle x) (allB smallHandle xs) h in
+    both (a .0) (small-append xs ys (a .1) g)
 
 small-placed : (m : Timestamp) (e : Entry) (xs : List Entry) → smallHandle e ≡ true → allB smallHandle xs ≡ true → allB smallHandle (placedOf m e xs) ≡ true
 unfolding placedOf
-small-placed m e xs h g = small-append (filterB (λ x. not (laterThan m e x)) xs) (e ∷ filterB (laterThan m e) xs) (small-filter (λ x. not (laterThan m e x)) xs g) (both-and h (small-filter (laterThan m e) xs g))
+small-placed m e xs h g = small-append (filterB (λ x. not (laterThan m e x)) xs) (e ∷ filterB (laterThan m e) xs) (small-filter (λ x. not (laterThan m e x)) xs g) (both h (small-filter (laterThan m e) xs g))
 
 -- ---- every operation
 

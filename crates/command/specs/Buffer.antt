@@ -10,6 +10,7 @@ use lib.Signed.{leZ}
 use lib.ListN.{length, take}
 use Rattle.timestamp.specs.declared.Timestamp.{Timestamp}
 use Rattle.timestamp.specs.Timestamps.{differenceOf, signedOf, inRange}
+use Rattle.refusals.specs.Limits.{bufferRoom}
 use Rattle.tape.specs.Words.{commandWord}
 use Rattle.tape.specs.Tape.{written}
 use Rattle.command.specs.Lists.{filterB, pad}
@@ -32,7 +33,7 @@ blank = record { stamp = record { 0 = 0 }; handle = 0 }
 
 -- the buffer of given entries and midpoint, its unused slots blank
 unfoldable pub laid : List Entry → Timestamp → CommandBuffer
-laid xs t = record { entries = pad 64 blank xs; len = length xs; timestamp = t }
+laid xs t = record { entries = pad bufferRoom blank xs; len = length xs; timestamp = t }
 
 -- the signed difference of an entry's stamp to a stamp
 abbrev pub signedTo : Timestamp → Entry → ℤ
@@ -63,7 +64,7 @@ pickInsertion false a b = b
 unfoldable pub insertedOf : CommandBuffer → Entry → Insertion
 insertedOf b e =
     pickInsertion (inRangeOf (b .timestamp) e)
-    (pickInsertion (ltb (length (held b)) 64)
+    (pickInsertion (ltb (length (held b)) bufferRoom)
     (record { outcome = Taken; buffer = laid (placedOf (b .timestamp) e (held b)) (b .timestamp) })
     (record { outcome = Full; buffer = b }))
     (record { outcome = OutOfRange; buffer = b })
@@ -73,12 +74,6 @@ abbrev pub takenBy : Outcome → ℕ
 takenBy Taken = 1
 takenBy OutOfRange = 0
 takenBy Full = 0
-
--- the number under which an insertion is turned down: 23 for a command for a buffer that takes it but holds 64; one out of range is passed over
-abbrev pub refusalBy : Outcome → ℕ
-refusalBy Taken = 0
-refusalBy OutOfRange = 0
-refusalBy Full = 23
 
 -- a buffer of whose entries some go and the others are left: where none go its slots stay as they are, and else it is laid out anew
 unfoldable pub leaving : (gone left : List Entry) → CommandBuffer → CommandBuffer

@@ -5,6 +5,7 @@ use mathlib.Core.Path.{_≡_}
 use mathlib.Core.Bool.{Bool, not, _&&_}
 use lib.Dec.{eqb, leb, ltb}
 use lib.ListN.{length}
+use Rattle.refusals.specs.Limits.{bufferRoom}
 use Rattle.timestamp.specs.declared.Timestamp.{Timestamp}
 use Rattle.timestamp.specs.Timestamps.{differenceOf, sumOf}
 use Rattle.command.specs.declared.Entry.{Entry}
@@ -28,7 +29,7 @@ between m lo hi e = spanned (m .0) lo hi (e .stamp .0)
 -- a buffer that is laid out has room for the entries of another that are of such a rank
 pub record HasRoom (a b : CommandBuffer) (m : Timestamp) (lo hi : ℕ) : Type 0 where
   pub whole : a ≡ laid (held a) (a .timestamp)
-  pub room : length (held a) + length (filterB (between m lo hi) (held b)) ≤ 64
+  pub room : length (held a) + length (filterB (between m lo hi) (held b)) ≤ bufferRoom
 
 -- the buffer of which exactly the entries of such a rank stay, and how many go
 unfoldable pub siftedOf : CommandBuffer → Timestamp → ℕ → ℕ → Drained

@@ -1,9 +1,9 @@
 -- A sound buffer, by document 01's "Sound" under "Turned down by the session": counts within limits, entries in order and range, every handle within 24 bits.
 -- Definitions only. Assumes nothing.
-use Prim.Native.Nat.{_^_}
 use mathlib.Core.List.{List, [], _∷_}
 use mathlib.Core.Bool.{Bool, true, not, _&&_}
 use lib.Dec.{leb, ltb}
+use Rattle.refusals.specs.Limits.{handleRoom, bufferRoom}
 use Rattle.timestamp.specs.declared.Timestamp.{Timestamp}
 use Rattle.command.specs.declared.Entry.{Entry}
 use Rattle.command.specs.declared.CommandBuffer.{CommandBuffer}
@@ -26,8 +26,8 @@ orderedIn m xs = inOrder m xs && allB (inRangeOf m) xs
 
 -- a handle is within 24 bits
 abbrev pub smallHandle : Entry → Bool
-smallHandle e = ltb (e .handle) (2 ^ 24)
+smallHandle e = ltb (e .handle) handleRoom
 
 -- a buffer is sound; what its unused slots hold does not matter
 unfoldable pub soundBuffer : CommandBuffer → Bool
-soundBuffer b = leb (b .len) 64 && orderedIn (b .timestamp) (held b) && allB smallHandle (held b)
+soundBuffer b = leb (b .len) bufferRoom && orderedIn (b .timestamp) (held b) && allB smallHandle (held b)

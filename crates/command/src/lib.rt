@@ -79,7 +79,11 @@ pub fn held_count(buffer: CommandBuffer) -> usize
     ensures { λ r. ⌜ r ≡ length (held buffer) ⌝ }
 {
     let n = buffer.len;
-    if n < 64 { n } else { 64 }
+    if n < refusals::BUFFER_ROOM {
+        n
+    } else {
+        refusals::BUFFER_ROOM
+    }
 }
 
 // Moves the midpoint and keeps exactly the entries in the new range.
@@ -120,7 +124,7 @@ pub fn insert(buffer: CommandBuffer, entry: Entry) -> Insertion
             buffer,
         };
     }
-    if 64 <= buffer.len {
+    if refusals::BUFFER_ROOM <= buffer.len {
         return Insertion {
             outcome: Outcome::Full,
             buffer,
@@ -198,7 +202,7 @@ pub fn sound(buffer: CommandBuffer) -> bool
     ensures { λ r. ⌜ r ≡ soundBuffer buffer ⌝ }
 {
     let n = buffer.len;
-    if 64 < n {
+    if refusals::BUFFER_ROOM < n {
         return false;
     }
     let m = buffer.timestamp;

@@ -15,8 +15,8 @@ use Rattle.client.specs.declared.DisplayTime.the-variants.{NotDisplayed, Displa
 use Rattle.client.specs.declared.Scene.{Scene}
 use Rattle.session_laws.proofs.SoundCalls.{update-stays-sound, update-fits}
 use Rattle.session_laws.proofs.TraceArrivals.{alike-lag}
-use Rattle.fixed_timestepper.specs.declared.Stop.{Stop}
-use Rattle.fixed_timestepper.specs.declared.Stop.the-variants.{Done, TooManyFrames, StatusStops, WeightStops}
+use Rattle.refusals.specs.declared.Stop.{Stop}
+use Rattle.refusals.specs.declared.Stop.the-variants.{Done, TooManyFrames, StatusStops}
 use Rattle.fixed_timestepper.specs.TimeKeeper.{Event, Run}
 use Rattle.session_state.specs.declared.Stage.{Stage}
 use Rattle.session_state.specs.declared.Stage.the-variants.{SyncingClock, SyncingInitialState, Ready}

@@ -20,13 +20,14 @@ use Rattle.client.specs.declared.ClientWorldSimulations.{ClientWorldSimulations
 use Rattle.client.specs.declared.Scene.{Scene}
 use Rattle.client.specs.Sides.{oldStampOf, withWorlds, andThen}
 use Rattle.client_frame.specs.Frame.{frameOf}
-use Rattle.client_skip.specs.Skip.{skippedOf, postUpdateOf}
+use Rattle.client_skip.specs.Skip.{skippedOf}
+use Rattle.client_publish.specs.Ending.{postUpdateOf}
 use Rattle.session_laws.proofs.TraceStamps.{lagOf, lag-is, lag-there, next-sum}
 use Rattle.session_laws.proofs.TraceSteps.{lagIn}
 use Rattle.session_laws.proofs.TraceFrames.{QueuedFits, Fitting, OneFrame, one-frame}
 use Rattle.session_laws.proofs.TraceArrivals.{Alike, alike-fitting, alike-lag, post-alike, post-queued, OneSkip, one-skip}
-use Rattle.fixed_timestepper.specs.declared.Stop.{Stop}
-use Rattle.fixed_timestepper.specs.declared.Stop.the-variants.{Done, TooManyFrames, StatusStops, WeightStops}
+use Rattle.refusals.specs.declared.Stop.{Stop}
+use Rattle.refusals.specs.declared.Stop.the-variants.{Done, TooManyFrames, StatusStops}
 use Rattle.fixed_timestepper.specs.TimeKeeper.{rulesOf, Event, FrameFrom, SkipFrom, Run, ended, framed, compensatedOf, correctedOf, skipped, endsWith, advancedOf, updatedOf}
 use Rattle.fixed_timestepper.proofs.Induction.{frame, later, Runs, run-by, Ends, ended-by}
 use Rattle.demand.specs.Demand.{newIn, framesIn, distancesIn, wordsIn, Ruled, newSteps, SameWorlds, Walk}

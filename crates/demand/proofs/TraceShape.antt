@@ -11,10 +11,10 @@ use Rattle.settings.specs.declared.Settings.{Settings}
 use Rattle.clocksync.specs.Clock.{tickedOf, listenOf}
 use Rattle.client.specs.declared.Scene.{Scene}
 use Rattle.client.specs.Sides.{oldStampOf}
-use Rattle.client_skip.specs.Skip.{tweenOf, weightOk}
+use Rattle.client_publish.specs.Ending.{tweenOf, weightOk}
 use Rattle.client_frame.specs.Frame.{frameOf, frameStops}
-use Rattle.fixed_timestepper.specs.declared.Stop.{Stop}
-use Rattle.fixed_timestepper.specs.declared.Stop.the-variants.{Done, TooManyFrames, StatusStops, WeightStops}
+use Rattle.refusals.specs.declared.Stop.{Stop}
+use Rattle.refusals.specs.declared.Stop.the-variants.{Done, TooManyFrames, StatusStops}
 use Rattle.fixed_timestepper.specs.TimeKeeper.{nought, rulesOf, Event, FrameFrom, SkipFrom, Run, ended, framed, goesOn, whileBelow, runOf, compensatedOf, correctedOf, skipsOf, skipped, maybeSkipped, finishedOf, concluded, advancedOf, updatedOf}
 use Rattle.inbox_passes.specs.Passes.{heardIn, receivedIn}
 use Rattle.session_state.specs.declared.Stage.{Stage}

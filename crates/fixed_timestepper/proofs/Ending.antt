@@ -15,12 +15,11 @@ use Rattle.settings.specs.Tweening.{shapedOf}
 use Rattle.client.specs.declared.Shown.{Shown}
 use Rattle.client.specs.declared.ClientWorldSimulations.{ClientWorldSimulations}
 use Rattle.client.specs.Sides.{oldStampOf, andThen, Plays}
-use Rattle.client_skip.specs.Skip.{skippedOf, tweenOf, postUpdateOf}
-use Rattle.fixed_timestepper.specs.declared.Stop.{Stop}
-use Rattle.fixed_timestepper.specs.declared.Stop.the-variants.{Done}
+use Rattle.client_skip.specs.Skip.{skippedOf}
+use Rattle.client_publish.specs.Ending.{tweenOf, postUpdateOf}
 use Rattle.fixed_timestepper.specs.declared.Advanced.{Advanced}
-use Rattle.fixed_timestepper.specs.TimeKeeper.{absOf, driftOf, correctedOf, correctedOvershoot, Run, skipsOf, skipped, maybeSkipped}
-use Rattle.fixed_timestepper.specs.Inner.{runBy, Skips, endedOf}
+use Rattle.fixed_timestepper.specs.TimeKeeper.{absOf, driftOf, correctedOf, correctedOvershoot, Run, skipsOf, skipped, maybeSkipped, endedOf}
+use Rattle.fixed_timestepper.specs.Inner.{runBy, Skips}
 
 -- the test for a skip, by the calls that make it
 pub skips-is : (stamp : Timestamp) (overshoot server : Float) (c : Settings) {old : Timestamp} {d a : Float} {b : Bool}
@@ -60,7 +59,7 @@ pub skip-made : (a : Advanced) (server : Float) (c : Settings) {was last : List 
     → skipsOf (oldStampOf (a .scene .worlds)) (a .overshoot) server c ≡ true
     → target ≡ fromSeconds server (c .timestep) → corrected .0 ≡ bitsOf (ceilStampOf target) → from ≡ floatOf (corrected .0) → difference ≡ floatDifferenceOf from target → overshoot ≡ asSeconds difference (c .timestep)
     → Plays (skippedOf (a .scene) corrected) was (a .at) r last
-    → Skips a server c was (record { scene = r .scene; overshoot = overshoot; frames = a .frames; at = r .at; stop = Done }) last
+    → Skips a server c was (record { scene = r .scene; overshoot = overshoot; frames = a .frames; at = r .at; stop = a .stop }) last
 unfolding skipped andThen correctedOf correctedOvershoot
 skip-made a server c {was} {last} {target} {from} {difference} {overshoot} {corrected} {r} h ht hc hf hd ho p =
     let e : corrected ≡ correctedOf server (c .timestep) = ap (λ (n : ℕ). record { 0 = n }) (hc ∙ ap (λ (x : Float). bitsOf (ceilStampOf x)) ht) in

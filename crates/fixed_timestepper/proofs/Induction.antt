@@ -14,10 +14,11 @@ use Rattle.client.specs.declared.Scene.{Scene}
 use Rattle.client.specs.Sides.{newSideOf, oldSideOf, oldStampOf, newStampOf, withWorlds, Played, still, andThen}
 use Rattle.client_frame.specs.Frame.{frameOf, frameStops}
 use Rattle.client_frame.proofs.Induction.{Law, Chains, quietly, quiet-by, still-by, either-by, new-below, old-below, frame-by, resetAt, Moves, parts-by}
-use Rattle.client_skip.specs.Skip.{resetSide, resetAlong, skipsBack, emptiedBase, resetBoth, skippedOf, tweenOf, weightOk, postUpdateOf}
-use Rattle.fixed_timestepper.specs.declared.Stop.{Stop}
-use Rattle.fixed_timestepper.specs.declared.Stop.the-variants.{Done, TooManyFrames, StatusStops, WeightStops}
-use Rattle.fixed_timestepper.specs.TimeKeeper.{nought, compensatedOf, rulesOf, Run, ended, framed, goesOn, whileBelow, runOf, correctedOf, skipsOf, skipped, maybeSkipped, endsWith, finishedOf, concluded, advancedOf, updatedOf}
+use Rattle.client_skip.specs.Skip.{resetSide, resetAlong, skipsBack, emptiedBase, resetBoth, skippedOf}
+use Rattle.client_publish.specs.Ending.{tweenOf, postUpdateOf}
+use Rattle.refusals.specs.declared.Stop.{Stop}
+use Rattle.refusals.specs.declared.Stop.the-variants.{Done, TooManyFrames, StatusStops}
+use Rattle.fixed_timestepper.specs.TimeKeeper.{nought, compensatedOf, rulesOf, Run, ended, framed, goesOn, whileBelow, runOf, correctedOf, skipsOf, skipped, maybeSkipped, endsWith, skippedBy, advancedOf, unendedOf, updatedOf}
 
 -- the frame of a scene
 abbrev pub frame : Settings → Scene → Played
@@ -57,12 +58,11 @@ module _ {c : Settings} {R : ℕ → Scene → Float → Run → Type 0} (h : Ru
 
 -- ---- what comes after them
 
--- a thing R of the frames gives a thing E of the update: no skip, a skip, what is displayed at the end, and a weight that does not pass
+-- a thing R of the frames gives a thing E of the update: no skip, a skip, and what is displayed at the end
 pub record Ends (c : Settings) (server : Float) (R E : Run → Type 0) : Type 0 where
   pub rests : (r : Run) → R r → E r
   pub skips : (r : Run) → R r → E (skipped r server c)
-  pub shows : (r : Run) (t : Float) (lag : ℕ) → E r → E (endsWith r (withWorlds (r .played .scene) (postUpdateOf (r .played .scene .worlds) t lag)) Done)
-  pub stops : (r : Run) → E r → E (endsWith r (r .played .scene) WeightStops)
+  pub shows : (r : Run) (t : Float) (lag : ℕ) → E r → E (endsWith r (postUpdateOf (r .played .scene .worlds) t lag))
 
 one-of : (E : Run → Type 0) (b : Bool) (p q : Run) → E p → E q → E (cond b p q)
 one-of E true p q x y = x
@@ -73,22 +73,18 @@ module _ {c : Settings} {server : Float} {R E : Run → Type 0} (h : Ends c serv
   unfolding maybeSkipped
   maybe-by r x = one-of E (skipsOf (oldStampOf (r .played .scene .worlds)) (r .overshoot) server c) _ _ (h .skips r x) (h .rests r x)
 
-  finished-by : (r : Run) → E r → E (finishedOf r c)
-  unfolding finishedOf
-  finished-by r x =
-      one-of E (weightOk (tweenOf (r .overshoot) (c .timestep))) _ _ (h .shows r (shapedOf (c .method) (tweenOf (r .overshoot) (c .timestep))) (bitsOf (lagFrameCountOf c)) x) (h .stops r x)
-
-  -- the frames, by why they ended, and what comes after them
-  pub concluded-by : (x : Stop) (r : Run) → R r → E (concluded x r server c)
-  concluded-by Done r k = finished-by (maybeSkipped r server c) (maybe-by r k)
-  concluded-by TooManyFrames r k = h .rests r k
-  concluded-by StatusStops r k = h .rests r k
-  concluded-by WeightStops r k = h .rests r k
+  -- the frames, by why they ended, and the skip after them
+  after-by : (x : Stop) (r : Run) → R r → E (skippedBy x r server c)
+  after-by Done r k = maybe-by r k
+  after-by TooManyFrames r k = h .rests r k
+  after-by StatusStops r k = h .rests r k
 
   -- an update of the worlds
   pub ended-by : (s : Scene) (o delta : Float) → R (advancedOf c s o delta server) → E (updatedOf c s o delta server)
-  unfolding updatedOf
-  ended-by s o delta k = concluded-by (advancedOf c s o delta server .stop) (advancedOf c s o delta server) k
+  unfolding updatedOf unendedOf
+  ended-by s o delta k =
+      let u : Run = unendedOf c s o delta server in
+      h .shows u (shapedOf (c .method) (tweenOf (u .overshoot) (c .timestep))) (bitsOf (lagFrameCountOf c)) (after-by (advancedOf c s o delta server .stop) (advancedOf c s o delta server) k)
 
 -- ---- a law of an update
 
@@ -127,7 +123,6 @@ module _ {P : Law} {c : Settings} {one skip : ℕ} (h : Updates P c one skip) wh
         rests = λ r k. h .chains .more n (n + skip) s (r .played) (omega arith) k;
         skips = λ r k. skipped-by n s r server k;
         shows = λ r t lag k. quiet-by (h .chains) (n + skip) s (r .played) (λ (u : Scene). withWorlds u (postUpdateOf (u .worlds) t lag)) k (h .ends (r .played .scene) t lag);
-        stops = λ r k. k;
       }
 
   -- the worlds' part of an update

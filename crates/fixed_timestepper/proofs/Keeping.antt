@@ -2,7 +2,7 @@
 use mathlib.Core.Path.{_≡_, ap, sym, _∙_}
 use mathlib.Core.Bool.{Bool, true, false, cond}
 use lib.IntN.{negsuc}
-use lib.Ieee.{Float, fin, binary64, sub, mul, neg, lt}
+use lib.Ieee.{Float, fin, binary64, sub, mul, lt}
 use Rattle.timestamp.specs.declared.Timestamp.{Timestamp}
 use Rattle.timestamp.specs.FloatTimestamps.{fromSeconds, floatDifferenceOf, asSeconds, floatOf}
 use Rattle.settings.specs.declared.Settings.{Settings}

@@ -16,7 +16,7 @@ use Rattle.client.specs.declared.Shown.{Shown}
 use Rattle.client.specs.Sides.{oldStampOf, Plays}
 use Rattle.client_level.specs.Level.{isLevel}
 use Rattle.client_level.proofs.Levelling.{level-stops, level-stamp}
-use Rattle.fixed_timestepper.specs.declared.Stop.the-variants.{Done}
+use Rattle.refusals.specs.declared.Stop.the-variants.{Done}
 use Rattle.fixed_timestepper.specs.declared.Advanced.{Advanced}
 use Rattle.fixed_timestepper.specs.TimeKeeper.{nought, rulesOf, Run, ended, framed, goesOn, runOf, skipsOf, Advances}
 use Rattle.fixed_timestepper.specs.Inner.{isSingle, levelRun, Skips}

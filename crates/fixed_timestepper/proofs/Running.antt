@@ -15,8 +15,8 @@ use Rattle.client.specs.declared.Framed.{Framed}
 use Rattle.client_frame.specs.declared.Rules.{Rules}
 use Rattle.client_frame.specs.Frame.{frameOf, frameStops, Frames}
 use Rattle.client_frame.proofs.Bounds.{Few, frame-short}
-use Rattle.fixed_timestepper.specs.declared.Stop.{Stop}
-use Rattle.fixed_timestepper.specs.declared.Stop.the-variants.{Done, TooManyFrames, StatusStops}
+use Rattle.refusals.specs.declared.Stop.{Stop}
+use Rattle.refusals.specs.declared.Stop.the-variants.{Done, TooManyFrames, StatusStops}
 use Rattle.fixed_timestepper.specs.TimeKeeper.{nought, rulesOf, Run, ended, framed, goesOn, whileBelow, runOf, Advances}
 use Rattle.fixed_timestepper.proofs.Induction.{frame, Runs, run-by}
 

@@ -1,4 +1,4 @@
--- An update of the worlds, over plain values: the frames and the skip, and the end after them. Assumes nothing.
+-- An update of the worlds, over plain values: the frames and the skip. Assumes nothing.
 use mathlib.Core.Path.{_≡_, refl, ap, sym, _∙_, subst}
 use mathlib.Core.Bool.{Bool, true, false, cond}
 use mathlib.Core.List.{List, [], _++_, append-nil}
@@ -12,11 +12,11 @@ use Rattle.client.specs.declared.Scene.{Scene}
 use Rattle.client.specs.Sides.{oldStampOf, andThen}
 use Rattle.simulation.specs.World.{nextStamp}
 use Rattle.client_level.specs.Level.{isLevel}
-use Rattle.fixed_timestepper.specs.declared.Stop.{Stop}
-use Rattle.fixed_timestepper.specs.declared.Stop.the-variants.{Done, TooManyFrames, StatusStops, WeightStops}
+use Rattle.refusals.specs.declared.Stop.{Stop}
+use Rattle.refusals.specs.declared.Stop.the-variants.{Done}
 use Rattle.fixed_timestepper.specs.declared.Advanced.{Advanced}
-use Rattle.fixed_timestepper.specs.TimeKeeper.{Run, runOf, compensatedOf, skipsOf, skipped, maybeSkipped, concluded, advancedOf, updatedOf, Advances}
-use Rattle.fixed_timestepper.specs.Inner.{isSingle, runBy, Skips, skippedBy, unendedOf, endedBy}
+use Rattle.fixed_timestepper.specs.TimeKeeper.{Run, runOf, compensatedOf, skipsOf, skipped, maybeSkipped, advancedOf, Advances, skippedBy, unendedOf}
+use Rattle.fixed_timestepper.specs.Inner.{isSingle, runBy, Skips}
 use Rattle.fixed_timestepper.proofs.Levels.{level-done, level-stays}
 
 -- ---- the skip turns on the scene and the overshoot of a run alone
@@ -90,24 +90,3 @@ module _ (c : Settings) (s : Scene) (o delta server : Float) {start d : Float} {
   pub update-level : {a : Advanced} {was last : List ℕ} → isSingle start (c .timestep) ≡ true → isLevel (s .worlds) (c .m) ≡ true → skipsOf (nextStamp stamp) (add binary64 start (c .timestep)) server c ≡ false
       → Advances (runOf 65 c s start) was a last → Advances (unendedOf c s o delta server) was a last
   update-level single level k h = update-done h (level-done c s start single level h) (level-stays c s start single level hs k h)
-
--- ---- an update and what it ends with
-
--- a skip leaves a run that ended by itself ended by itself
-skip-done : (r : Run) (server : Float) (c : Settings) (b : Bool) → r .stop ≡ Done → cond b (skipped r server c) r .stop ≡ Done
-unfolding skipped
-skip-done r server c true e = refl
-skip-done r server c false e = e
-
-ends-by : (x : Stop) (r : Run) (server : Float) (c : Settings) → r .stop ≡ x → endedBy (skippedBy x r server c .stop) (skippedBy x r server c) c ≡ concluded x r server c
-unfolding maybeSkipped
-ends-by Done r server c e =
-    ap (λ (x : Stop). endedBy x (maybeSkipped r server c) c) (skip-done r server c (skipsOf (oldStampOf (r .played .scene .worlds)) (r .overshoot) server c) e)
-ends-by TooManyFrames r server c e = ap (λ (x : Stop). endedBy x r c) e
-ends-by StatusStops r server c e = ap (λ (x : Stop). endedBy x r c) e
-ends-by WeightStops r server c e = ap (λ (x : Stop). endedBy x r c) e
-
--- one update of the worlds is its frames and its skip, and then what it ends with
-pub ends-is : (c : Settings) (s : Scene) (o delta server : Float) → endedBy (unendedOf c s o delta server .stop) (unendedOf c s o delta server) c ≡ updatedOf c s o delta server
-unfolding unendedOf updatedOf
-ends-is c s o delta server = ends-by (advancedOf c s o delta server .stop) (advancedOf c s o delta server) server c refl

@@ -6,20 +6,13 @@ use mathlib.Core.List.{List, []}
 use mathlib.Core.Path.{_≡_}
 use lib.Ieee.{Float, binary64, add, lt}
 use Rattle.timestamp.specs.declared.Timestamp.{Timestamp}
-use Rattle.timestamp.specs.Timestamps.{bitsOf}
 use Rattle.tape.specs.Tape.{Puts}
 use Rattle.settings.specs.declared.Settings.{Settings}
-use Rattle.settings.specs.Settings.{lagFrameCountOf}
-use Rattle.settings.specs.Tweening.{shapedOf}
 use Rattle.client.specs.declared.ClientWorldSimulations.{ClientWorldSimulations}
-use Rattle.client.specs.declared.Scene.{Scene}
 use Rattle.simulation.specs.World.{nextStamp}
 use Rattle.client_level.specs.Level.{isLevel}
-use Rattle.client_skip.specs.Skip.{tweenOf, postUpdateOf}
-use Rattle.fixed_timestepper.specs.declared.Stop.{Stop}
-use Rattle.fixed_timestepper.specs.declared.Stop.the-variants.{Done, TooManyFrames, StatusStops, WeightStops}
 use Rattle.fixed_timestepper.specs.declared.Advanced.{Advanced}
-use Rattle.fixed_timestepper.specs.TimeKeeper.{nought, Run, skipsOf, maybeSkipped, finishedOf, advancedOf}
+use Rattle.fixed_timestepper.specs.TimeKeeper.{nought, Run, skipsOf, maybeSkipped}
 
 -- the run that the code's answer stands for, its words being those and its trace left aside
 abbrev pub runBy : Advanced → List ℕ → Run
@@ -40,25 +33,3 @@ pub record Skips (a : Advanced) (server : Float) (c : Settings) (was : List ℕ)
   pub frames : r .frames ≡ a .frames
   pub stop : r .stop ≡ maybeSkipped (runBy a []) server c .stop
   pub puts : Puts was (a .at) (maybeSkipped (runBy a []) server c .played .words) (r .at) last
-
--- the worlds that an update ends with where its tween weight is in its range: it is shaped and displayed
-abbrev pub endedOf : Settings → ClientWorldSimulations → Float → ClientWorldSimulations
-endedOf c w o = postUpdateOf w (shapedOf (c .method) (tweenOf o (c .timestep))) (bitsOf (lagFrameCountOf c))
-
--- a run that ended by itself goes on to the skip; one that was stopped does not
-abbrev pub skippedBy : Stop → Run → Float → Settings → Run
-skippedBy Done r server c = maybeSkipped r server c
-skippedBy TooManyFrames r server c = r
-skippedBy StatusStops r server c = r
-skippedBy WeightStops r server c = r
-
--- one update of the worlds, but for what it ends with
-unfoldable pub unendedOf : Settings → Scene → Float → Float → Float → Run
-unendedOf c s o delta server = skippedBy (advancedOf c s o delta server .stop) (advancedOf c s o delta server) server c
-
--- what an update ends with, where nothing stopped it
-abbrev pub endedBy : Stop → Run → Settings → Run
-endedBy Done r c = finishedOf r c
-endedBy TooManyFrames r c = r
-endedBy StatusStops r c = r
-endedBy WeightStops r c = r

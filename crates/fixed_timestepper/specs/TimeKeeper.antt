@@ -1,4 +1,4 @@
--- The stepping of the worlds by the clock: document 01, "src/fixed_timestepper.rs", with refusals 25 to 27. Every float operation is the Rust's, in its order.
+-- The stepping of the worlds by the clock: document 01, "src/fixed_timestepper.rs", with refusals 25 and 26. Every float operation is the Rust's, in its order.
 -- Definitions only. Assumes nothing.
 use Prim.Native.Nat.{ℕ, zero, suc, _+_}
 use mathlib.Core.Bool.{Bool, true, false, cond}
@@ -13,13 +13,16 @@ use Rattle.tape.specs.Tape.{Puts}
 use Rattle.settings.specs.declared.Settings.{Settings}
 use Rattle.settings.specs.Settings.{blendProgressOf, lagFrameCountOf}
 use Rattle.settings.specs.Tweening.{shapedOf}
+use Rattle.client.specs.declared.ClientWorldSimulations.{ClientWorldSimulations}
 use Rattle.client.specs.declared.Scene.{Scene}
 use Rattle.client.specs.Sides.{oldStampOf, withWorlds, Played, still, andThen}
 use Rattle.client_frame.specs.declared.Rules.{Rules}
 use Rattle.client_frame.specs.Frame.{frameOf, frameStops}
-use Rattle.client_skip.specs.Skip.{skippedOf, tweenOf, weightOk, postUpdateOf}
-use Rattle.fixed_timestepper.specs.declared.Stop.{Stop}
-use Rattle.fixed_timestepper.specs.declared.Stop.the-variants.{Done, TooManyFrames, StatusStops, WeightStops}
+use Rattle.client_skip.specs.Skip.{skippedOf}
+use Rattle.client_publish.specs.Ending.{tweenOf, postUpdateOf}
+use Rattle.refusals.specs.Limits.{mostFrames}
+use Rattle.refusals.specs.declared.Stop.{Stop}
+use Rattle.refusals.specs.declared.Stop.the-variants.{Done, TooManyFrames, StatusStops}
 use Rattle.fixed_timestepper.specs.declared.Advanced.{Advanced}
 
 -- +0.0
@@ -54,13 +57,6 @@ uncappedOf stamp overshoot delta server timestep = atLeastZero (sub binary64 del
 unfoldable pub compensatedOf : Timestamp → Float → Float → Float → Settings → Float
 compensatedOf stamp overshoot delta server s =
     cond (lt (s .max) (uncappedOf stamp overshoot delta server (s .timestep))) (s .max) (uncappedOf stamp overshoot delta server (s .timestep))
-
--- the paper's number of each way to end
-abbrev pub stopNumber : Stop → ℕ
-stopNumber Done = 0
-stopNumber TooManyFrames = 25
-stopNumber StatusStops = 26
-stopNumber WeightStops = 27
 
 -- ---- the frames of an update
 
@@ -136,7 +132,7 @@ skipped r server c =
       played = andThen (r .played) (λ s. skippedOf s (correctedOf server (c .timestep)));
       overshoot = correctedOvershoot server (c .timestep);
       frames = r .frames;
-      stop = Done;
+      stop = r .stop;
       trace = r .trace ++ (SkipFrom (r .played .scene) (correctedOf server (c .timestep)) ∷ []);
     }
 
@@ -144,33 +140,37 @@ skipped r server c =
 unfoldable pub maybeSkipped : Run → Float → Settings → Run
 maybeSkipped r server c = cond (skipsOf (oldStampOf (r .played .scene .worlds)) (r .overshoot) server c) (skipped r server c) r
 
--- ---- what every update ends with
-
--- the run with other worlds and another end
-abbrev pub endsWith : Run → Scene → Stop → Run
-endsWith r s stop = record { played = record { scene = s; words = r .played .words }; overshoot = r .overshoot; frames = r .frames; stop = stop; trace = r .trace }
-
--- the tween weight outside 0 to 1 is refusal 27; else it is shaped and displayed
-unfoldable pub finishedOf : Run → Settings → Run
-finishedOf r c =
-    cond (weightOk (tweenOf (r .overshoot) (c .timestep)))
-    (endsWith r (withWorlds (r .played .scene) (postUpdateOf (r .played .scene .worlds) (shapedOf (c .method) (tweenOf (r .overshoot) (c .timestep))) (bitsOf (lagFrameCountOf c)))) Done)
-    (endsWith r (r .played .scene) WeightStops)
-
--- a run that ended by itself goes on to the skip and the end; one that was stopped does not
-abbrev pub concluded : Stop → Run → Float → Settings → Run
-concluded Done r server c = finishedOf (maybeSkipped r server c) c
-concluded TooManyFrames r server c = r
-concluded StatusStops r server c = r
-concluded WeightStops r server c = r
+-- a run that ended by itself goes on to the skip; one that was stopped does not
+abbrev pub skippedBy : Stop → Run → Float → Settings → Run
+skippedBy Done r server c = maybeSkipped r server c
+skippedBy TooManyFrames r server c = r
+skippedBy StatusStops r server c = r
 
 -- the frames of an update from a scene and an overshoot, by the delta and the server's time
 unfoldable pub advancedOf : Settings → Scene → Float → Float → Float → Run
-advancedOf c s o delta server = runOf 65 c s (sub binary64 o (compensatedOf (oldStampOf (s .worlds)) o delta server c))
+advancedOf c s o delta server = runOf mostFrames c s (sub binary64 o (compensatedOf (oldStampOf (s .worlds)) o delta server c))
 
--- one update of the worlds
+-- the frames of an update and the skip after them
+unfoldable pub unendedOf : Settings → Scene → Float → Float → Float → Run
+unendedOf c s o delta server = skippedBy (advancedOf c s o delta server .stop) (advancedOf c s o delta server) server c
+
+-- ---- what every update ends with
+
+-- the worlds that an update ends with: the tween weight is shaped, and the time to display is worked out with it
+abbrev pub endedOf : Settings → ClientWorldSimulations → Float → ClientWorldSimulations
+endedOf c w o = postUpdateOf w (shapedOf (c .method) (tweenOf o (c .timestep))) (bitsOf (lagFrameCountOf c))
+
+-- the run with other worlds
+abbrev pub endsWith : Run → ClientWorldSimulations → Run
+endsWith r w = record { played = record { scene = withWorlds (r .played .scene) w; words = r .played .words }; overshoot = r .overshoot; frames = r .frames; stop = r .stop; trace = r .trace }
+
+-- a run with what an update ends with
+abbrev pub finishedOf : Settings → Run → Run
+finishedOf c r = endsWith r (endedOf c (r .played .scene .worlds) (r .overshoot))
+
+-- one update of the worlds; a run that was stopped is refused, whatever it ends with
 unfoldable pub updatedOf : Settings → Scene → Float → Float → Float → Run
-updatedOf c s o delta server = concluded (advancedOf c s o delta server .stop) (advancedOf c s o delta server) server c
+updatedOf c s o delta server = finishedOf c (unendedOf c s o delta server)
 
 -- a run as the code leaves it: its words are on the tape from its start on
 pub record Advances (r : Run) (was : List ℕ) (a : Advanced) (last : List ℕ) : Type 0 where

@@ -3,25 +3,18 @@
 ghost use mathlib.Core.Path.{_≡_};
 ghost use mathlib.Core.Bool.{true};
 ghost use Prim.Native.Nat.{_≤_, _<_};
-ghost use Rattle.fixed_timestepper.specs.TimeKeeper.{absOf, atLeastZero, logicalOf, driftOf, beyondDeadband, compensatedOf, rulesOf, runOf, skipsOf, Advances};
-ghost use Rattle.fixed_timestepper.specs.Inner.{isSingle, levelRun, Skips, endedOf, unendedOf};
+ghost use Rattle.fixed_timestepper.specs.TimeKeeper.{absOf, atLeastZero, logicalOf, driftOf, beyondDeadband, compensatedOf, rulesOf, runOf, skipsOf, Advances, endedOf, unendedOf};
+ghost use Rattle.fixed_timestepper.specs.Inner.{isSingle, levelRun, Skips};
 ghost use Rattle.client_level.specs.Level.{isLevel};
+ghost use Rattle.refusals.specs.Limits.{mostFrames, mostSteps};
 use client::ClientWorldSimulations;
 use client::Scene;
 use client::sides;
 use client_frame::Rules;
+use refusals::Stop;
 use settings::Settings;
 use timestamp::FloatTimestamp;
 use timestamp::Timestamp;
-
-// Why an update's frames ended: all played, or a refusal of 25 (a 66th frame), 26 (the Rust stops in a frame) or 27 (a tween weight
-// outside 0 to 1).
-pub enum Stop {
-    Done,
-    TooManyFrames,
-    StatusStops,
-    WeightStops,
-}
 
 // Frames that were played: how many, the overshoot after them, the next place on the tape, and why they ended.
 pub struct Advanced {
@@ -113,8 +106,8 @@ pub fn frame_rules(settings: Settings) -> Rules
 
 // Frames while the overshoot is negative, 65 at most.
 pub fn advance(scene: Scene, overshoot: f64, settings: Settings, tape: &mut [u32]) -> Advanced
-    requires { ⌜ settings .m ≤ 64 ⌝ }
-    ensures { λ r. ⌜ Advances (runOf 65 settings scene overshoot) (now (tape .entry)) r (now (tape .exit)) ⌝ }
+    requires { ⌜ settings .m ≤ mostSteps ⌝ }
+    ensures { λ r. ⌜ Advances (runOf mostFrames settings scene overshoot) (now (tape .entry)) r (now (tape .exit)) ⌝ }
 {
     let rules = frame_rules(settings);
     let mut s = scene;
@@ -122,7 +115,7 @@ pub fn advance(scene: Scene, overshoot: f64, settings: Settings, tape: &mut [u32
     let mut p: usize = 0;
     let mut n: u32 = 0;
     while o < 0.0 {
-        if n == 65 {
+        if n == refusals::MOST_FRAMES {
             return Advanced {
                 scene: s,
                 overshoot: o,
@@ -199,7 +192,7 @@ pub fn is_level(
 // The one frame of such an update.
 pub fn level_run(scene: Scene, overshoot: f64, settings: Settings, tape: &mut [u32]) -> Advanced
     requires { ⌜ (isSingle overshoot (settings .timestep) ≡ true) × (isLevel (scene .worlds) (settings .m) ≡ true) ⌝ }
-    ensures { λ r. ⌜ Advances (runOf 65 settings scene overshoot) (now (tape .entry)) r (now (tape .exit)) ⌝ }
+    ensures { λ r. ⌜ Advances (runOf mostFrames settings scene overshoot) (now (tape .entry)) r (now (tape .exit)) ⌝ }
 {
     let rules = frame_rules(settings);
     let f = client_level::level_frame(scene, rules, tape, 0);
@@ -230,19 +223,19 @@ pub fn timeskip(a: Advanced, server: f64, settings: Settings, tape: &mut [u32]) 
             .as_seconds(t);
         let r = client_skip::reset_last_completed_timestamp(scene, corrected, tape, a.at);
         let after = r.scene;
-        let done = Stop::Done;
+        let stop = a.stop;
         return Advanced {
             scene: after,
             overshoot,
             frames: a.frames,
             at: r.at,
-            stop: done,
+            stop,
         };
     }
     a
 }
 
-// The worlds that an update ends with, its tween weight being in its range: shaped, and displayed.
+// The worlds that an update ends with: its tween weight is shaped, and the time to display is worked out with it.
 pub fn ended(
     worlds: ClientWorldSimulations,
     overshoot: f64,
@@ -250,9 +243,9 @@ pub fn ended(
 ) -> ClientWorldSimulations
     ensures { λ r. ⌜ r ≡ endedOf settings worlds overshoot ⌝ }
 {
-    let w = client_skip::tween_weight(overshoot, settings.timestep);
+    let w = client_publish::ending::tween_weight(overshoot, settings.timestep);
     let method = settings.method;
-    client_skip::post_update(
+    client_publish::ending::post_update(
         worlds,
         method.shape_interpolation_t(w),
         settings.lag_compensation_frame_count(),
@@ -269,7 +262,7 @@ pub fn update(
     settings: Settings,
     tape: &mut [u32],
 ) -> Advanced
-    requires { ⌜ settings .m ≤ 64 ⌝ }
+    requires { ⌜ settings .m ≤ mostSteps ⌝ }
     ensures { λ r. ⌜ Advances (unendedOf settings scene overshoot delta server) (now (tape .entry)) r (now (tape .exit)) ⌝ }
 {
     let stamp = sides::last_completed_timestamp(scene.worlds);
@@ -284,6 +277,5 @@ pub fn update(
         Stop::Done => timeskip(a, server, settings, tape),
         Stop::TooManyFrames => a,
         Stop::StatusStops => a,
-        Stop::WeightStops => a,
     }
 }

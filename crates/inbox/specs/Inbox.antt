@@ -7,6 +7,8 @@ use lib.ListN.{length, drop}
 use lib.Dec.{ltb, eqb}
 use lib.IntN.{pos}
 use lib.Ieee.{Float, fin, binary64, le, ofBits}
+use Rattle.refusals.specs.Limits.{mostWords, handleRoom}
+use Rattle.refusals.specs.Refusals.{accepted, lengthRefusal, wordRefusal, cutRefusal, clockTimeRefusal}
 use Rattle.timestamp.specs.declared.Timestamp.{Timestamp}
 use Rattle.inbox.specs.declared.Word.{Word}
 use Rattle.inbox.specs.declared.Word.the-variants.{Value, Wrong, Missing}
@@ -115,8 +117,8 @@ thenTime BitsCut all f = frontWith CutShort all
 
 -- the first message by its first word: a handle of 24 bits in a word of kind 4 after a command's or a snapshot's, two floats after a clock's
 abbrev pub byHead : Head → List ℕ → Front
-byHead (ForCommand s) ws = thenHandle (wordOf 4 (2 ^ 24) (drop 1 ws)) (length ws) (λ h. Command s h)
-byHead (ForSnapshot s) ws = thenHandle (wordOf 4 (2 ^ 24) (drop 1 ws)) (length ws) (λ h. Snapshot s h)
+byHead (ForCommand s) ws = thenHandle (wordOf 4 handleRoom (drop 1 ws)) (length ws) (λ h. Command s h)
+byHead (ForSnapshot s) ws = thenHandle (wordOf 4 handleRoom (drop 1 ws)) (length ws) (λ h. Snapshot s h)
 byHead (ForClock id) ws = thenTime (bitsOf (drop 1 ws)) (length ws) (λ send. thenTime (bitsOf (drop 4 ws)) (length ws) (λ server. frontWith (clockOf id send server) 7))
 byHead NoHead ws = frontWith WrongWord (length ws)
 
@@ -155,12 +157,12 @@ stepOf ws at = stepIn at (drop at ws)
 
 -- the number of 01 for each case: 4 a word of wrong kind, place or spare bits, 5 the inbox ends inside a message, 6 a clock time not finite or beyond 2 ^ 32, and 0 for a message
 abbrev pub numberOf : Message → ℕ
-numberOf (Command s h) = 0
-numberOf (Snapshot s h) = 0
-numberOf (Clock i s t) = 0
-numberOf BadTime = 6
-numberOf WrongWord = 4
-numberOf CutShort = 5
+numberOf (Command s h) = accepted
+numberOf (Snapshot s h) = accepted
+numberOf (Clock i s t) = accepted
+numberOf BadTime = clockTimeRefusal
+numberOf WrongWord = wordRefusal
+numberOf CutShort = cutRefusal
 
 -- the lower of two refusals, where 0 is none
 abbrev pub lowestOf : ℕ → ℕ → ℕ
@@ -177,8 +179,10 @@ some p (m ∷ ms) = p m || some p ms
 
 -- the lowest number of a list's messages: 4 anywhere, then 5, then 6, or 0
 unfoldable pub refusalIn : List Message → ℕ
-refusalIn ms = cond (some (isRefused 4) ms) 4 (cond (some (isRefused 5) ms) 5 (cond (some (isRefused 6) ms) 6 0))
+refusalIn ms =
+    cond (some (isRefused wordRefusal) ms) wordRefusal
+    (cond (some (isRefused cutRefusal) ms) cutRefusal (cond (some (isRefused clockTimeRefusal) ms) clockTimeRefusal accepted))
 
 -- the refusal of an inbox: 3 over 4,096 words, then that of its messages; 0 where it is accepted
 unfoldable pub refusalOf : List ℕ → ℕ
-refusalOf ws = cond (ltb 4096 (length ws)) 3 (refusalIn (messagesOf ws))
+refusalOf ws = cond (ltb mostWords (length ws)) lengthRefusal (refusalIn (messagesOf ws))

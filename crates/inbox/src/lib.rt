@@ -61,8 +61,8 @@ pub enum Time {
 pub fn refusal(words: &[u32]) -> u32
     ensures { λ r. ⌜ r ≡ refusalOf (now (words .entry)) ⌝ }
 {
-    if 4096 < words.len() {
-        return 3;
+    if refusals::MOST_WORDS < words.len() {
+        return refusals::LENGTH;
     }
     lowest_in(words, 0)
 }
@@ -95,7 +95,7 @@ pub fn message_at(words: &[u32], at: usize) -> Step
 {
     let all = words.len();
     match head_of(words[at]) {
-        Head::ForCommand(stamp) => match word_at(words, at + 1, 4, 16777216) {
+        Head::ForCommand(stamp) => match word_at(words, at + 1, 4, refusals::HANDLE_ROOM) {
             Word::Value(handle) => Step {
                 message: Message::Command {
                     stamp: stamp,
@@ -112,7 +112,7 @@ pub fn message_at(words: &[u32], at: usize) -> Step
                 next: all,
             },
         },
-        Head::ForSnapshot(stamp) => match word_at(words, at + 1, 4, 16777216) {
+        Head::ForSnapshot(stamp) => match word_at(words, at + 1, 4, refusals::HANDLE_ROOM) {
             Word::Value(handle) => Step {
                 message: Message::Snapshot {
                     stamp: stamp,
@@ -168,19 +168,19 @@ pub fn number_of(m: Message) -> u32
         Message::Command {
             stamp: _,
             handle: _,
-        } => 0,
+        } => refusals::ACCEPTED,
         Message::Snapshot {
             stamp: _,
             handle: _,
-        } => 0,
+        } => refusals::ACCEPTED,
         Message::Clock {
             id: _,
             send: _,
             server: _,
-        } => 0,
-        Message::BadTime => 6,
-        Message::WrongWord => 4,
-        Message::CutShort => 5,
+        } => refusals::ACCEPTED,
+        Message::BadTime => refusals::CLOCK_TIME,
+        Message::WrongWord => refusals::WORD,
+        Message::CutShort => refusals::CUT,
     }
 }
 

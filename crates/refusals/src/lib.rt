@@ -1,5 +1,5 @@
-// The numbers under which calls are turned down, and the order in which each call is judged. A call hands in what its tests found and gets
-// the number that it answers, or 0. It answers to no file of crystalorb, which asserts where a number is given here.
+// The numbers under which calls are turned down, the order in which each call is judged, and the limits that are whole numbers. A call hands
+// in what its tests found and gets the number that it answers, or 0. It answers to no file of crystalorb, which has no such numbers.
 ghost use mathlib.Core.Path.{_≡_};
 ghost use Rattle.refusals.specs.Refusals.{openRefusalBy, onceRefusalBy, syncingRefusalBy, arrivalRefusalBy, endRefusalBy, issueRefusalBy, reportRefusalBy};
 
@@ -39,6 +39,19 @@ pub const STATUS: u32 = 26;
 pub const WEIGHT: u32 = 27;
 // Words that exceed the tape.
 pub const TAPE: u32 = 28;
+
+// An inbox has at most so many words.
+pub const MOST_WORDS: usize = 4096;
+// A handle is below this: it has 24 bits.
+pub const HANDLE_ROOM: u32 = 16777216;
+// A buffer holds at most so many commands.
+pub const BUFFER_ROOM: usize = 64;
+// An update plays at most so many frames.
+pub const MOST_FRAMES: u32 = 65;
+// The most catch-up steps of a frame that settings may ask for.
+pub const MOST_STEPS: u32 = 64;
+// The lag is at most so many frames.
+pub const MOST_LAG_FRAMES: i16 = 16383;
 
 // Why the frames of an update ended: all were played, a 66th was due, or the Rust stops in one.
 pub enum Stop {

@@ -7,7 +7,7 @@ use super::input::In;
 use super::lines;
 use super::lines::Place;
 use super::output::Out;
-use session::UpdateAnswer;
+use session_answers::UpdateAnswer;
 use session::calls;
 use session_state::Session;
 use settings::Settings;

@@ -12,7 +12,7 @@ use Rattle.timestamp.specs.declared.Timestamp.{Timestamp}
 use Rattle.tape.specs.Words.{commandsOn}
 use Rattle.tape.proofs.Counting.{commands-on-append, commands-on-zeros}
 use Rattle.settings.specs.Settings.{passesOf}
-use Rattle.settings.proofs.Tests.{apart}
+use Rattle.timestamp.proofs.Tests.{apart}
 use Rattle.clocksync.specs.declared.Clock.{Clock}
 use Rattle.clocksync.specs.Clock.{soundClock, tickedOf, listenOf, serverSecondsOf}
 use Rattle.inbox.specs.declared.Message.{Message}
@@ -37,8 +37,8 @@ use Rattle.session_laws.proofs.LedgerBooks.{Books}
 use Rattle.session_laws.proofs.LedgerSides.{heldAt, Kept, kept-more}
 use Rattle.session_laws.proofs.LedgerFrames.{SameBuffers, same-buffers-then, same-buffers-kept, KeptBy, updated-kept}
 use Rattle.session_laws.proofs.LedgerArrivals.{received-kept, notes-alike}
-use Rattle.fixed_timestepper.specs.declared.Stop.{Stop}
-use Rattle.fixed_timestepper.specs.declared.Stop.the-variants.{Done, TooManyFrames, StatusStops, WeightStops}
+use Rattle.refusals.specs.declared.Stop.{Stop}
+use Rattle.refusals.specs.declared.Stop.the-variants.{Done, TooManyFrames, StatusStops}
 use Rattle.fixed_timestepper.specs.TimeKeeper.{Run, stopNumber}
 use Rattle.session_state.specs.declared.Stage.{Stage}
 use Rattle.session_state.specs.declared.Stage.the-variants.{SyncingClock, SyncingInitialState, Ready}

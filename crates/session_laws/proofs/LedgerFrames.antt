@@ -23,7 +23,8 @@ use Rattle.client_frame.proofs.Induction.{Law, Chains, resetAt}
 use Rattle.settings.specs.declared.Settings.{Settings}
 use Rattle.fixed_timestepper.specs.TimeKeeper.{Run, updatedOf}
 use Rattle.fixed_timestepper.proofs.Induction.{updated-by, AllMoves, moves-by}
-use Rattle.client_skip.specs.Skip.{emptiedBase, postUpdateOf}
+use Rattle.client_skip.specs.Skip.{emptiedBase}
+use Rattle.client_publish.specs.Ending.{postUpdateOf}
 use Rattle.session_laws.proofs.LedgerBooks.{books-as, books-more, books-loads}
 use Rattle.session_laws.proofs.LedgerSides.{entriesOf, heldAt, Kept, kept-as, kept-more, none-on, step-spends, reset-spends, done-kept}
 

@@ -29,8 +29,8 @@ use Rattle.client.specs.declared.DisplayTime.the-variants.{NotDisplayed, Displa
 use Rattle.client_receive.specs.Receive.{receivedOf}
 use Rattle.session_state.specs.Session.{withClock, withWorldsOf}
 use Rattle.session_laws.proofs.SoundWorlds.{new-kept, new-weighed, received-kept, received-weighed}
-use Rattle.fixed_timestepper.specs.declared.Stop.{Stop}
-use Rattle.fixed_timestepper.specs.declared.Stop.the-variants.{Done, TooManyFrames, StatusStops, WeightStops}
+use Rattle.refusals.specs.declared.Stop.{Stop}
+use Rattle.refusals.specs.declared.Stop.the-variants.{Done, TooManyFrames, StatusStops}
 use Rattle.fixed_timestepper.specs.TimeKeeper.{Run, updatedOf}
 use Rattle.session_laws.proofs.SoundRuns.{InStep, updated-kept, updated-weighed, updated-overshoot}
 use Rattle.session_state.specs.declared.Stage.{Stage}

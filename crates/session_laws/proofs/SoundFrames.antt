@@ -32,7 +32,8 @@ use Rattle.client_frame.proofs.Induction.{Keeps, keeps-chains, Same, same-chain
 use Rattle.fixed_timestepper.specs.TimeKeeper.{rulesOf}
 use Rattle.fixed_timestepper.proofs.Induction.{Updates, both-by, AllMoves}
 use Rattle.client_frame.specs.declared.Rules.{Rules}
-use Rattle.client_skip.specs.Skip.{resetSide, resetAlong, skipsBack, emptiedBase, resetBoth, skippedOf, postUpdateOf}
+use Rattle.client_skip.specs.Skip.{resetSide, resetAlong, skipsBack, emptiedBase, resetBoth, skippedOf}
+use Rattle.client_publish.specs.Ending.{postUpdateOf}
 use Rattle.session_laws.proofs.SoundWorlds.{Kept, Weighed, is-nought, is-even, side-sound, old-at-old, new-at-old, new-at-new, old-at-new, put-old-side, weighed-as, base-kept, base-weighed, published-kept, published-weighed, weight-kept, weight-weighed, done-worlds, done-kept, done-weight, step-init, step-sound, step-stamp, reset-init, reset-sound, reset-stamp, loaded-kept, loaded-weighed}
 
 -- ---- the buffers, the queued snapshot and the initialisation

@@ -17,7 +17,7 @@ use Rattle.float_laws.proofs.Within.{Within, within-widen, within-of-tests, add
 use Rattle.timestamp.proofs.Basics.{holds-true, not-true}
 use Rattle.settings.specs.declared.Settings.{Settings}
 use Rattle.settings.specs.Settings.{passesOf, between, samplesToDiscardOf, samplesToStoreOf}
-use Rattle.settings.proofs.Tests.{apart}
+use Rattle.timestamp.proofs.Tests.{apart}
 use Rattle.settings.proofs.Limits.{timestep-within, lag-within}
 use Rattle.command.specs.Soundness.{soundBuffer}
 use Rattle.inbox.specs.declared.Message.{Message}

@@ -20,11 +20,11 @@ use Rattle.settings.specs.Settings.{passesOf, blendProgressOf, least64, sixtyFo
 use Rattle.settings.proofs.Limits.{timestep-within, blend-within, max-tests, steps-few, sixty-four-exact}
 use Rattle.client.specs.declared.Scene.{Scene}
 use Rattle.client.specs.Sides.{oldStampOf}
-use Rattle.client_skip.specs.Skip.{tweenOf, weightOk}
+use Rattle.client_publish.specs.Ending.{tweenOf, weightOk}
 use Rattle.session_laws.proofs.SoundWorlds.{Kept, Weighed}
 use Rattle.session_laws.proofs.SoundFrames.{kept-moves, weighed-updates}
-use Rattle.fixed_timestepper.specs.declared.Stop.{Stop}
-use Rattle.fixed_timestepper.specs.declared.Stop.the-variants.{Done, TooManyFrames, StatusStops, WeightStops}
+use Rattle.refusals.specs.declared.Stop.{Stop}
+use Rattle.refusals.specs.declared.Stop.the-variants.{Done, TooManyFrames, StatusStops}
 use Rattle.fixed_timestepper.specs.TimeKeeper.{nought, atLeastZero, driftOf, beyondDeadband, uncappedOf, compensatedOf, Run, framed, skipsOf, skipped, maybeSkipped, endsWith, finishedOf, concluded, advancedOf, updatedOf}
 use Rattle.fixed_timestepper.proofs.Induction.{Runs, run-by, updated-by, moves-by}
 use Rattle.session_laws.proofs.SoundSkips.{corrected-in}

@@ -30,8 +30,8 @@ use Rattle.timestamp.specs.FloatTimestamps.{fromUnwrapped, fromSeconds, floatOf
 use Rattle.timestamp.proofs.Basics.{holds-true}
 use Rattle.timestamp.proofs.Saturate.{saturates}
 use Rattle.timestamp.proofs.Signed.{signed-low, signed-high}
-use Rattle.settings.proofs.Tests.{apart}
-use Rattle.client_skip.specs.Skip.{tweenOf, weightOk}
+use Rattle.timestamp.proofs.Tests.{apart}
+use Rattle.client_publish.specs.Ending.{tweenOf, weightOk}
 use Rattle.fixed_timestepper.specs.TimeKeeper.{correctedOf, correctedOvershoot}
 
 -- ---- a whole number as a float

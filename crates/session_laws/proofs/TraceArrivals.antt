@@ -19,7 +19,8 @@ use Rattle.client.specs.declared.Scene.{Scene}
 use Rattle.client.specs.Ledgers.{takes}
 use Rattle.client.specs.Sides.{newSideOf, oldSideOf, worldOf, withWorld, withWorlds, withLedger, ledgerOf, stampOf, oldStampOf, newStampOf, Played, still, andThen, doneAt}
 use Rattle.client_receive.specs.Receive.{offeredBase, offeredSide, receivedOf, fromFutureOf, freshOf, snapshotsBy, snapshotsOf, notesOf}
-use Rattle.client_skip.specs.Skip.{resetSide, resetAlong, skipsBack, emptiedBase, resetBoth, skippedOf, postUpdateOf}
+use Rattle.client_skip.specs.Skip.{resetSide, resetAlong, skipsBack, emptiedBase, resetBoth, skippedOf}
+use Rattle.client_publish.specs.Ending.{postUpdateOf}
 use Rattle.session_laws.proofs.SoundWorlds.{done-worlds, reset-stamp}
 use Rattle.session_laws.proofs.TraceStamps.{lagOf, Restamped, put-at-old, put-at-new, ledger-keeps, done-steps, done-words, reset-marks}
 use Rattle.session_laws.proofs.TraceSteps.{lagIn, then-scene, then-marks}

@@ -1,6 +1,6 @@
--- Tests in a row, and ranges tested from their lower end. Assumes nothing.
-use mathlib.Core.Path.{_≡_, refl, ap, sym, _∙_}
-use mathlib.Core.Bool.{Bool, true, false, not, cond, _&&_, true≢false, false≢true}
+-- Ranges tested from their lower end, and the tests of worlds. Assumes nothing.
+use mathlib.Core.Path.{_≡_, ap, sym, _∙_}
+use mathlib.Core.Bool.{Bool, true, false, cond, _&&_}
 use Prim.Native.Nat.{ℕ}
 use lib.Dec.{eqb}
 use lib.Ieee.{Float, le, eq}
@@ -12,28 +12,6 @@ use Rattle.client.specs.Sides.{newSideOf, oldSideOf, worldOf, oldStampOf, newSt
 use Rattle.settings.specs.Settings.{between}
 use Rattle.session_state.specs.Sound.{zero64, one64, weightSound, initSound}
 
--- not b is true, or false: b is the other
-pub was-false : (b : Bool) → not b ≡ true → b ≡ false
-was-false true h = absurd (false≢true h)
-was-false false h = refl
-
--- not b is false
-pub was-true : (b : Bool) → not b ≡ false → b ≡ true
-was-true true h = refl
-was-true false h = absurd (true≢false h)
-
--- three tests in a row: the first fails
-pub both-first : {a r : Bool} (b c : Bool) → r ≡ a → not r ≡ true → false ≡ a && b && c
-both-first {a} b c e h = λ i. (sym (sym e ∙ was-false _ h)) i && b && c
-
--- the second fails
-pub both-second : {a b r s : Bool} (c : Bool) → r ≡ a → not r ≡ false → s ≡ b → not s ≡ true → false ≡ a && b && c
-both-second c e h f k = λ i. (sym (sym e ∙ was-true _ h)) i && (sym (sym f ∙ was-false _ k)) i && c
-
--- the third decides
-pub both-third : {a b c r s t : Bool} → r ≡ a → not r ≡ false → s ≡ b → not s ≡ false → t ≡ c → t ≡ a && b && c
-both-third {a} {b} {c} e h f k g = g ∙ (λ i. (sym (sym e ∙ was-true _ h)) i && (sym (sym f ∙ was-true _ k)) i && c)
-
 -- from the lower end up, the upper end decides
 pub from-low : (lo hi x : Float) → le lo x ≡ true → le x hi ≡ between lo hi x
 from-low lo hi x p = λ i. sym p i && le x hi
@@ -41,50 +19,6 @@ from-low lo hi x p = λ i. sym p i && le x hi
 -- below it, and at a NaN, x is out of the range
 pub below-low : (lo hi x : Float) → le lo x ≡ false → false ≡ between lo hi x
 below-low lo hi x p = λ i. sym p i && le x hi
-
--- two tests: the first holds, and the second decides
-pub first-true : {a b r t : Bool} → r ≡ a → r ≡ true → t ≡ b → t ≡ a && b
-first-true {a} {b} e h g = g ∙ (λ i. (sym (sym e ∙ h)) i && b)
-
--- the first fails
-pub first-false : {a r : Bool} (b : Bool) → r ≡ a → r ≡ false → false ≡ a && b
-first-false b e h = λ i. (sym (sym e ∙ h)) i && b
-
--- four tests in a row: the first fails
-pub four-first : {a r : Bool} (b c d : Bool) → r ≡ a → not r ≡ true → false ≡ a && b && c && d
-four-first b c d e h = λ i. (sym (sym e ∙ was-false _ h)) i && b && c && d
-
--- the second fails
-pub four-second : {a b r s : Bool} (c d : Bool) → r ≡ a → not r ≡ false → s ≡ b → not s ≡ true → false ≡ a && b && c && d
-four-second c d e h f k = λ i. (sym (sym e ∙ was-true _ h)) i && (sym (sym f ∙ was-false _ k)) i && c && d
-
--- the third fails
-pub four-third : {a b c r s t : Bool} (d : Bool) → r ≡ a → not r ≡ false → s ≡ b → not s ≡ false → t ≡ c → not t ≡ true → false ≡ a && b && c && d
-four-third d e h f k g l = λ i. (sym (sym e ∙ was-true _ h)) i && (sym (sym f ∙ was-true _ k)) i && (sym (sym g ∙ was-false _ l)) i && d
-
--- the fourth decides
-pub four-last : {a b c d r s t u : Bool} → r ≡ a → not r ≡ false → s ≡ b → not s ≡ false → t ≡ c → not t ≡ false → u ≡ d → u ≡ a && b && c && d
-four-last {a} {b} {c} {d} e h f k g l m = m ∙ (λ i. (sym (sym e ∙ was-true _ h)) i && (sym (sym f ∙ was-true _ k)) i && (sym (sym g ∙ was-true _ l)) i && d)
-
--- five tests in a row: the first fails
-pub five-first : {a r : Bool} (b c d x : Bool) → r ≡ a → not r ≡ true → false ≡ a && b && c && d && x
-five-first b c d x e h = λ i. (sym (sym e ∙ was-false _ h)) i && b && c && d && x
-
--- the second fails
-pub five-second : {a b r s : Bool} (c d x : Bool) → r ≡ a → not r ≡ false → s ≡ b → not s ≡ true → false ≡ a && b && c && d && x
-five-second c d x e h f k = λ i. (sym (sym e ∙ was-true _ h)) i && (sym (sym f ∙ was-false _ k)) i && c && d && x
-
--- the third fails
-pub five-third : {a b c r s t : Bool} (d x : Bool) → r ≡ a → not r ≡ false → s ≡ b → not s ≡ false → t ≡ c → not t ≡ true → false ≡ a && b && c && d && x
-five-third d x e h f k g l = λ i. (sym (sym e ∙ was-true _ h)) i && (sym (sym f ∙ was-true _ k)) i && (sym (sym g ∙ was-false _ l)) i && d && x
-
--- the fourth fails
-pub five-fourth : {a b c d r s t u : Bool} (x : Bool) → r ≡ a → not r ≡ false → s ≡ b → not s ≡ false → t ≡ c → not t ≡ false → u ≡ d → not u ≡ true → false ≡ a && b && c && d && x
-five-fourth x e h f k g l m n = λ i. (sym (sym e ∙ was-true _ h)) i && (sym (sym f ∙ was-true _ k)) i && (sym (sym g ∙ was-true _ l)) i && (sym (sym m ∙ was-false _ n)) i && x
-
--- the fifth decides
-pub five-last : {a b c d x r s t u v : Bool} → r ≡ a → not r ≡ false → s ≡ b → not s ≡ false → t ≡ c → not t ≡ false → u ≡ d → not u ≡ false → v ≡ x → v ≡ a && b && c && d && x
-five-last {a} {b} {c} {d} {x} e h f k g l m n o = o ∙ (λ i. (sym (sym e ∙ was-true _ h)) i && (sym (sym f ∙ was-true _ k)) i && (sym (sym g ∙ was-true _ l)) i && (sym (sym m ∙ was-true _ n)) i && x)
 
 -- ---- the worlds' tests, by the calls that make them
 

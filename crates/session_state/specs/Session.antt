@@ -1,14 +1,26 @@
 -- A session, by what a call changes of it: what is not named is carried. A field that is added goes into the two definitions here that write a session out.
 -- Definitions only. Assumes nothing.
-use mathlib.Core.Bool.{false}
+use mathlib.Core.Bool.{Bool, true, false}
 use lib.IntN.{pos}
 use lib.Ieee.{Float, fin}
 use Rattle.settings.specs.declared.Settings.{Settings}
 use Rattle.clocksync.specs.declared.Clock.{Clock}
 use Rattle.client.specs.declared.ClientWorldSimulations.{ClientWorldSimulations}
 use Rattle.session_state.specs.declared.Stage.{Stage}
-use Rattle.session_state.specs.declared.Stage.the-variants.{SyncingClock}
+use Rattle.session_state.specs.declared.Stage.the-variants.{SyncingClock, SyncingInitialState, Ready}
 use Rattle.session_state.specs.declared.Session.{Session}
+
+-- worlds exist in every stage but the first
+abbrev pub hasWorlds : Stage → Bool
+hasWorlds SyncingClock = false
+hasWorlds SyncingInitialState = true
+hasWorlds Ready = true
+
+-- commands are issued in the last stage alone
+abbrev pub isReady : Stage → Bool
+isReady SyncingClock = false
+isReady SyncingInitialState = false
+isReady Ready = true
 
 -- a session as settings start it, with this clock and these worlds
 abbrev pub startingOf : Settings → Clock → ClientWorldSimulations → Session

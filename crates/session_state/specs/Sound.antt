@@ -1,10 +1,10 @@
 -- A sound session: document 01, "Turned down by the session", the sentence "Sound".
 -- Definitions only. Assumes nothing.
-use Prim.Native.Nat.{_^_}
 use mathlib.Core.Bool.{Bool, true, false, cond, _&&_}
 use lib.Dec.{eqb, ltb}
 use lib.IntN.{pos}
 use lib.Ieee.{Float, fin, eq}
+use Rattle.refusals.specs.Limits.{handleRoom}
 use Rattle.settings.specs.Settings.{passesOf, between}
 use Rattle.clocksync.specs.declared.Clock.{Clock}
 use Rattle.clocksync.specs.declared.Offset.{Offset}
@@ -30,7 +30,7 @@ one64 = fin false 1 (pos 0)
 -- a queued snapshot's handle is within 24 bits
 unfoldable pub queuedSound : Queued → Bool
 queuedSound Nothing = true
-queuedSound (Held t h) = ltb h (2 ^ 24)
+queuedSound (Held t h) = ltb h handleRoom
 
 -- blend weight 0 to 1, and 0 where stamps differ
 unfoldable pub weightSound : ClientWorldSimulations → Bool
@@ -42,11 +42,11 @@ initSound w = cond (worldOf w (oldSideOf w) .init) (worldOf w (newSideOf w) .ini
 
 -- counts within limits, entries in order and range, every handle within 24 bits: in the buffers of both worlds and in the base
 unfoldable pub buffersSound : ClientWorldSimulations → Bool
-buffersSound w = soundBuffer (w .left .commands) && soundBuffer (w .right .commands) && soundBuffer (w .base)
+buffersSound w = soundBuffer (w .left .commands) && (soundBuffer (w .right .commands) && soundBuffer (w .base))
 
 -- the worlds are sound
 unfoldable pub worldsSound : ClientWorldSimulations → Bool
-worldsSound w = buffersSound w && queuedSound (w .snapshots .queued) && weightSound w && initSound w
+worldsSound w = buffersSound w && (queuedSound (w .snapshots .queued) && (weightSound w && initSound w))
 
 -- overshoot 0 to timestep
 unfoldable pub overshootSound : Float → Float → Bool
@@ -63,6 +63,11 @@ connectedOf SyncingClock c = noOffset (c .offset)
 connectedOf SyncingInitialState c = readyOf c
 connectedOf Ready c = readyOf c
 
--- a session is sound
+-- a session is sound: a row of tests, each by its name
 unfoldable pub soundOf : Session → Bool
-soundOf s = passesOf (s .settings) && soundClock (s .settings) (s .clock) && connectedOf (s .stage) (s .clock) && worldsSound (s .worlds) && overshootSound (s .overshoot) (s .settings .timestep)
+soundOf s =
+    passesOf (s .settings)
+    && (soundClock (s .settings) (s .clock)
+    && (connectedOf (s .stage) (s .clock)
+    && (worldsSound (s .worlds)
+    && overshootSound (s .overshoot) (s .settings .timestep))))

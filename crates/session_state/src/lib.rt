@@ -2,6 +2,7 @@
 // src/client/stage*.rs of crystalorb.
 ghost use mathlib.Core.Path.{_≡_};
 ghost use Rattle.command.specs.Soundness.{soundBuffer};
+ghost use Rattle.session_state.specs.Session.{hasWorlds, isReady};
 ghost use Rattle.session_state.specs.Sound.{queuedSound, weightSound, initSound, buffersSound, worldsSound, overshootSound, connectedOf, soundOf};
 use client::ClientWorldSimulations;
 use client::Queued;
@@ -28,13 +29,35 @@ pub struct Session {
     pub overshoot: f64,
 }
 
+// Whether worlds exist in a stage.
+pub fn has_worlds(stage: Stage) -> bool
+    ensures { λ r. ⌜ r ≡ hasWorlds stage ⌝ }
+{
+    match stage {
+        Stage::SyncingClock => false,
+        Stage::SyncingInitialState => true,
+        Stage::Ready => true,
+    }
+}
+
+// Whether a stage is the last one.
+pub fn is_ready(stage: Stage) -> bool
+    ensures { λ r. ⌜ r ≡ isReady stage ⌝ }
+{
+    match stage {
+        Stage::SyncingClock => false,
+        Stage::SyncingInitialState => false,
+        Stage::Ready => true,
+    }
+}
+
 // A queued snapshot's handle is within 24 bits.
 pub fn queued_sound(q: Queued) -> bool
     ensures { λ r. ⌜ r ≡ queuedSound q ⌝ }
 {
     match q {
         Queued::Nothing => true,
-        Queued::Held { stamp: _, handle } => handle < 16777216,
+        Queued::Held { stamp: _, handle } => handle < refusals::HANDLE_ROOM,
     }
 }
 

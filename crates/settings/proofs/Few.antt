@@ -17,7 +17,8 @@ use lib.Ieee.Scale.{finite}
 use borrow.Author.Tests.{leb-true, ltb-true}
 use Rattle.timestamp.specs.Whole.{ceilOf}
 use Rattle.settings.specs.Settings.{one64, two64, nothing64, between, atLeastOne, discardOf, storeOf, samplesPass}
-use Rattle.settings.proofs.Tests.{apart, le-at}
+use Rattle.settings.proofs.Tests.{le-at}
+use Rattle.timestamp.proofs.Tests.{apart}
 use Rattle.settings.proofs.Discard.{plus, round-plus, above-one, not-above-one}
 
 -- ---- a float with the sign minus is not above 1

@@ -10,10 +10,8 @@ use lib.Ieee.Casts.{toSigned-in}
 use mir.Syntax.{w16}
 use mir.Val.{SFits, toZ, ofZ}
 use mir.Facts.{toZ-ofZ}
-use Rattle.timestamp.specs.Timestamps.{signedOf, bitsOf}
 use Rattle.timestamp.specs.FloatTimestamps.{stampOf}
 use Rattle.timestamp.specs.Whole.{roundOf}
-use Rattle.timestamp.proofs.Signed.{signed-bits}
 use Rattle.settings.specs.Settings.{lagFramesOf}
 
 -- it is a signed number of 16 bits
@@ -21,10 +19,10 @@ pub lag-fits : (lag timestep : Float) → SFits w16 (lagFramesOf lag timestep)
 unfolding lagFramesOf stampOf
 lag-fits lag timestep = record { sfits = toSigned-in 15 (roundOf _) }
 
-module _ (z : ℤ) {b : ℕ} {x : ℤ} (f : SFits w16 z) (e : b ≡ bitsOf z) (v : x ≡ signedOf b) where
+module _ (z : ℤ) {x : ℤ} (f : SFits w16 z) (v : x ≡ z) where
   -- the value that the test reads is the number
   read-back : toZ w16 (ofZ w16 x) ≡ z
-  read-back = ap (λ (y : ℤ). toZ w16 (ofZ w16 y)) (v ∙ ap signedOf e ∙ signed-bits z f) ∙ toZ-ofZ {w = w16} f
+  read-back = ap (λ (y : ℤ). toZ w16 (ofZ w16 y)) v ∙ toZ-ofZ {w = w16} f
 
   -- above the limit
   pub lag-over : (k : ℕ) → ltZ (pos k) (toZ w16 (ofZ w16 x)) ≡ true → leZ z (pos k) ≡ false

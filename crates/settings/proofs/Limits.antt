@@ -24,7 +24,8 @@ use Rattle.timestamp.proofs.Basics.{split, signs-apart}
 use Rattle.settings.specs.declared.Settings.{Settings}
 use Rattle.settings.specs.Tweening.{knownOf}
 use Rattle.settings.specs.Settings.{nothing64, least64, one64, sixty64, sixtyFour64, hour64, between, lagFramesOf, lagFrameCountOf, samplesToDiscardOf, samplesToStoreOf, secondsPass, thresholdsPass, samplesPass, countsPass, passesOf}
-use Rattle.settings.proofs.Tests.{apart, le-at}
+use Rattle.settings.proofs.Tests.{le-at}
+use Rattle.timestamp.proofs.Tests.{apart}
 use Rattle.settings.proofs.Discard.{plus, round-plus}
 use Rattle.settings.proofs.Few.{discard-range, store-range}
 

@@ -8,6 +8,7 @@ use lib.Signed.{leZ}
 use lib.Ieee.{Float, fin, binary64, mul, div, lt, le, ofInt, toUnsigned}
 use Rattle.timestamp.specs.Whole.{ceilOf, roundOf}
 use Rattle.timestamp.specs.FloatTimestamps.{stampOf}
+use Rattle.refusals.specs.Limits.{mostSteps, mostLagFrames}
 use Rattle.settings.specs.declared.Settings.{Settings}
 use Rattle.settings.specs.Tweening.{knownOf}
 
@@ -89,7 +90,7 @@ secondsPass s =
     between least64 one64 (s .timestep)
     && between least64 sixty64 (s .blend)
     && between nothing64 sixty64 (s .lag)
-    && leZ (lagFrameCountOf s) (pos 16383)
+    && leZ (lagFrameCountOf s) (pos mostLagFrames)
     && between nothing64 (mul binary64 sixtyFour64 (s .timestep)) (s .max)
 
 -- request period, deviation and skip threshold 0 to 3,600
@@ -105,7 +106,7 @@ samplesPass needed rate = leb 1 needed && leb needed 32 && between nothing64 one
 
 -- the samples, and m 1 to 64
 unfoldable pub countsPass : Settings → Bool
-countsPass s = samplesPass (s .needed) (s .rate) && leb 1 (s .m) && leb (s .m) 64
+countsPass s = samplesPass (s .needed) (s .rate) && leb 1 (s .m) && leb (s .m) mostSteps
 
 -- every setting is within its limits, and the method is one of the three; else the call is refused with 1
 unfoldable pub passesOf : Settings → Bool

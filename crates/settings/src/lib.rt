@@ -88,11 +88,11 @@ pub struct Settings {
 }
 
 impl Settings {
-    // The lag in frames, as the 16 bits of a difference of stamps: rounded, a half away from zero, and saturating.
+    // The lag in frames, rounded, a half away from zero, as the 16 bits that are taken off a stamp.
     pub fn lag_compensation_frame_count(self) -> u16
         ensures { λ r. ⌜ r ≡ bitsOf (lagFrameCountOf self) ⌝ }
     {
-        lag_frames(self.lag, self.timestep).0
+        Timestamp::from_value(lag_frames(self.lag, self.timestep)).0
     }
 
     // How far one frame moves the blend weight.
@@ -144,11 +144,13 @@ pub fn within(lo: f64, hi: f64, x: f64) -> bool
     false
 }
 
-// A lag in frames of the timestep, as a difference of stamps.
-pub fn lag_frames(lag: f64, timestep: f64) -> Timestamp
-    ensures { λ r. ⌜ r .0 ≡ bitsOf (lagFramesOf lag timestep) ⌝ }
+// How many frames of the timestep a lag is.
+pub fn lag_frames(lag: f64, timestep: f64) -> i16
+    ensures { λ r. ⌜ r ≡ lagFramesOf lag timestep ⌝ }
 {
-    FloatTimestamp(timestamp::round(lag / timestep)).trunc()
+    FloatTimestamp(timestamp::round(lag / timestep))
+        .trunc()
+        .value()
 }
 
 // How many samples are left out at each end of those sorted: half of the outliers that are to be expected, rounded up, and at least 1.
@@ -189,7 +191,7 @@ fn seconds_pass(s: Settings) -> bool
     if !within(0.0, 60.0, s.lag) {
         return false;
     }
-    if lag_frames(s.lag, s.timestep).value() > 16383 {
+    if lag_frames(s.lag, s.timestep) > refusals::MOST_LAG_FRAMES {
         return false;
     }
     within(0.0, 64.0 * s.timestep, s.max)
@@ -232,5 +234,5 @@ fn counts_pass(s: Settings) -> bool
     if m < 1 {
         return false;
     }
-    m <= 64
+    m <= refusals::MOST_STEPS
 }

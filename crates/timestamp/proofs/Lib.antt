@@ -1,4 +1,5 @@
 pub mod Basics
+pub mod Tests
 pub mod Signed
 pub mod Order
 pub mod Rfc

@@ -31,6 +31,13 @@ impl Timestamp {
         Timestamp(std::num::wrapping_sub_u16(self.0, other.0))
     }
 
+    // The stamp n frames earlier, modulo 65,536.
+    pub fn sub_frames(self, n: u16) -> Timestamp
+        ensures { λ r. ⌜ r .0 ≡ differenceOf (self .0) n ⌝ }
+    {
+        Timestamp(std::num::wrapping_sub_u16(self.0, n))
+    }
+
     // The order of two stamps: the sign of their signed difference. Of two that are 32,768 apart each is less than the other.
     pub fn cmp(self, other: Timestamp) -> Ordering
         ensures { λ r. ⌜ r ≡ orderOf (self .0) (other .0) ⌝ }

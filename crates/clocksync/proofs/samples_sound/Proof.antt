@@ -2,7 +2,7 @@
 use borrow.Author.Needs.{needs}
 use native.Mathlib.Omega.{arith}
 use Prim.Native.Nat.{_-_}
-use Rattle.settings.proofs.Tests.{fails, holds}
+use Rattle.timestamp.proofs.Tests.{fails, holds}
 use Rattle.clocksync.proofs.Lists.{Testing, testing-start, testing-no, testing-next, testing-end}
 use Rattle.clocksync.proofs.samples_sound.Statement.{statement}
 use Rattle.clocksync.proofs.samples_sound.Tie as tie

@@ -5,7 +5,7 @@ use mathlib.Core.Path.{refl}
 use lib.Ieee.{binary64, sub}
 use Rattle.command.proofs.Lists.{mapped-length}
 use Rattle.client_frame.proofs.Bounds.{Few, few-slots}
-use Rattle.fixed_timestepper.specs.declared.Stop.the-variants.{TooManyFrames, StatusStops, WeightStops}
+use Rattle.refusals.specs.declared.Stop.the-variants.{TooManyFrames, StatusStops}
 use Rattle.fixed_timestepper.proofs.Running.{run-few}
 use Rattle.fixed_timestepper.proofs.Updating.{update-done, update-stopped, update-level}
 use Rattle.fixed_timestepper.proofs.Levels.{level-run-parts}
@@ -66,9 +66,6 @@ enum-told-2 c = search needs
 enum-told-3 : tie.Need-enum-told-3
 enum-told-3 c = search needs
 
-enum-told-4 : tie.Need-enum-told-4
-enum-told-4 c = search needs
-
 same-length-2 : tie.Need-same-length-2
 same-length-2 c = search needs
 
@@ -98,15 +95,6 @@ returns-4 c =
     let d = a .before .before .before .before in
     update-stopped _ _ _ _ _ (d .before .last-completed-timestamp .ensures) (d .compensated-delta .ensures) refl StatusStops (a .advance .ensures) (c .enum-told3 .given .1) (λ r. refl)
 
-same-length-5 : tie.Need-same-length-5
-same-length-5 c = search needs
-
-returns-5 : tie.Need-returns-5
-returns-5 c =
-    let a = c .before .before .before .before in
-    let d = a .before .before .before .before in
-    update-stopped _ _ _ _ _ (d .before .last-completed-timestamp .ensures) (d .compensated-delta .ensures) refl WeightStops (a .advance .ensures) (c .enum-told4 .given .1) (λ r. refl)
-
 pub update-spec : {M : Type 1} → statement M
 update-spec =
     tie.close
@@ -122,12 +110,9 @@ update-spec =
     timeskip-requires
     enum-told-2
     enum-told-3
-    enum-told-4
     same-length-2
     returns-2
     same-length-3
     returns-3
     same-length-4
-    returns-4
-    same-length-5
-    returns-5)
+    returns-4)

@@ -5,7 +5,7 @@ use Prim.Native.Nat.{_≤_}
 use mathlib.Core.Path.{_≡_, _∙_}
 use mathlib.Core.Bool.{true}
 use Rattle.settings.specs.Settings.{samplesPass}
-use Rattle.settings.proofs.Tests.{fails, holds}
+use Rattle.timestamp.proofs.Tests.{fails, holds}
 use Rattle.settings.proofs.Few.{store-range}
 use Rattle.host.proofs.Answers.{bytes-refused, room-refused, lengths-pass, settings-refused, settings-pass}
 use Rattle.host.proofs.mean_of_bytes.Statement.{statement}

@@ -1,6 +1,6 @@
 -- `mean_of_first` meets its contract: the floats are read, tested and averaged. Assumes nothing.
 use borrow.Author.Needs.{needs}
-use Rattle.settings.proofs.Tests.{fails, holds}
+use Rattle.timestamp.proofs.Tests.{fails, holds}
 use Rattle.host.proofs.Answers.{floats-refused, floats-mean}
 use Rattle.host.proofs.mean_of_first.Statement.{statement}
 use Rattle.host.proofs.mean_of_first.Tie as tie

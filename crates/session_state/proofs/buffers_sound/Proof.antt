@@ -1,7 +1,7 @@
 -- `buffers_sound` meets its contract: each buffer in turn. Assumes nothing.
 use borrow.Author.Needs.{needs}
 use Rattle.session_state.specs.Sound.{buffersSound}
-use Rattle.session_state.proofs.Judging.{both-first, both-second, both-third}
+use Rattle.timestamp.proofs.Tests.{row-rules}
 use Rattle.session_state.proofs.buffers_sound.Statement.{statement}
 use Rattle.session_state.proofs.buffers_sound.Tie as tie
 
@@ -10,21 +10,21 @@ buffer-sound-requires c κs = search needs
 
 returns : tie.Need-returns
 unfolding buffersSound
-returns c = both-first _ _ (c .before .buffer-sound .ensures) (c .if1 .taken)
+returns c = search row-rules
 
 buffer-sound-requires-2 : tie.Need-buffer-sound-requires-2
 buffer-sound-requires-2 c κs = search needs
 
 returns-2 : tie.Need-returns-2
 unfolding buffersSound
-returns-2 c = both-second _ (c .before .before .before .buffer-sound .ensures) (c .before .before .if1 .left) (c .before .buffer-sound2 .ensures) (c .if2 .taken)
+returns-2 c = search row-rules
 
 buffer-sound-requires-3 : tie.Need-buffer-sound-requires-3
 buffer-sound-requires-3 c κs = search needs
 
 returns-3 : tie.Need-returns-3
 unfolding buffersSound
-returns-3 c = both-third (c .before .before .before .before .buffer-sound .ensures) (c .before .before .before .if1 .left) (c .before .before .buffer-sound2 .ensures) (c .before .if2 .left) (c .buffer-sound3 .ensures)
+returns-3 c = search row-rules
 
 pub buffers-sound-spec : {M : Type 1} → statement M
 buffers-sound-spec =

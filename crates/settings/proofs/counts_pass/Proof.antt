@@ -3,7 +3,7 @@ use borrow.Author.Needs.{needs}
 use borrow.Author.Tests.{le-leb, lt-leb}
 use native.Mathlib.Omega.{arith}
 use Rattle.settings.specs.Settings.{countsPass}
-use Rattle.settings.proofs.Tests.{fails, holds}
+use Rattle.timestamp.proofs.Tests.{fails, holds}
 use Rattle.settings.proofs.counts_pass.Statement.{statement}
 use Rattle.settings.proofs.counts_pass.Tie as tie
 

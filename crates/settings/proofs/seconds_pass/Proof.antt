@@ -7,8 +7,9 @@ use lib.Signed.{ltZ, leZ}
 use lib.Ieee.{ofBits}
 use mir.Syntax.{w16}
 use mir.Val.{toZ, ofZ}
+use Rattle.refusals.specs.Limits.{mostLagFrames}
 use Rattle.settings.specs.Settings.{secondsPass, lagFrameCountOf}
-use Rattle.settings.proofs.Tests.{fails, holds}
+use Rattle.timestamp.proofs.Tests.{fails, holds}
 use Rattle.settings.proofs.Lag.{lag-fits, lag-over, lag-under}
 use Rattle.settings.proofs.seconds_pass.Statement.{statement}
 use Rattle.settings.proofs.seconds_pass.Tie as tie
@@ -42,21 +43,18 @@ returns-3 c =
 lag-frames-requires : tie.Need-lag-frames-requires
 lag-frames-requires c κs = search needs
 
-value-requires : tie.Need-value-requires
-value-requires c κs = search needs
-
 -- the lag's frame count at the test
-module _ (c : tie.After-value) where
-  frames-over : ltZ (pos 16383) (toZ w16 (ofZ w16 (c .value .result))) ≡ true → leZ (lagFrameCountOf (c .before .before .before .before .before .before .before .before .args .s)) (pos 16383) ≡ false
-  frames-over t = lag-over _ (lag-fits _ _) (c .before .lag-frames .ensures) (c .value .ensures) 16383 t
+module _ (c : tie.After-lag-frames) where
+  frames-over : ltZ (pos mostLagFrames) (toZ w16 (ofZ w16 (c .lag-frames .result))) ≡ true → leZ (lagFrameCountOf (c .before .before .before .before .before .before .before .args .s)) (pos mostLagFrames) ≡ false
+  frames-over t = lag-over _ (lag-fits _ _) (c .lag-frames .ensures) mostLagFrames t
 
-  frames-under : ltZ (pos 16383) (toZ w16 (ofZ w16 (c .value .result))) ≡ false → leZ (lagFrameCountOf (c .before .before .before .before .before .before .before .before .args .s)) (pos 16383) ≡ true
-  frames-under t = lag-under _ (lag-fits _ _) (c .before .lag-frames .ensures) (c .value .ensures) 16383 t
+  frames-under : ltZ (pos mostLagFrames) (toZ w16 (ofZ w16 (c .lag-frames .result))) ≡ false → leZ (lagFrameCountOf (c .before .before .before .before .before .before .before .args .s)) (pos mostLagFrames) ≡ true
+  frames-under t = lag-under _ (lag-fits _ _) (c .lag-frames .ensures) mostLagFrames t
 
 returns-4 : tie.Need-returns-4
 unfolding secondsPass ofBits
 returns-4 c =
-    let o = c .before .before .before in
+    let o = c .before .before in
     let p = o .before .before in
     let q = p .before .before in
     simp (holds (q .if1 .left) (q .before .within .ensures), holds (p .if2 .left) (p .before .within2 .ensures), holds (o .if3 .left) (o .before .within3 .ensures), frames-over (c .before) (c .if4 .taken))
@@ -68,7 +66,7 @@ returns-5 : tie.Need-returns-5
 unfolding secondsPass ofBits
 returns-5 c =
     let n = c .before .before in
-    let o = n .before .before .before in
+    let o = n .before .before in
     let p = o .before .before in
     let q = p .before .before in
     simp (holds (q .if1 .left) (q .before .within .ensures), holds (p .if2 .left) (p .before .within2 .ensures), holds (o .if3 .left) (o .before .within3 .ensures), frames-under (n .before) (n .if4 .left)) (c .within4 .ensures)
@@ -84,7 +82,6 @@ seconds-pass-spec =
     within-requires-3
     returns-3
     lag-frames-requires
-    value-requires
     returns-4
     within-requires-4
     returns-5)

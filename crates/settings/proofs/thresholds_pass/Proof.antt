@@ -2,7 +2,7 @@
 use borrow.Author.Needs.{needs}
 use lib.Ieee.{ofBits}
 use Rattle.settings.specs.Settings.{thresholdsPass}
-use Rattle.settings.proofs.Tests.{fails, holds}
+use Rattle.timestamp.proofs.Tests.{fails, holds}
 use Rattle.settings.proofs.thresholds_pass.Statement.{statement}
 use Rattle.settings.proofs.thresholds_pass.Tie as tie
 

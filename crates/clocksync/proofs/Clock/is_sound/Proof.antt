@@ -4,7 +4,7 @@ use mathlib.Core.Path.{sym, ap, _∙_}
 use native.Mathlib.Omega.{arith}
 use Prim.Native.Nat.{_<_}
 use Rattle.settings.specs.Settings.{samplesToStoreOf}
-use Rattle.settings.proofs.Tests.{fails, holds}
+use Rattle.timestamp.proofs.Tests.{fails, holds}
 use Rattle.clocksync.specs.Clock.{offsetOk}
 use Rattle.clocksync.proofs.Verdict.{verdict-full, verdict-many, verdict-samples, verdict-timer, verdict-offset}
 use Rattle.clocksync.proofs.Clock.is_sound.Statement.{statement}

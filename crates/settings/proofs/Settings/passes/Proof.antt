@@ -1,7 +1,7 @@
 -- `passes` meets its contract: the groups of limits one by one. Assumes nothing.
 use borrow.Author.Needs.{needs}
 use Rattle.settings.specs.Settings.{passesOf}
-use Rattle.settings.proofs.Tests.{fails, holds}
+use Rattle.timestamp.proofs.Tests.{fails, holds}
 use Rattle.settings.proofs.Settings.passes.Statement.{statement}
 use Rattle.settings.proofs.Settings.passes.Tie as tie
 

@@ -1,0 +1,27 @@
+-- The limits of document 01 that are whole numbers. The limits of settings and times that are floats stand with the settings.
+-- Definitions only. Assumes nothing.
+use Prim.Native.Nat.{ℕ, _^_}
+
+-- an inbox has at most so many words
+abbrev pub mostWords : ℕ
+mostWords = 4096
+
+-- a handle is below this: it has 24 bits
+abbrev pub handleRoom : ℕ
+handleRoom = 2 ^ 24
+
+-- a buffer holds at most so many commands
+abbrev pub bufferRoom : ℕ
+bufferRoom = 64
+
+-- an update plays at most so many frames
+abbrev pub mostFrames : ℕ
+mostFrames = 65
+
+-- m, the catch-up steps of a frame, is at most this
+abbrev pub mostSteps : ℕ
+mostSteps = 64
+
+-- the lag is at most so many frames
+abbrev pub mostLagFrames : ℕ
+mostLagFrames = 16383
