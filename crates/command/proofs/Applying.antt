@@ -5,18 +5,16 @@ use mathlib.Core.Bool.{Bool, true, false}
 use Prim.Native.Nat.{ℕ, _+_, _-_, _≤_, _<_}
 use native.Mathlib.Omega.{arith}
 use lib.ListN.{length, take, getD, length-map, length-take}
-use Rattle.tape.specs.Words.{commandWord, stepsOn, stepWords, commandsOn}
+use Rattle.tape.specs.Words.{commandWord, stepsOn, commandsOn}
 use Rattle.tape.specs.Tape.{Puts}
 use Rattle.tape.proofs.Writing.{puts-none, puts-then, puts-as, puts-length}
-use Rattle.tape.proofs.Counting.{step-words-command, steps-on-command, commands-on-command, same-side, other-side}
+use Rattle.tape.proofs.Counting.{steps-on-command, commands-on-command, same-side, other-side}
 use Rattle.command.specs.declared.Entry.{Entry}
 use Rattle.command.specs.Lists.{filterB}
 use Rattle.command.specs.declared.CommandBuffer.{CommandBuffer}
-use Rattle.command.specs.declared.Applied.{Applied}
-use Rattle.timestamp.specs.declared.Timestamp.{Timestamp}
-use Rattle.command.specs.Buffer.{held, dueOf, takenOf, commandWords, Applies, AppliesAll}
+use Rattle.command.specs.Buffer.{held, commandWords}
 use Rattle.command.proofs.Lists.{filter-took, filter-left, filter-short}
-use Rattle.command.proofs.Holding.{held-take, held-few}
+use Rattle.command.proofs.Holding.{held-take}
 
 -- ---- the words
 
@@ -32,12 +30,6 @@ module _ (side : ℕ) where
   pub words-length : (xs : List Entry) → length (commandWords side xs) ≡ length xs
   unfolding commandWords
   words-length xs = length-map xs (λ e. commandWord side (e .handle))
-
-  -- they hold no step
-  pub words-no-step : (xs : List Entry) → stepWords (commandWords side xs) ≡ 0
-  unfolding commandWords stepWords
-  words-no-step [] = refl
-  words-no-step (x ∷ xs) = step-words-command (commandWords side xs) side (x .handle) ∙ words-no-step xs
 
   pub words-no-step-on : (other : ℕ) (xs : List Entry) → stepsOn other (commandWords side xs) ≡ 0
   unfolding commandWords stepsOn
@@ -88,20 +80,3 @@ module _ {side : ℕ} {p : Entry → Bool} {xs : List Entry} {m : ℕ} {was : Li
 -- once it has passed them all
 pub apply-held : (b : CommandBuffer) {side : ℕ} {p : Entry → Bool} {m : ℕ} {was : List ℕ} {place i q : ℕ} {last : List ℕ} → Applying side p (b .entries) m was place i q last → i ≡ m → m ≡ length (held b) → Puts was place (commandWords side (filterB p (held b))) q last
 apply-held b {side} {p} s e f = puts-as (ap (λ (n : ℕ). commandWords side (filterB p (take n (b .entries)))) e ∙ ap (λ (l : List Entry). commandWords side (filterB p l)) (held-take b f)) (s .words)
-
--- ---- the contracts of the drains to the tape
-
--- what such a drain puts, for a caller that puts more after it
-pub applies-puts : {b : CommandBuffer} {s : Timestamp} {side place : ℕ} {was last : List ℕ} {r : Applied} → Applies b s side place was r last → Puts was place (commandWords side (takenOf b s)) (r .at) last
-applies-puts {b} {s} {side} {place} a = record { at = omega (arith, a .at, words-length side (takenOf b s)); tape = a .tape }
-
-pub applies-all-puts : {b : CommandBuffer} {side place : ℕ} {was last : List ℕ} {r : Applied} → AppliesAll b side place was r last → Puts was place (commandWords side (held b)) (r .at) last
-applies-all-puts {b} {side} {place} a = record { at = omega (arith, a .at, words-length side (held b)); tape = a .tape }
-
--- a drain puts at most 64 words
-pub applies-few : {b : CommandBuffer} {s : Timestamp} {side place : ℕ} {was last : List ℕ} {r : Applied} → length (b .entries) ≡ 64 → Applies b s side place was r last → r .at ≤ place + 64
-unfolding takenOf
-applies-few {b} {s} slots a = omega (arith, a .at, filter-short (dueOf s) (held b), held-few b slots)
-
-pub applies-all-few : {b : CommandBuffer} {side place : ℕ} {was last : List ℕ} {r : Applied} → length (b .entries) ≡ 64 → AppliesAll b side place was r last → r .at ≤ place + 64
-applies-all-few {b} slots a = omega (arith, a .at, held-few b slots)

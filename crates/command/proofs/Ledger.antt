@@ -24,11 +24,6 @@ unfolding leaving
 leaving-len [] left b n h k = h
 leaving-len (x ∷ gone) left b n h k = rw (len-laid left (b .timestamp)) k
 
--- ---- a new buffer
-
-pub new-held : (t : Timestamp) → held (laid [] t) ≡ []
-new-held t = held-laid [] t
-
 -- ---- an insertion
 
 -- an entry that takes its place makes one more
@@ -146,7 +141,3 @@ emptied-stamp b = stamp-leaving (held b) [] b
 pub emptied-len : (b : CommandBuffer) {n : ℕ} → b .len ≤ n → emptiedOf b .len ≤ n
 unfolding emptiedOf
 emptied-len b {n} h = leaving-len (held b) [] b n h (omega arith)
-
--- held before is all that it takes
-pub emptied-ledger : (b : CommandBuffer) → length (held b) ≡ length (held b) + length (held (emptiedOf b))
-emptied-ledger b = omega (arith, ap length (emptied-held b))

@@ -15,7 +15,7 @@ use mathlib.Core.Logic.{inl, inr}
 use Rattle.command.specs.declared.Entry.{Entry}
 use Rattle.command.specs.declared.CommandBuffer.{CommandBuffer}
 use Rattle.command.specs.Lists.{filterB, allB}
-use Rattle.command.specs.Buffer.{held, blank, laid, inRangeOf, dueOf, laterThan, placedOf, insertedOf, movedOf, takenOf, restOf, emptiedOf}
+use Rattle.command.specs.Buffer.{held, blank, laid, inRangeOf, dueOf, laterThan, placedOf, insertedOf, movedOf, restOf, emptiedOf}
 use Rattle.command.specs.Ranks.{soundRank}
 use Rattle.command.specs.Soundness.{inOrderAfter, inOrder, orderedIn, smallHandle, soundBuffer}
 use Rattle.command.proofs.Holding.{held-laid, stamp-laid, len-laid, held-len}
@@ -122,33 +122,6 @@ emptied-sound b h =
       order = rw (emptied-held b) tt;
       small = rw (emptied-held b) refl;
     })
-
--- ---- order and range by themselves
-
-pub new-ordered : (t : Timestamp) → orderedIn t (held (laid [] t)) ≡ true
-new-ordered t = rw (held-laid [] t) (ordered-holds t [] tt)
-
-pub inserted-ordered : (b : CommandBuffer) (e : Entry) → orderedIn (b .timestamp) (held b) ≡ true → orderedIn (b .timestamp) (held (insertedOf b e .buffer)) ≡ true
-inserted-ordered b e s = go (insertion-ways b e)
-  where
-    go : Ways b e → orderedIn (b .timestamp) (held (insertedOf b e .buffer)) ≡ true
-    go (is-out i q) = rw q s
-    go (is-full i f q) = rw q s
-    go (is-taken i f q) = rw (q, held-laid) (ordered-holds (b .timestamp) (placedOf (b .timestamp) e (held b)) (ordered-placed (b .timestamp) e (held b) i (ordered-tells (b .timestamp) (held b) s)))
-
-pub moved-ordered : (b : CommandBuffer) (t : Timestamp) → orderedIn (b .timestamp) (held b) ≡ true → orderedIn t (held (movedOf b t .buffer)) ≡ true
-moved-ordered b t s = rw (moved-held b t) (ordered-holds t (filterB (inRangeOf t) (held b)) (ordered-moved (b .timestamp) t 0 0 (held b) (λ y a c d e f. omega arith) (ordered-tells (b .timestamp) (held b) s)))
-
-pub rest-ordered : (b : CommandBuffer) (s : Timestamp) → orderedIn (b .timestamp) (held b) ≡ true → orderedIn (b .timestamp) (held (restOf b s)) ≡ true
-rest-ordered b s h = rw (rest-held b s) (ordered-holds (b .timestamp) (filterB (λ e. not (dueOf s e)) (held b)) (ordered-filter (λ e. not (dueOf s e)) (b .timestamp) 0 (held b) (ordered-tells (b .timestamp) (held b) h)))
-
--- what a drain takes is in order too: oldest first
-pub taken-ordered : (b : CommandBuffer) (s : Timestamp) → orderedIn (b .timestamp) (held b) ≡ true → orderedIn (b .timestamp) (takenOf b s) ≡ true
-unfolding takenOf
-taken-ordered b s h = ordered-holds (b .timestamp) (filterB (dueOf s) (held b)) (ordered-filter (dueOf s) (b .timestamp) 0 (held b) (ordered-tells (b .timestamp) (held b) h))
-
-pub emptied-ordered : (b : CommandBuffer) → orderedIn (b .timestamp) (held (emptiedOf b)) ≡ true
-emptied-ordered b = rw (emptied-held b) (ordered-holds (b .timestamp) [] tt)
 
 -- ---- the loop
 

@@ -27,10 +27,6 @@ pub step-applies : (w : Simulation) (side : ℕ) → stepOf w side .applied ≤ 
 unfolding stepOf
 step-applies w side = taken-few (w .commands) (nextStamp (w .commands .timestamp))
 
--- a step puts at most 65 words
-pub step-few : (w : Simulation) (side : ℕ) → length (w .commands .entries) ≡ 64 → length (stepOf w side .words) ≤ 65
-step-few w side full = omega (arith, step-words w side, step-applies w side, held-few (w .commands) full)
-
 -- a reset's words are the commands that it applies, no more than are held
 pub reset-words : (w : Simulation) (t : Timestamp) (side : ℕ) → length (resetOf w t side .words) ≡ resetOf w t side .applied
 unfolding resetOf
