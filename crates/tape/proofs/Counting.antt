@@ -8,15 +8,11 @@ use borrow.Author.Tests.{eq-eqb, ne-eqb}
 use lib.Dec.{eqb}
 use lib.ListN.{replicate}
 use lib.Ieee.{Float}
-use Rattle.tape.specs.Words.{stepWord, commandWord, snapshotWord, publishWord, weightWord, noneWord, weightWords, mixWords, kindOf, sideOf, countIf, stepWords, stepsOn, commandsOn}
+use Rattle.tape.specs.Words.{stepWord, commandWord, snapshotWord, publishWord, noneWord, weightWords, mixWords, kindOf, sideOf, countIf, stepWords}
+use Rattle.tape.specs.Words.{stepsOn, commandsOn}
 use Rattle.tape.proofs.Reading.{kind-of-step, kind-of-command, kind-of-snapshot, kind-of-publish, kind-of-mix, kind-of-weight, kind-of-none, side-of-step, side-of-command}
 
 -- ---- along a list
-
-pub step-words-append : (us ws : List ℕ) → stepWords (us ++ ws) ≡ stepWords us + stepWords ws
-unfolding stepWords
-step-words-append [] ws = omega arith
-step-words-append (u ∷ us) ws = omega (arith, step-words-append us ws)
 
 module _ (side : ℕ) where
   pub steps-on-append : (us ws : List ℕ) → stepsOn side (us ++ ws) ≡ stepsOn side us + stepsOn side ws
@@ -48,10 +44,6 @@ steps-both (w ∷ ws) = go (eqb (kindOf w) 1) (sideOf w) (omega arith) (steps-bo
 
 -- a word of kind k that is neither a step nor a command
 module _ (w k : ℕ) (e : kindOf w ≡ k) (ws : List ℕ) where
-  step-words-pass : eqb k 1 ≡ false → stepWords (w ∷ ws) ≡ stepWords ws
-  unfolding stepWords
-  step-words-pass h = rw (e, h) (omega arith)
-
   steps-on-pass : (side : ℕ) → eqb k 1 ≡ false → stepsOn side (w ∷ ws) ≡ stepsOn side ws
   unfolding stepsOn
   steps-on-pass side h = rw (e, h) (omega arith)
@@ -59,26 +51,6 @@ module _ (w k : ℕ) (e : kindOf w ≡ k) (ws : List ℕ) where
   commands-on-pass : (side : ℕ) → eqb k 2 ≡ false → commandsOn side (w ∷ ws) ≡ commandsOn side ws
   unfolding commandsOn
   commands-on-pass side h = rw (e, h) (omega arith)
-
-module _ (ws : List ℕ) where
-  pub step-words-step : (s : ℕ) → stepWords (stepWord s ∷ ws) ≡ 1 + stepWords ws
-  unfolding stepWords
-  step-words-step s = rw (kind-of-step s)
-
-  pub step-words-command : (s h : ℕ) → stepWords (commandWord s h ∷ ws) ≡ stepWords ws
-  step-words-command s h = step-words-pass (commandWord s h) 2 (kind-of-command s h) ws refl
-
-  pub step-words-snapshot : (s h : ℕ) → stepWords (snapshotWord s h ∷ ws) ≡ stepWords ws
-  step-words-snapshot s h = step-words-pass (snapshotWord s h) 3 (kind-of-snapshot s h) ws refl
-
-  pub step-words-publish : (s : ℕ) → stepWords (publishWord s ∷ ws) ≡ stepWords ws
-  step-words-publish s = step-words-pass (publishWord s) 4 (kind-of-publish s) ws refl
-
-  pub step-words-none : stepWords (noneWord ∷ ws) ≡ stepWords ws
-  step-words-none = step-words-pass noneWord 7 kind-of-none ws refl
-
-  pub step-words-weight : (part : ℕ) → stepWords (weightWord part ∷ ws) ≡ stepWords ws
-  step-words-weight part = step-words-pass (weightWord part) 6 (kind-of-weight part) ws refl
 
 module _ (side : ℕ) (ws : List ℕ) where
   pub steps-on-step : (s : ℕ) → stepsOn side (stepWord s ∷ ws) ≡ countIf (eqb (s % 2) side) + stepsOn side ws
@@ -97,9 +69,6 @@ module _ (side : ℕ) (ws : List ℕ) where
   pub steps-on-none : stepsOn side (noneWord ∷ ws) ≡ stepsOn side ws
   steps-on-none = steps-on-pass noneWord 7 kind-of-none ws side refl
 
-  pub steps-on-weight : (part : ℕ) → stepsOn side (weightWord part ∷ ws) ≡ stepsOn side ws
-  steps-on-weight part = steps-on-pass (weightWord part) 6 (kind-of-weight part) ws side refl
-
   pub commands-on-step : (s : ℕ) → commandsOn side (stepWord s ∷ ws) ≡ commandsOn side ws
   commands-on-step s = commands-on-pass (stepWord s) 1 (kind-of-step s) ws side refl
 
@@ -116,14 +85,7 @@ module _ (side : ℕ) (ws : List ℕ) where
   pub commands-on-none : commandsOn side (noneWord ∷ ws) ≡ commandsOn side ws
   commands-on-none = commands-on-pass noneWord 7 kind-of-none ws side refl
 
-  pub commands-on-weight : (part : ℕ) → commandsOn side (weightWord part ∷ ws) ≡ commandsOn side ws
-  commands-on-weight part = commands-on-pass (weightWord part) 6 (kind-of-weight part) ws side refl
-
 -- ---- the words of a mix
-
-pub step-words-mix : (x : Float) → stepWords (mixWords x) ≡ 0
-unfolding mixWords weightWords stepWords
-step-words-mix x = simp (kind-of-mix, kind-of-weight)
 
 module _ (side : ℕ) (x : Float) where
   pub steps-on-mix : stepsOn side (mixWords x) ≡ 0
@@ -135,11 +97,6 @@ module _ (side : ℕ) (x : Float) where
   commands-on-mix = simp (kind-of-mix, kind-of-weight)
 
 -- ---- the zeros past the last word
-
-pub step-words-zeros : (n : ℕ) → stepWords (replicate n 0) ≡ 0
-unfolding stepWords
-step-words-zeros zero = refl
-step-words-zeros (suc n) = omega (arith, step-words-zeros n)
 
 module _ (side : ℕ) where
   pub steps-on-zeros : (n : ℕ) → stepsOn side (replicate n 0) ≡ 0

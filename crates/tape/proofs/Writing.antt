@@ -80,11 +80,6 @@ cleared-end t i h =
     let e : wordsFrom t i ≡ 0 = omega arith in
     rw e refl
 
--- a tape keeps its length
-pub length-cleared : (t : List ℕ) (i : ℕ) → length (cleared t i) ≡ length t
-unfolding cleared
-length-cleared t i = length-written t i (replicate (wordsFrom t i) 0)
-
 -- zeroed from the start, a tape is zeros
 pub cleared-all : (t : List ℕ) → cleared t 0 ≡ replicate (length t) 0
 unfolding cleared written

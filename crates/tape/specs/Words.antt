@@ -58,10 +58,6 @@ kindOf w = w / 2 ^ 28
 abbrev pub sideOf : ℕ → ℕ
 sideOf w = (w / 2 ^ 27) % 2
 
--- the handle of a word: its low 24 bits
-abbrev pub handleOf : ℕ → ℕ
-handleOf w = w % 2 ^ 24
-
 -- 1 where a test holds, and 0 where not
 abbrev pub countIf : Bool → ℕ
 countIf true = 1
