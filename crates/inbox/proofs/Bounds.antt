@@ -18,7 +18,8 @@ use Rattle.inbox.specs.declared.Time.{Time}
 use Rattle.inbox.specs.declared.Time.the-variants.{At, OutOfRange}
 use Rattle.inbox.specs.declared.Message.{Message}
 use Rattle.inbox.specs.declared.Message.the-variants.{Command, Snapshot, Clock, BadTime, WrongWord, CutShort}
-use Rattle.inbox.specs.Inbox.{restOf, isWord, stampFrom, wordOf, headOf, bitsOf, timeOk, pickTime, timeOf, pickClock, clockOf, Front, frontWith, thenHandle, thenTime, byHead, frontOf, messagesAfter, messagesOf, stepIn, stepOf}
+use Rattle.inbox.specs.Inbox.{restOf, isWord, stampFrom, wordOf, headOf, bitsOf, timeOk, pickTime, timeOf, pickClock, clockOf, Front, frontWith}
+use Rattle.inbox.specs.Inbox.{thenHandle, thenTime, byHead, frontOf, messagesAfter, messagesOf}
 use Rattle.inbox.proofs.Words.{word-room}
 use Rattle.inbox.proofs.Passes.{Each}
 
@@ -95,15 +96,6 @@ by-head NoHead ws h = tt
 front-bounded : (w : ℕ) (ws : List ℕ) → Bounded (frontOf w ws .message)
 unfolding frontOf
 front-bounded w ws = by-head (headOf w) (w ∷ ws) (head-bounded w)
-
--- the message at a place is bounded
-pub step-bounded : (words : List ℕ) (at : ℕ) → Bounded (stepOf words at .message)
-unfolding stepOf
-step-bounded words at = go (drop at words)
-  where
-    go : (ws : List ℕ) → Bounded (stepIn at ws .message)
-    go [] = tt
-    go (w ∷ ws) = front-bounded w ws
 
 after-bounded : (k : ℕ) (ws : List ℕ) → Each Bounded (messagesAfter k ws)
 unfolding messagesAfter

@@ -5,8 +5,4 @@ pub mod Refusals
 pub mod Passes
 pub mod Passing
 pub mod Bounds
-pub mod Counting
 pub mod Others
-pub mod Written
-pub mod Accepted
-pub mod Cases

@@ -3,7 +3,7 @@ use mathlib.Core.Path.{_≡_, refl, sym, ap, _∙_}
 use mathlib.Core.List.{List, [], _∷_}
 use Prim.Native.Nat.{ℕ, zero, suc, _+_, _-_, _<_, _≤_, _^_}
 use native.Mathlib.Omega.{arith}
-use lib.ListN.{length, drop, getD, drop-of-length-le, length-drop}
+use lib.ListN.{length, drop, getD, drop-of-length-le}
 use lib.Seq.{drop-cons, drop-drop}
 use Rattle.inbox.specs.declared.Word.{Word}
 use Rattle.inbox.specs.declared.Word.the-variants.{Value, Wrong, Missing}
@@ -14,53 +14,29 @@ use Rattle.inbox.specs.declared.Bits.the-variants.{Are, BitsWrong, BitsC
 use Rattle.inbox.specs.declared.Message.{Message}
 use Rattle.inbox.specs.declared.Message.the-variants.{Command, Snapshot}
 use Rattle.inbox.specs.declared.Step.{Step}
-use Rattle.inbox.specs.Inbox.{wordOf, headOf, joinedOf, thenBits, bitsOf, clockOf, Front, frontWith, thenHandle, thenTime, byHead, frontOf, messagesAfter, messagesOf, stepBy, stepIn, stepOf}
+use Rattle.inbox.specs.Inbox.{wordOf, headOf, bitsOf, clockOf, Front, frontWith, thenHandle, thenTime, byHead, frontOf, messagesAfter, messagesOf, stepBy}
+use Rattle.inbox.specs.Inbox.{stepIn, stepOf}
 
--- ---- a message takes a word or more, and no more than there are
-pub record Sized (n size : ℕ) : Type 0 where
-  pub any : 1 ≤ size
-  pub within : size ≤ n
+-- ---- a message takes a word or more
 
--- a word that is there counts
-word-there : (k room : ℕ) (l : List ℕ) (v : ℕ) → wordOf k room l ≡ Value v → 1 ≤ length l
-word-there k room [] v e = absurd (let z : _≡_ {A = ℕ} 0 1 = cc in omega arith)
-word-there k room (w ∷ l) v e = omega arith
+handle-size : (x : Word) (n : ℕ) (f : ℕ → Message) → 1 ≤ n → 1 ≤ thenHandle x n f .size
+handle-size (Value v) n f h = omega arith
+handle-size Wrong n f h = h
+handle-size Missing n f h = h
 
-handle-size : (x : Word) (n : ℕ) (f : ℕ → Message) → 1 ≤ n → ((v : ℕ) → x ≡ Value v → 2 ≤ n) → Sized n (thenHandle x n f .size)
-handle-size (Value v) n f h g = record { any = omega arith; within = g v refl }
-handle-size Wrong n f h g = record { any = h; within = omega arith }
-handle-size Missing n f h g = record { any = h; within = omega arith }
+time-size : (x : Bits) (n : ℕ) (f : ℕ → Front) → 1 ≤ n → ((b : ℕ) → 1 ≤ f b .size) → 1 ≤ thenTime x n f .size
+time-size (Are b) n f h g = g b
+time-size BitsWrong n f h g = h
+time-size BitsCut n f h g = h
 
-time-size : (x : Bits) (n : ℕ) (f : ℕ → Front) → 1 ≤ n → ((b : ℕ) → x ≡ Are b → Sized n (f b .size)) → Sized n (thenTime x n f .size)
-time-size (Are b) n f h g = g b refl
-time-size BitsWrong n f h g = record { any = h; within = omega arith }
-time-size BitsCut n f h g = record { any = h; within = omega arith }
-
--- a float's bits are said by three words that are there
-pub bits-three : (l : List ℕ) (b : ℕ) → bitsOf l ≡ Are b → 3 ≤ length l
-unfolding bitsOf
-bits-three l b e = go (wordOf 5 (2 ^ 8) l) (wordOf 5 (2 ^ 28) (drop 1 l)) (wordOf 5 (2 ^ 28) (drop 2 l)) refl e
-  where
-    go : (x y z : Word) → wordOf 5 (2 ^ 28) (drop 2 l) ≡ z → thenBits x (λ (p : ℕ). thenBits y (λ (q : ℕ). thenBits z (λ (r : ℕ). Are (joinedOf p q r)))) ≡ Are b → 3 ≤ length l
-    go (Value p) (Value q) (Value r) h i = omega (arith, word-there 5 (2 ^ 28) (drop 2 l) r h, length-drop 2 l)
-    go (Value p) (Value q) Wrong h i = absurd (let z : _≡_ {A = ℕ} 0 1 = cc in omega arith)
-    go (Value p) (Value q) Missing h i = absurd (let z : _≡_ {A = ℕ} 0 1 = cc in omega arith)
-    go (Value p) Wrong z h i = absurd (let z : _≡_ {A = ℕ} 0 1 = cc in omega arith)
-    go (Value p) Missing z h i = absurd (let z : _≡_ {A = ℕ} 0 1 = cc in omega arith)
-    go Wrong y z h i = absurd (let z : _≡_ {A = ℕ} 0 1 = cc in omega arith)
-    go Missing y z h i = absurd (let z : _≡_ {A = ℕ} 0 1 = cc in omega arith)
-
-head-size : (d : Head) (w : ℕ) (ws : List ℕ) → Sized (length (w ∷ ws)) (byHead d (w ∷ ws) .size)
-head-size (ForCommand s) w ws =
-    handle-size (wordOf 4 (2 ^ 24) ws) (length (w ∷ ws)) (λ (h : ℕ). Command s h) (omega arith) (λ v e. omega (arith, word-there 4 (2 ^ 24) ws v e))
-head-size (ForSnapshot s) w ws =
-    handle-size (wordOf 4 (2 ^ 24) ws) (length (w ∷ ws)) (λ (h : ℕ). Snapshot s h) (omega arith) (λ v e. omega (arith, word-there 4 (2 ^ 24) ws v e))
+head-size : (d : Head) (w : ℕ) (ws : List ℕ) → 1 ≤ byHead d (w ∷ ws) .size
+head-size (ForCommand s) w ws = handle-size (wordOf 4 (2 ^ 24) ws) (length (w ∷ ws)) (λ (h : ℕ). Command s h) (omega arith)
+head-size (ForSnapshot s) w ws = handle-size (wordOf 4 (2 ^ 24) ws) (length (w ∷ ws)) (λ (h : ℕ). Snapshot s h) (omega arith)
 head-size (ForClock id) w ws =
     let all = length (w ∷ ws) in
     time-size (bitsOf (drop 1 (w ∷ ws))) all (λ (s : ℕ). thenTime (bitsOf (drop 4 (w ∷ ws))) all (λ (t : ℕ). frontWith (clockOf id s t) 7)) (omega arith)
-    (λ s e. time-size (bitsOf (drop 4 (w ∷ ws))) all (λ (t : ℕ). frontWith (clockOf id s t) 7) (omega arith)
-    (λ t g. record { any = omega arith; within = omega (arith, bits-three (drop 4 (w ∷ ws)) t g, length-drop 4 (w ∷ ws)) }))
-head-size NoHead w ws = record { any = omega arith; within = omega arith }
+    (λ s. time-size (bitsOf (drop 4 (w ∷ ws))) all (λ (t : ℕ). frontWith (clockOf id s t) 7) (omega arith) (λ t. omega arith))
+head-size NoHead w ws = omega arith
 
 -- words that belong to the message before are passed over
 skipped : (k : ℕ) (ws : List ℕ) → messagesAfter k ws ≡ messagesOf (drop k ws)
@@ -81,23 +57,19 @@ module _ (l : List ℕ) (at : ℕ) (h : at < length l) where
   unfolding stepOf
   here = sym (ap (stepIn at) (drop-cons l at 0 h))
 
-  front-size : Sized (length (w ∷ ws)) (frontOf w ws .size)
+  front-size : 1 ≤ frontOf w ws .size
   unfolding frontOf
   front-size = head-size (headOf w) w ws
 
   -- the place after a message is further on: the measure of a loop falls
   pub next-after : at < stepOf l at .next
-  next-after = omega (arith, ap (λ (s : Step). s .next) here, front-size .any)
-
-  -- and it is a place of the list or its end
-  pub next-within : stepOf l at .next ≤ length l
-  next-within = omega (arith, ap (λ (s : Step). s .next) here, front-size .within, length-drop (suc at) l)
+  next-after = omega (arith, ap (λ (s : Step). s .next) here, front-size)
 
   -- the messages from a place on are the message at it, and then those from the next place on
   pub messages-next : messagesOf (drop at l) ≡ stepOf l at .message ∷ messagesOf (drop (stepOf l at .next) l)
   unfolding messagesAfter
   messages-next =
-      let n : suc at + (frontOf w ws .size - 1) ≡ stepOf l at .next = omega (arith, ap (λ (s : Step). s .next) here, front-size .any) in
+      let n : suc at + (frontOf w ws .size - 1) ≡ stepOf l at .next = omega (arith, ap (λ (s : Step). s .next) here, front-size) in
       let e : messagesAfter (frontOf w ws .size - 1) ws ≡ messagesOf (drop (stepOf l at .next) l) =
       skipped (frontOf w ws .size - 1) ws ∙ ap messagesOf (drop-drop (frontOf w ws .size - 1) (suc at) l ∙ ap (λ (k : ℕ). drop k l) n) in
       ap messagesOf (drop-cons l at 0 h) ∙ (λ i. here i .message ∷ e i)

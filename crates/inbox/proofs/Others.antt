@@ -1,6 +1,6 @@
 -- A `match` with an arm for one kind of message and `_ =>` for the others: what comes to the other arm is not of that kind. Assumes nothing.
 use mathlib.Core.Path.{_≡_, refl}
-use mathlib.Core.Bool.{false}
+use mathlib.Core.Bool.{Bool, true, false}
 use mathlib.Core.List.{[], _∷_}
 use mathlib.Core.Logic.{⊎-elim}
 use Prim.Native.Nat.{ℕ}
@@ -9,8 +9,34 @@ use types.Run.{OneOf}
 use denote.Enum.Declared.{tagOf}
 use Rattle.inbox.specs.declared.Message.{Message}
 use Rattle.inbox.specs.declared.Message.the-variants.{Command, Snapshot, Clock, BadTime, WrongWord, CutShort}
-use Rattle.inbox.specs.Passes.{isClock, isCommand, isSnapshot}
 use Rattle.inbox.proofs.Message as Msg
+
+-- whether a message is a clock message
+abbrev pub isClock : Message → Bool
+isClock (Command s h) = false
+isClock (Snapshot s h) = false
+isClock (Clock i s t) = true
+isClock BadTime = false
+isClock WrongWord = false
+isClock CutShort = false
+
+-- whether a message is a command
+abbrev pub isCommand : Message → Bool
+isCommand (Command s h) = true
+isCommand (Snapshot s h) = false
+isCommand (Clock i s t) = false
+isCommand BadTime = false
+isCommand WrongWord = false
+isCommand CutShort = false
+
+-- whether a message is a snapshot
+abbrev pub isSnapshot : Message → Bool
+isSnapshot (Command s h) = false
+isSnapshot (Snapshot s h) = true
+isSnapshot (Clock i s t) = false
+isSnapshot BadTime = false
+isSnapshot WrongWord = false
+isSnapshot CutShort = false
 
 -- the cases of `Message` are counted from 0 in the order of its declaration
 none-of : {a b c d e n : ℕ} → (n ≡ a → ⊥) → (n ≡ b → ⊥) → (n ≡ c → ⊥) → (n ≡ d → ⊥) → (n ≡ e → ⊥) → OneOf (a ∷ b ∷ c ∷ d ∷ e ∷ []) n → ⊥

@@ -1,13 +1,13 @@
--- A loop that goes from message to message, from the first place to the end, folds over the list of messages: its invariant at the start, over a step and at the end; a pass over one kind; a test by a pass; what a pass keeps. Assumes nothing.
+-- A loop that goes from message to message, from the first place to the end, folds over the list of messages: its invariant at the start, over a step
+-- and at the end; and what a pass keeps. Assumes nothing.
 use mathlib.Core.Path.{_≡_, refl, sym, ap, _∙_}
-use mathlib.Core.Bool.{Bool, true, false, cond, _||_}
 use mathlib.Core.List.{List, [], _∷_}
-use Prim.Native.Nat.{ℕ, _-_, _<_, _≤_}
+use Prim.Native.Nat.{ℕ, _<_, _≤_}
 use lib.ListN.{length, drop}
 use Rattle.inbox.specs.declared.Message.{Message}
 use Rattle.inbox.specs.declared.Step.{Step}
-use Rattle.inbox.specs.Inbox.{messagesOf, stepOf, some}
-use Rattle.inbox.specs.Passes.{over, only}
+use Rattle.inbox.specs.Inbox.{messagesOf, stepOf}
+use Rattle.inbox.specs.Passes.{over}
 use Rattle.inbox.proofs.Messages.{messages-next, messages-end}
 
 -- the invariant: what is left to take from the place at on, with the state a so far, gives what the whole gives
@@ -34,22 +34,6 @@ pass-step {A} {g} {start} {words} {at} {a} s b h e p q =
 pub pass-end : {A : Type 0} {g : A → Message → A} {start : A} {words : List ℕ} {at : ℕ} {a : A}
     → length words ≤ at → Passes g start words at a → a ≡ over g start (messagesOf words)
 pass-end {A} {g} {start} {words} {at} {a} h q = ap (over g a) (sym (messages-end words at h)) ∙ q .whole
-
--- a pass that leaves the state alone at messages of other kinds is a pass over those of its kind, in their order
-pub over-only : {A : Type 0} (g : A → Message → A) (p : Message → Bool) → ((a : A) (m : Message) → p m ≡ false → g a m ≡ a) → (a : A) (ms : List Message) → over g a ms ≡ over g a (only p ms)
-over-only g p h a [] = refl
-over-only {A} g p h a (m ∷ ms) = step (p m) refl (λ b. over-only g p h b ms)
-  where
-    step : (t : Bool) → p m ≡ t → ((b : A) → over g b ms ≡ over g b (only p ms)) → over g (g a m) ms ≡ over g a (cond t (m ∷ only p ms) (only p ms))
-    step true e rest = rest (g a m)
-    step false e rest = ap (λ (b : A). over g b ms) (h a m e) ∙ rest a
-
--- whether some message passes a test is found by a pass too
-pub over-some : (p : Message → Bool) (b : Bool) (ms : List Message) → over (λ (a : Bool) (m : Message). a || p m) b ms ≡ b || some p ms
-over-some p true [] = refl
-over-some p false [] = refl
-over-some p true (m ∷ ms) = over-some p true ms
-over-some p false (m ∷ ms) = over-some p (p m) ms
 
 -- P holds of each message of a list
 abbrev pub Each : (Message → Type 0) → List Message → Type 0

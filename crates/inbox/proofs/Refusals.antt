@@ -58,12 +58,6 @@ lowest-three (suc a) (suc b) (suc c) =
     three : min (min (suc a) (suc b)) (suc c) ≡ min (suc a) (min (suc b) (suc c))
     three = omega arith
 
--- of two refusals none is the lowest only where both are none
-pub lowest-zero : (a b : ℕ) → lowestOf a b ≡ 0 → (a ≡ 0) × (b ≡ 0)
-lowest-zero zero b e = (refl, e)
-lowest-zero (suc a) zero e = absurd (omega (arith, lowest-none (suc a)))
-lowest-zero (suc a) (suc b) e = absurd (omega (arith, lowest-min (suc a) (suc b) (omega arith) (omega arith)))
-
 -- ---- the refusal of a list of messages is the lowest of the first's number and that of the others
 pub refusal-next : (m : Message) (ms : List Message) → refusalIn (m ∷ ms) ≡ lowestOf (numberOf m) (refusalIn ms)
 unfolding refusalIn
@@ -110,6 +104,15 @@ lowest-folds words found = lowest-over found (messagesOf words)
 pub refusal-long : (words : List ℕ) → 4096 < length words → 3 ≡ refusalOf words
 unfolding refusalOf
 refusal-long words h = sym (ap (λ (t : Bool). cond t 3 (refusalIn (messagesOf words))) (lt-ltb 4096 (length words) h))
+
+-- an inbox that is not refused has at most 4,096 words
+pub accepted-few : (words : List ℕ) → refusalOf words ≡ 0 → length words ≤ 4096
+unfolding refusalOf
+accepted-few words = go (ltb 4096 (length words)) (ltb-false 4096 (length words))
+  where
+    go : (t : Bool) → (t ≡ false → length words ≤ 4096) → cond t 3 (refusalIn (messagesOf words)) ≡ 0 → length words ≤ 4096
+    go true f e = absurd (omega arith)
+    go false f e = f refl
 
 -- 4,096 words or fewer: the lowest of the messages'
 pub refusal-found : {r : ℕ} (words : List ℕ) → length words ≤ 4096 → r ≡ lowestIn words 0 → r ≡ refusalOf words

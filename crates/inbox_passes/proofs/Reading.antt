@@ -8,7 +8,8 @@ use Rattle.timestamp.specs.declared.Timestamp.{Timestamp}
 use Rattle.inbox.specs.declared.Message.{Message}
 use Rattle.inbox.specs.declared.Message.the-variants.{Command, Snapshot, Clock, BadTime, WrongWord, CutShort}
 use Rattle.inbox.specs.Inbox.{messagesOf, some}
-use Rattle.inbox.specs.Passes.{over, isClock, isCommand, isSnapshot}
+use Rattle.inbox.specs.Passes.{over}
+use Rattle.inbox.proofs.Others.{isClock, isCommand, isSnapshot}
 use Rattle.clocksync.specs.declared.Heard.{Heard}
 use Rattle.clocksync.specs.Clock.{heardOf}
 use Rattle.client.specs.declared.Received.{Received}

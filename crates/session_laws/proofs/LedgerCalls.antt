@@ -19,7 +19,7 @@ use Rattle.inbox.specs.declared.Message.{Message}
 use Rattle.inbox.specs.declared.Message.the-variants.{Command, Snapshot, Clock as Timed, BadTime, WrongWord, CutShort}
 use Rattle.inbox.specs.Inbox.{messagesOf, messagesAfter, frontOf, refusalOf}
 use Rattle.inbox.specs.Passes.{over}
-use Rattle.inbox.proofs.Accepted.{accepted-few}
+use Rattle.inbox.proofs.Refusals.{accepted-few}
 use Rattle.command.specs.Buffer.{held}
 use Rattle.command.specs.Soundness.{soundBuffer}
 use Rattle.command.proofs.Soundness.{sound-few}
@@ -127,7 +127,7 @@ noted-alike inbox w = all-alike (messagesOf inbox) w
 commands-kept : {h : ℕ} (x : ℕ) (inbox : List ℕ) (r : Received) → x < 2 → refusalOf inbox ≡ 0 → Kept x h 64 0 (r .scene) → Kept x h 8256 0 (receivedIn inbox r .scene)
 unfolding receivedIn
 commands-kept x inbox r p e c =
-    let f : length (messagesOf inbox) ≤ 4096 = omega (arith, messages-few 0 inbox, accepted-few inbox e .0) in
+    let f : length (messagesOf inbox) ≤ 4096 = omega (arith, messages-few 0 inbox, accepted-few inbox e) in
     kept-more (omega arith) (all-kept x (messagesOf inbox) r p (omega arith) c)
 
 -- the scene after the inbox of an update
