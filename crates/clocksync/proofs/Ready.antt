@@ -1,6 +1,7 @@
 -- Offset and client number: a clock that is ready stays ready, and the update that gives the first offset also has the client's number. Assumes nothing.
+use Prim.Native.Nat.{ℕ}
 use mathlib.Core.Path.{_≡_, refl, sym, ap, _∙_}
-use mathlib.Core.List.{List, [], _∷_, _++_}
+use mathlib.Core.List.{[], _∷_, _++_}
 use mathlib.Core.Bool.{Bool, true, false, cond, false≢true}
 use lib.Dec.{ltb}
 use lib.ListN.{length, drop}
@@ -8,7 +9,7 @@ use lib.Ieee.{Float, lt, binary64, add}
 use Rattle.settings.specs.declared.Settings.{Settings}
 use Rattle.settings.specs.Settings.{samplesToDiscardOf, samplesToStoreOf}
 use Rattle.clocksync.specs.Mean.{nothing64, meanOf}
-use Rattle.clocksync.specs.Clock.{heldOf, timedOf, tickedOf, ClockMessage, listenOf, heardOf, heardAllOf, deviatesOf, syncedOf, sampledOf, filledOf, addedOf, namedOf, sampleOf, settledOf, clockOf, bothOf, readyOf}
+use Rattle.clocksync.specs.Clock.{heldOf, timedOf, tickedOf, firstOf, heardOf, deviatesOf, syncedOf, sampledOf, filledOf, addedOf, namedOf, sampleOf, settledOf, bothOf, readyOf}
 use Rattle.clocksync.specs.declared.Offset.{Offset}
 use Rattle.clocksync.specs.declared.Offset.the-variants.{NoOffset, Seconds}
 use Rattle.clocksync.specs.declared.ClientId.{ClientId}
@@ -37,31 +38,21 @@ ready-offset : (o : Offset) (i : ClientId) → bothOf o i ≡ true → hasOffset
 ready-offset NoOffset i h = h
 ready-offset (Seconds x) i h = refl
 
-ready-id : (o : Offset) (i : ClientId) → bothOf o i ≡ true → hasId i ≡ true
+pub ready-id : (o : Offset) (i : ClientId) → bothOf o i ≡ true → hasId i ≡ true
 ready-id NoOffset i h = absurd (false≢true h)
 ready-id (Seconds x) NoId h = h
 ready-id (Seconds x) (Id n) h = refl
 
--- ---- through the messages
+-- ---- through a message
 
--- a number is kept, and a message brings one
-heard-keeps : (seconds : Float) (h : Heard) (ms : List ClockMessage) → hasId (h .id) ≡ true → hasId (heardAllOf seconds h ms .id) ≡ true
-unfolding heardAllOf heardOf
-heard-keeps seconds h [] k = k
-heard-keeps seconds h (m ∷ ms) k = heard-keeps seconds (heardOf seconds h (m .number) (m .send) (m .server)) ms (one (h .id) k)
+-- a message brings a number where there was none
+pub heard-id : (seconds : Float) (h : Heard) (number : ℕ) (send server : Float) → hasId (heardOf seconds h number send server .id) ≡ true
+unfolding heardOf
+heard-id seconds h number send server = go (h .id)
   where
-    one : (i : ClientId) → hasId i ≡ true → hasId (heardOf seconds (record { id = i; offset = h .offset; other = h .other }) (m .number) (m .send) (m .server) .id) ≡ true
-    one NoId k = refl
-    one (Id n) k = refl
-
-heard-brings : (seconds : Float) (h : Heard) (ms : List ClockMessage) → h .offset ≡ NoOffset → hasOffset (heardAllOf seconds h ms .offset) ≡ true → hasId (heardAllOf seconds h ms .id) ≡ true
-unfolding heardAllOf heardOf
-heard-brings seconds h [] e k = absurd (false≢true (sym (ap hasOffset e) ∙ k))
-heard-brings seconds h (m ∷ ms) e k = heard-keeps seconds (heardOf seconds h (m .number) (m .send) (m .server)) ms (one (h .id))
-  where
-    one : (i : ClientId) → hasId (heardOf seconds (record { id = i; offset = h .offset; other = h .other }) (m .number) (m .send) (m .server) .id) ≡ true
-    one NoId = refl
-    one (Id n) = refl
+    go : (i : ClientId) → hasId (firstOf i number) ≡ true
+    go NoId = refl
+    go (Id n) = refl
 
 -- ---- through a sample
 
@@ -126,32 +117,20 @@ module _ (c : Clock) (period delta : Float) where
       go true t = refl
       go false t = refl
 
-  ticked-id : tickedOf c period delta .clock .id ≡ c .id
-  unfolding tickedOf
-  ticked-id = go (lt period (add binary64 (c .timer) delta)) (add binary64 (c .timer) delta)
-    where
-      go : (b : Bool) (t : Float) → cond {A = Ticked} b (record { clock = timedOf c nothing64; request = true }) (record { clock = timedOf c t; request = false }) .clock .id ≡ c .id
-      go true t = refl
-      go false t = refl
-
 -- ---- the laws
 
-module _ (s : Settings) (c : Clock) (delta seconds : Float) (ms : List ClockMessage) where
-  -- a clock that is ready is ready after an update
-  pub ready-stays : readyOf c ≡ true → readyOf (clockOf s c delta seconds ms .clock) ≡ true
-  unfolding clockOf
-  ready-stays h =
+module _ (s : Settings) (c : Clock) (delta : Float) (h : Heard) where
+  -- a clock that is ready is ready after an update, where the number is still known
+  pub ready-stays : readyOf c ≡ true → hasId (h .id) ≡ true → readyOf (settledOf s (tickedOf c (s .period) delta .clock) h) ≡ true
+  ready-stays r k =
       let t = tickedOf c (s .period) delta .clock in
-      let g = heardAllOf seconds (listenOf t) ms in
-      both-ready (settledOf s t g .offset) (settledOf s t g .id)
-      (settled-keeps s t g (ap hasOffset (ticked-offset c (s .period) delta) ∙ ready-offset (c .offset) (c .id) h))
-      (ap hasId (settled-id s t g) ∙ heard-keeps seconds (listenOf t) ms (ap hasId (ticked-id c (s .period) delta) ∙ ready-id (c .offset) (c .id) h))
+      both-ready (settledOf s t h .offset) (settledOf s t h .id)
+      (settled-keeps s t h (ap hasOffset (ticked-offset c (s .period) delta) ∙ ready-offset (c .offset) (c .id) r))
+      (ap hasId (settled-id s t h) ∙ k)
 
-  -- an update that gives a clock its first offset leaves it ready
-  pub first-offset-ready : c .offset ≡ NoOffset → hasOffset (clockOf s c delta seconds ms .clock .offset) ≡ true → readyOf (clockOf s c delta seconds ms .clock) ≡ true
-  unfolding clockOf
-  first-offset-ready e h =
+  -- an update that gives a clock its first offset leaves it ready, where an offset that is heard comes with a number
+  pub first-offset-ready : c .offset ≡ NoOffset → (hasOffset (h .offset) ≡ true → hasId (h .id) ≡ true) → hasOffset (settledOf s (tickedOf c (s .period) delta .clock) h .offset) ≡ true → readyOf (settledOf s (tickedOf c (s .period) delta .clock) h) ≡ true
+  first-offset-ready e k o =
       let t = tickedOf c (s .period) delta .clock in
-      let g = heardAllOf seconds (listenOf t) ms in
-      both-ready (settledOf s t g .offset) (settledOf s t g .id) h
-      (ap hasId (settled-id s t g) ∙ heard-brings seconds (listenOf t) ms refl (settled-none s t g (ticked-offset c (s .period) delta ∙ e) h))
+      both-ready (settledOf s t h .offset) (settledOf s t h .id) o
+      (ap hasId (settled-id s t h) ∙ k (settled-none s t h (ticked-offset c (s .period) delta ∙ e) o))

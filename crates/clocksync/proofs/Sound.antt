@@ -22,7 +22,7 @@ use Rattle.settings.proofs.Limits.{Limited, period-within, discard-few, store-f
 use Rattle.settings.proofs.Few.{needed-range}
 use Rattle.clocksync.specs.Offset.{offsetOf}
 use Rattle.clocksync.specs.Mean.{nothing64, insertedOf, sortedOnto, sortedOf, innerOf, sumFrom, averageOf, meanOf}
-use Rattle.clocksync.specs.Clock.{heldOf, newOf, timedOf, tickedOf, ClockMessage, listenOf, heardOf, heardAllOf, deviatesOf, syncedOf, sampledOf, filledOf, addedOf, namedOf, sampleOf, settledOf, clockOf, sampleOk, samplesOk, timerOk, offsetOk, soundClock}
+use Rattle.clocksync.specs.Clock.{heldOf, newOf, timedOf, tickedOf, deviatesOf, syncedOf, sampledOf, filledOf, addedOf, namedOf, sampleOf, settledOf, sampleOk, samplesOk, timerOk, offsetOk, soundClock}
 use Rattle.clocksync.specs.declared.Offset.{Offset}
 use Rattle.clocksync.specs.declared.Offset.the-variants.{NoOffset, Seconds}
 use Rattle.clocksync.specs.declared.Clock.{Clock}
@@ -198,30 +198,12 @@ ticked-parts s c delta pass f w p =
     subst (λ (d : Clock). Parts s d) (sym (ticked-is c (s .period) delta))
     (record { fewer = p .fewer; held = p .held; samples = p .samples; timer = timer-ticks s c delta pass f w (p .timer); offset = p .offset })
 
--- ---- the messages
-
--- the times of a message are within 2^32
-pub record Timed (m : ClockMessage) : Type 0 where
-  pub send : Within (m .send) (2 ^ 32)
-  pub server : Within (m .server) (2 ^ 32)
-
--- and so are those of every message
-abbrev pub AllTimed : List ClockMessage → Type 0
-AllTimed [] = Unit {0}
-AllTimed (m ∷ ms) = Timed m × AllTimed ms
+-- ---- a message
 
 -- the offset that a message measures passes the test of a sample
 pub measured-ok : (send server seconds : Float) → Within send (2 ^ 32) → Within server (2 ^ 32) → Within seconds (2 ^ 32) → sampleOk (offsetOf send server seconds) ≡ true
 unfolding offsetOf
 measured-ok send server seconds a b c = sample-passes (offsetOf send server seconds) (offset-within send seconds server a c b)
-
-heard-ok : (seconds : Float) (h : Heard) (ms : List ClockMessage) → Within seconds (2 ^ 32) → AllTimed ms → offsetOk (h .offset) ≡ true → offsetOk (heardAllOf seconds h ms .offset) ≡ true
-unfolding heardAllOf heardOf
-heard-ok seconds h [] w a k = k
-heard-ok seconds h (m ∷ ms) w a k = heard-ok seconds (heardOf seconds h (m .number) (m .send) (m .server)) ms w (a .1) (one (a .0))
-  where
-    one : Timed m → offsetOk (heardOf seconds h (m .number) (m .send) (m .server) .offset) ≡ true
-    one t = measured-ok (m .send) (m .server) seconds (t .send) (t .server) w
 
 -- ---- one sample more
 
@@ -300,16 +282,14 @@ pub new-sound : (s : Settings) → passesOf s ≡ true → soundClock s newOf �
 unfolding newOf samplesOk timerOk le lt eq
 new-sound s pass = of-parts s newOf (record { fewer = omega (arith, store-few s pass .0); held = lit≤ tt; samples = refl; timer = refl; offset = refl })
 
--- a sound clock is sound after an update
-pub clock-sound : (s : Settings) (c : Clock) (delta seconds : Float) (ms : List ClockMessage) → passesOf s ≡ true → length (c .samples) ≡ 64 → T (fits binary64 (c .timer)) → Within delta 3600 → Within seconds (2 ^ 32) → AllTimed ms → soundClock s c ≡ true → soundClock s (clockOf s c delta seconds ms .clock) ≡ true
-unfolding clockOf
-clock-sound s c delta seconds ms pass full f wd ws a h =
+-- a sound clock is sound after an update: after its tick, and after what was heard with an offset that passes the test of a sample
+pub clock-sound : (s : Settings) (c : Clock) (delta : Float) (h : Heard) → passesOf s ≡ true → length (c .samples) ≡ 64 → T (fits binary64 (c .timer)) → Within delta 3600 → offsetOk (h .offset) ≡ true → soundClock s c ≡ true → soundClock s (settledOf s (tickedOf c (s .period) delta .clock) h) ≡ true
+clock-sound s c delta h pass full f wd ok k =
     let t = tickedOf c (s .period) delta .clock in
-    let p = ticked-parts s c delta pass f wd (parts-of s c h) in
+    let p = ticked-parts s c delta pass f wd (parts-of s c k) in
     let l : length (t .samples) ≡ 64 = ap (λ (d : Clock). length (d .samples)) (ticked-is c (s .period) delta) ∙ full in
-    of-parts s (settledOf s t (heardAllOf seconds (listenOf t) ms)) (settled-parts s t (heardAllOf seconds (listenOf t) ms) pass l p (heard-ok seconds (listenOf t) ms ws a refl))
+    of-parts s (settledOf s t h) (settled-parts s t h pass l p ok)
 
 -- its timer is a value of the format
-pub clock-timer-fits : (s : Settings) (c : Clock) (delta seconds : Float) (ms : List ClockMessage) → T (fits binary64 (clockOf s c delta seconds ms .clock .timer))
-unfolding clockOf
-clock-timer-fits s c delta seconds ms = subst (λ (t : Float). T (fits binary64 t)) (sym (settled-timer s (tickedOf c (s .period) delta .clock) (heardAllOf seconds (listenOf (tickedOf c (s .period) delta .clock)) ms))) (timer-fits s c delta)
+pub clock-timer-fits : (s : Settings) (c : Clock) (delta : Float) (h : Heard) → T (fits binary64 (settledOf s (tickedOf c (s .period) delta .clock) h .timer))
+clock-timer-fits s c delta h = subst (λ (t : Float). T (fits binary64 t)) (sym (settled-timer s (tickedOf c (s .period) delta .clock) h)) (timer-fits s c delta)

@@ -50,12 +50,6 @@ tickedOf c period delta =
 
 -- ---- clock messages
 
--- a clock message: the client's number, its send time and the server's time
-pub record ClockMessage : Type 0 where
-  pub number : ℕ
-  pub send : Float
-  pub server : Float
-
 -- what is known before the first message of an inbox
 abbrev pub listenOf : Clock → Heard
 listenOf c = record { id = c .id; offset = NoOffset; other = false }
@@ -74,11 +68,6 @@ firstOf (Id m) n = Id m
 unfoldable pub heardOf : Float → Heard → ℕ → Float → Float → Heard
 heardOf seconds h number send server =
     record { id = firstOf (h .id) number; offset = Seconds (offsetOf send server seconds); other = h .other || otherOf (h .id) number }
-
--- what is known after the clock messages of an inbox, in their order
-unfoldable pub heardAllOf : Float → Heard → List ClockMessage → Heard
-heardAllOf seconds h [] = h
-heardAllOf seconds h (x ∷ xs) = heardAllOf seconds (heardOf seconds h (x .number) (x .send) (x .server)) xs
 
 -- ---- one sample more
 
@@ -125,20 +114,7 @@ sampleOf s c (Seconds x) = addedOf s c x
 unfoldable pub settledOf : Settings → Clock → Heard → Clock
 settledOf s c h = sampleOf s (namedOf c (h .id)) (h .offset)
 
--- ---- the clock in an update
-
--- what an update does with the clock: the clock after it, whether a request goes out, and whether a message named another client (refusal 22)
-pub record ClockStep : Type 0 where
-  pub clock : Clock
-  pub request : Bool
-  pub other : Bool
-
--- the timer first, then the messages, then one sample from the last of them
-unfoldable pub clockOf : Settings → Clock → Float → Float → List ClockMessage → ClockStep
-clockOf s c delta seconds messages =
-    let t = tickedOf c (s .period) delta in
-    let h = heardAllOf seconds (listenOf (t .clock)) messages in
-    record { clock = settledOf s (t .clock) h; request = t .request; other = h .other }
+-- ---- what an update reads off the clock
 
 -- the server's time at a time of the client
 abbrev pub serverSecondsOf : Offset → Float → ServerTime

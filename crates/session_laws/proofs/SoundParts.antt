@@ -1,7 +1,7 @@
 -- The parts of a sound session, as the tests say them and as facts; and what one update does to the clock and to what arrives. Assumes nothing.
-use mathlib.Core.Path.{_≡_, refl, sym, ap, _∙_, subst}
+use mathlib.Core.Path.{_≡_, refl, ap, _∙_}
 use mathlib.Core.List.{List, [], _∷_, _++_}
-use mathlib.Core.Bool.{Bool, true, false, cond, _&&_}
+use mathlib.Core.Bool.{Bool, true, false, cond, _&&_, false≢true}
 use Prim.Native.Nat.{ℕ, _+_, _-_, _^_, _≤_}
 use native.Mathlib.Omega.{arith}
 use lib.Dec.{T, eqb, ltb, lit<, lit≤}
@@ -31,11 +31,10 @@ use Rattle.clocksync.specs.declared.Heard.{Heard}
 use Rattle.clocksync.specs.declared.Ticked.{Ticked}
 use Rattle.clocksync.specs.declared.Offset.{Offset}
 use Rattle.clocksync.specs.declared.Offset.the-variants.{NoOffset, Seconds}
-use Rattle.clocksync.specs.declared.ClientId.{ClientId}
 use Rattle.clocksync.specs.Mean.{nothing64, meanOf}
-use Rattle.clocksync.specs.Clock.{laidOut, heldOf, timedOf, tickedOf, ClockMessage, listenOf, heardOf, heardAllOf, syncedOf, sampledOf, filledOf, namedOf, sampleOf, settledOf, clockOf, serverSecondsOf, readyOf, offsetOk, soundClock}
-use Rattle.clocksync.proofs.Sound.{sample-within, AllTimed, clock-sound, clock-timer-fits}
-use Rattle.clocksync.proofs.Ready.{hasOffset, ready-stays, first-offset-ready}
+use Rattle.clocksync.specs.Clock.{laidOut, heldOf, timedOf, tickedOf, listenOf, heardOf, syncedOf, sampledOf, filledOf, namedOf, sampleOf, settledOf, serverSecondsOf, readyOf, offsetOk, soundClock}
+use Rattle.clocksync.proofs.Sound.{sample-within, measured-ok, clock-sound, clock-timer-fits}
+use Rattle.clocksync.proofs.Ready.{hasOffset, hasId, ready-id, heard-id, ready-stays, first-offset-ready}
 use Rattle.client.specs.declared.Queued.{Queued}
 use Rattle.client.specs.declared.Queued.the-variants.{Nothing, Held}
 use Rattle.client.specs.declared.ClientWorldSimulations.{ClientWorldSimulations}
@@ -203,45 +202,36 @@ time-within x h =
 
 -- ---- the clock messages of an inbox
 
--- the clock messages, in their order
-pub clocksIn : List Message → List ClockMessage
-clocksIn [] = []
-clocksIn (Command s h ∷ ms) = clocksIn ms
-clocksIn (Snapshot s h ∷ ms) = clocksIn ms
-clocksIn (Clock i s t ∷ ms) = record { number = i; send = s; server = t } ∷ clocksIn ms
-clocksIn (BadTime ∷ ms) = clocksIn ms
-clocksIn (WrongWord ∷ ms) = clocksIn ms
-clocksIn (CutShort ∷ ms) = clocksIn ms
+-- an offset that is heard passes the test of a sample
+heard-ok : (seconds : Float) (h : Heard) (ms : List Message) → Within seconds (2 ^ 32) → Each Bounded ms → offsetOk (h .offset) ≡ true → offsetOk (over (hearOne seconds) h ms .offset) ≡ true
+unfolding heardOf
+heard-ok seconds h ms w b k = over-keeps (λ (x : Heard). offsetOk (x .offset) ≡ true) (hearOne seconds) one h ms b k
+  where
+    one : (x : Heard) (m : Message) → Bounded m → offsetOk (x .offset) ≡ true → offsetOk (hearOne seconds x m .offset) ≡ true
+    one x (Command s n) p q = q
+    one x (Snapshot s n) p q = q
+    one x (Clock i s t) p q = measured-ok s t seconds (time-within s (p .1)) (time-within t (p .2)) w
+    one x BadTime p q = q
+    one x WrongWord p q = q
+    one x CutShort p q = q
 
-heard-is : (seconds : Float) (h : Heard) (ms : List Message) → over (hearOne seconds) h ms ≡ heardAllOf seconds h (clocksIn ms)
-unfolding heardAllOf clocksIn
-heard-is seconds h [] = refl
-heard-is seconds h (Command s n ∷ ms) = heard-is seconds h ms
-heard-is seconds h (Snapshot s n ∷ ms) = heard-is seconds h ms
-heard-is seconds h (Clock i s t ∷ ms) = heard-is seconds (heardOf seconds h i s t) ms
-heard-is seconds h (BadTime ∷ ms) = heard-is seconds h ms
-heard-is seconds h (WrongWord ∷ ms) = heard-is seconds h ms
-heard-is seconds h (CutShort ∷ ms) = heard-is seconds h ms
+-- a number that is known stays known, and an offset that is heard comes with one
+pub record Known (had : Bool) (h : Heard) : Type 0 where
+  pub kept : had ≡ true → hasId (h .id) ≡ true
+  pub brought : hasOffset (h .offset) ≡ true → hasId (h .id) ≡ true
 
-clocks-timed : (ms : List Message) → Each Bounded ms → AllTimed (clocksIn ms)
-unfolding clocksIn
-clocks-timed [] b = tt
-clocks-timed (Command s n ∷ ms) b = clocks-timed ms (b .1)
-clocks-timed (Snapshot s n ∷ ms) b = clocks-timed ms (b .1)
-clocks-timed (Clock i s t ∷ ms) b = (record { send = time-within s (b .0 .1); server = time-within t (b .0 .2) }, clocks-timed ms (b .1))
-clocks-timed (BadTime ∷ ms) b = clocks-timed ms (b .1)
-clocks-timed (WrongWord ∷ ms) b = clocks-timed ms (b .1)
-clocks-timed (CutShort ∷ ms) b = clocks-timed ms (b .1)
+heard-known : (seconds : Float) (h : Heard) (ms : List Message) (had : Bool) → Each Bounded ms → Known had h → Known had (over (hearOne seconds) h ms)
+heard-known seconds h ms had b k = over-keeps (Known had) (hearOne seconds) one h ms b k
+  where
+    one : (x : Heard) (m : Message) → Bounded m → Known had x → Known had (hearOne seconds x m)
+    one x (Command s n) p q = q
+    one x (Snapshot s n) p q = q
+    one x (Clock i s t) p q = let e = heard-id seconds x i s t in record { kept = λ z. e; brought = λ z. e }
+    one x BadTime p q = q
+    one x WrongWord p q = q
+    one x CutShort p q = q
 
 -- ---- the clock in an update
-
-ticked-id : (c : ClockState) (period delta : Float) → tickedOf c period delta .clock .id ≡ c .id
-unfolding tickedOf
-ticked-id c period delta = go (lt period (add binary64 (c .timer) delta)) (add binary64 (c .timer) delta)
-  where
-    go : (b : Bool) (t : Float) → cond {A = Ticked} b (record { clock = timedOf c nothing64; request = true }) (record { clock = timedOf c t; request = false }) .clock .id ≡ c .id
-    go true t = refl
-    go false t = refl
 
 ticked-samples : (c : ClockState) (period delta : Float) → tickedOf c period delta .clock .samples ≡ c .samples
 unfolding tickedOf
@@ -250,15 +240,6 @@ ticked-samples c period delta = go (lt period (add binary64 (c .timer) delta)) (
     go : (b : Bool) (t : Float) → cond {A = Ticked} b (record { clock = timedOf c nothing64; request = true }) (record { clock = timedOf c t; request = false }) .clock .samples ≡ c .samples
     go true t = refl
     go false t = refl
-
--- an update's clock is the one that clocksync's laws are about
-clock-is : (s : Session) (delta seconds : Float) (inbox : List ℕ) → clockAfter s delta seconds inbox ≡ clockOf (s .settings) (s .clock) delta seconds (clocksIn (messagesOf inbox)) .clock
-unfolding clockOf heardIn
-clock-is s delta seconds inbox =
-    let c = tickedOf (s .clock) (s .settings .period) delta .clock in
-    ap (λ (h : Heard). settledOf (s .settings) c h)
-    (heard-is seconds (listenOf (s .clock)) (messagesOf inbox)
-    ∙ ap (λ (i : ClientId). heardAllOf seconds (record { id = i; offset = NoOffset; other = false }) (clocksIn (messagesOf inbox))) (sym (ticked-id (s .clock) (s .settings .period) delta)))
 
 laid-slots : (xs : List Float) → length xs ≤ 64 → length (laidOut xs) ≡ 64
 laid-slots xs h = length-append xs (replicate (64 - length xs) nothing64) ∙ omega (arith, length-replicate (64 - length xs) nothing64)
@@ -288,29 +269,30 @@ settled-slots s c h e = go (h .offset)
 module _ (s : Session) (delta seconds : Float) (inbox : List ℕ) where
   -- it is sound
   pub clock-after-sound : FloatsFit s → passesOf (s .settings) ≡ true → timesOk delta seconds ≡ true → soundClock (s .settings) (s .clock) ≡ true → soundClock (s .settings) (clockAfter s delta seconds inbox) ≡ true
+  unfolding heardIn
   clock-after-sound f pass ok h =
       let t = times-within delta seconds ok in
-      let ms = messagesOf inbox in
-      subst (λ (c : ClockState). soundClock (s .settings) c ≡ true) (sym (clock-is s delta seconds inbox))
-      (clock-sound (s .settings) (s .clock) delta seconds (clocksIn ms) pass (f .slots) (f .timer) (t .0) (t .1) (clocks-timed ms (messages-bounded inbox)) h)
+      clock-sound (s .settings) (s .clock) delta (heardIn seconds inbox (listenOf (s .clock))) pass (f .slots) (f .timer) (t .0) (heard-ok seconds (listenOf (s .clock)) (messagesOf inbox) (t .1) (messages-bounded inbox) refl) h
 
   -- a value of the format in its timer, and 64 slots
   pub clock-after-timer : T (fits binary64 (clockAfter s delta seconds inbox .timer))
-  clock-after-timer = subst (λ (c : ClockState). T (fits binary64 (c .timer))) (sym (clock-is s delta seconds inbox)) (clock-timer-fits (s .settings) (s .clock) delta seconds (clocksIn (messagesOf inbox)))
+  clock-after-timer = clock-timer-fits (s .settings) (s .clock) delta (heardIn seconds inbox (listenOf (s .clock)))
 
   pub clock-after-slots : length (s .clock .samples) ≡ 64 → length (clockAfter s delta seconds inbox .samples) ≡ 64
   clock-after-slots e = settled-slots (s .settings) (tickedOf (s .clock) (s .settings .period) delta .clock) (heardIn seconds inbox (listenOf (s .clock))) (ap length (ticked-samples (s .clock) (s .settings .period) delta) ∙ e)
 
+  -- what is heard knows the client's number where the clock did, and where there is an offset
+  known : Known (hasId (s .clock .id)) (heardIn seconds inbox (listenOf (s .clock)))
+  unfolding heardIn
+  known = heard-known seconds (listenOf (s .clock)) (messagesOf inbox) (hasId (s .clock .id)) (messages-bounded inbox) (record { kept = λ z. z; brought = λ z. absurd (false≢true z) })
+
   -- a clock that is ready stays so
   pub clock-after-ready : readyOf (s .clock) ≡ true → readyOf (clockAfter s delta seconds inbox) ≡ true
-  clock-after-ready h = subst (λ (c : ClockState). readyOf c ≡ true) (sym (clock-is s delta seconds inbox)) (ready-stays (s .settings) (s .clock) delta seconds (clocksIn (messagesOf inbox)) h)
+  clock-after-ready h = ready-stays (s .settings) (s .clock) delta (heardIn seconds inbox (listenOf (s .clock))) h (known .kept (ready-id (s .clock .offset) (s .clock .id) h))
 
   -- the first offset comes with an id
   pub clock-after-first : s .clock .offset ≡ NoOffset → hasOffset (clockAfter s delta seconds inbox .offset) ≡ true → readyOf (clockAfter s delta seconds inbox) ≡ true
-  clock-after-first e h =
-      let i = clock-is s delta seconds inbox in
-      let ms = clocksIn (messagesOf inbox) in
-      subst (λ (c : ClockState). readyOf c ≡ true) (sym i) (first-offset-ready (s .settings) (s .clock) delta seconds ms e (subst (λ (c : ClockState). hasOffset (c .offset) ≡ true) i h))
+  clock-after-first e h = first-offset-ready (s .settings) (s .clock) delta (heardIn seconds inbox (listenOf (s .clock))) e (known .brought) h
 
 -- the server's time with the lag is within 2^34
 pub server-within : (c : Settings) (o : Offset) (seconds : Float) → passesOf c ≡ true → Within seconds (2 ^ 32) → offsetOk o ≡ true → Within (add binary64 (serverTimeBy (serverSecondsOf o seconds) seconds) (c .lag)) (2 ^ 34)
