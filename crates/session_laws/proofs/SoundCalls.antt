@@ -78,11 +78,6 @@ open-sound c h = start-sound c (go (passesOf c) h)
     go true e = refl
     go false e = absurd (omega arith)
 
--- and its floats fit, where its settings' do
-pub open-fits : (c : Settings) → T (fits binary64 (c .timestep)) → FloatsFit (openOf c .session)
-unfolding openOf startOf newOf fits
-open-fits c f = record { timestep = f; timer = tt; slots = refl }
-
 -- ---- a session without worlds has no offset
 
 pub no-worlds-no-offset : (s : Session) → soundOf s ≡ true → s .stage ≡ SyncingClock → s .clock .offset ≡ NoOffset
@@ -280,16 +275,6 @@ update-good s delta seconds inbox len f = go (eqb (refusedAtOnce s delta seconds
 pub update-sound : (s : Session) (delta seconds : Float) (inbox : List ℕ) (len : ℕ) → FloatsFit s → updateOf s delta seconds inbox len .reply .refusal ≡ 0 → soundOf (updateOf s delta seconds inbox len .reply .session) ≡ true
 update-sound s delta seconds inbox len f k = update-good s delta seconds inbox len f k .sound
 
--- an update that is not refused was handed a sound session
-pub update-from-sound : (s : Session) (delta seconds : Float) (inbox : List ℕ) (len : ℕ) → updateOf s delta seconds inbox len .reply .refusal ≡ 0 → soundOf s ≡ true
-unfolding updateOf
-update-from-sound s delta seconds inbox len = go (eqb (refusedAtOnce s delta seconds inbox) 0) (eqb-true (refusedAtOnce s delta seconds inbox) 0) (eqb-false (refusedAtOnce s delta seconds inbox) 0)
-  where
-    go : (b : Bool) → (b ≡ true → refusedAtOnce s delta seconds inbox ≡ 0) → (b ≡ false → refusedAtOnce s delta seconds inbox ≡ 0 → ⊥)
-        → cond b (updateBy (s .stage) s delta seconds inbox len) (refusedWith (refusedAtOnce s delta seconds inbox) s len) .reply .refusal ≡ 0 → soundOf s ≡ true
-    go true t n k = at-once s delta seconds inbox (t refl) .1
-    go false t n k = refused-not (refusedAtOnce s delta seconds inbox) s len (n refl) k
-
 -- ---- a refused update returns the session
 
 -- an answer that is accepted, or has the session that was handed in
@@ -340,14 +325,6 @@ update-back : (s : Session) (delta seconds : Float) (inbox : List ℕ) (len : �
 unfolding updateOf
 update-back s delta seconds inbox len =
     pick-back s (eqb (refusedAtOnce s delta seconds inbox) 0) (updateBy (s .stage) s delta seconds inbox len) (refusedWith (refusedAtOnce s delta seconds inbox) s len) (by-back (s .stage) s delta seconds inbox len) (refused-back (refusedAtOnce s delta seconds inbox) s len)
-
-either-back : (n : ℕ) (s t : Session) → (n ≡ 0 → ⊥) → Either n s t → t ≡ s
-either-back n s t h (accepted e) = absurd (h e)
-either-back n s t h (handed-back e) = e
-
--- a refused update returns the session that it was handed
-pub update-refused : (s : Session) (delta seconds : Float) (inbox : List ℕ) (len : ℕ) → (updateOf s delta seconds inbox len .reply .refusal ≡ 0 → ⊥) → updateOf s delta seconds inbox len .reply .session ≡ s
-update-refused s delta seconds inbox len h = either-back _ s _ h (update-back s delta seconds inbox len)
 
 -- what the types say of the session goes on holding, refused or not
 pub update-fits : (s : Session) (delta seconds : Float) (inbox : List ℕ) (len : ℕ) → FloatsFit s → FloatsFit (updateOf s delta seconds inbox len .reply .session)
@@ -422,14 +399,6 @@ issue-sound s h e = go (issue-ways s h)
     go : Issued s (issueOf s h) → soundOf (issueOf s h .session) ≡ true
     go (taken z k w f) = w
     go (turned-down z w) = absurd (z e)
-
--- a refused issue returns the session that it was handed
-pub issue-refused : (s : Session) (h : ℕ) → (issueOf s h .refusal ≡ 0 → ⊥) → issueOf s h .session ≡ s
-issue-refused s h e = go (issue-ways s h)
-  where
-    go : Issued s (issueOf s h) → issueOf s h .session ≡ s
-    go (taken z k w f) = absurd (e z)
-    go (turned-down z w) = w
 
 -- what the types say of the session goes on holding
 pub issue-fits : (s : Session) (h : ℕ) → FloatsFit s → FloatsFit (issueOf s h .session)

@@ -1,5 +1,5 @@
 -- The stamps of the two worlds of a client: what it means for them that the world of one side is another. Assumes nothing.
-use mathlib.Core.Path.{_≡_, refl, _∙_}
+use mathlib.Core.Path.{_≡_, refl}
 use mathlib.Core.Bool.{Bool, true, false, cond}
 use mathlib.Core.List.{[], _∷_}
 use Prim.Native.Nat.{ℕ, zero, suc, _+_, _-_, _%_, _<_, _≤_}
@@ -48,15 +48,6 @@ next-sum n = refl
 pub next-below : (n : ℕ) → nextOf n < 65536
 unfolding nextOf
 next-below n = omega arith
-
-pub lag-below : (o n : ℕ) → lagOf o n < 65536
-unfolding lagOf
-lag-below o n = omega arith
-
--- a stamp is not behind itself
-pub lag-same : (o n : ℕ) → o < 65536 → o ≡ n → lagOf o n ≡ 0
-unfolding lagOf
-lag-same o n h e = omega arith
 
 -- two stamps, each at or after the other by less than half a cycle, are equal
 pub lag-none : (o n : ℕ) → o < 65536 → n < 65536 → lagOf o n ≤ 32768 → lagOf n o < 32768 → lagOf o n ≡ 0
