@@ -5,30 +5,13 @@ use native.Mathlib.Nat.{mul-le-mul-right}
 use native.Mathlib.Omega.{arith}
 use mathlib.Core.Bool.{Bool, true, false, not, cond}
 use lib.Dec.{T}
-use lib.Ieee.{Float, lt, le, binary64, fits, add, sub, mul, div}
+use lib.Ieee.{Float, lt, le, binary64, fits, sub, mul, div}
 use lib.Ieee.Positive.{den, positive, positive-finite}
 use lib.Ieee.Scale.{finite}
-use Rattle.float_laws.proofs.Value.{pnum, nnum, val, zeroF, oneF, q-nonneg, q-nonpos, le-to-val}
+use Rattle.float_laws.proofs.Value.{pnum, nnum, val, zeroF, oneF, q-nonneg, le-to-val}
 use Rattle.float_laws.proofs.Order.{float-le-of-not-lt}
-use Rattle.float_laws.proofs.Bounds.{held-val, held-zero, held-one, Between, in-order, add-between, sub-between, mul-between, div-between}
+use Rattle.float_laws.proofs.Bounds.{held-val, held-zero, held-one, Between, in-order, sub-between, mul-between, div-between}
 use Rattle.float_laws.proofs.Within.{InUnit}
-
--- x is at most x + t where t is not negative.
-add-above : (a n d b m e : ℕ) → m ≤ b → a * (d * e) + (n * e + m * d) * d ≤ (a * e + b * d) * d + n * (d * e)
-add-above a n d b m e h = let k = mul-le-mul-right (d * d) h in omega arith
-
--- x + t is at most t where x is not positive.
-add-below : (a n d b m e : ℕ) → a ≤ n → (a * e + b * d) * e + m * (d * e) ≤ b * (d * e) + (n * e + m * d) * e
-add-below a n d b m e h = let k = mul-le-mul-right (e * e) h in omega arith
-
--- Where x ≤ 0 ≤ t, the sum x + t is from x to t, rounding included.
-pub step-between : (x t : Float) → T (fits binary64 x) → T (fits binary64 t) → T (finite x) → T (finite t) → T (le x zeroF) → T (le zeroF t) → Between (val x) (add binary64 x t) (val t)
-step-between x t fx ft px pt h k =
-    let a = q-nonpos (val x) (le-to-val x zeroF px tt h) in
-    let b = q-nonneg (val t) (le-to-val zeroF t tt pt k) in
-    add-between binary64 (val x) (val t) x t (held-val binary64 x fx px) (held-val binary64 t ft pt) px pt
-    (add-above (pnum x) (nnum x) (den x) (pnum t) (nnum t) (den t) b)
-    (add-below (pnum x) (nnum x) (den x) (pnum t) (nnum t) (den t) a)
 
 -- Where 0 ≤ o ≤ t and t is positive, o / t is from 0 to 1.
 quotient-unit : (o t : Float) → T (finite o) → T (positive t) → T (le zeroF o) → T (le o t) → InUnit (div binary64 o t)

@@ -6,13 +6,13 @@ use native.Mathlib.Omega.{arith}
 use mathlib.Core.Bool.{true, false}
 use lib.IntN.{negsuc}
 use lib.Dec.{T}
-use lib.Ieee.{Float, fin, le, binary64, fits, mul, div}
+use lib.Ieee.{Float, fin, le, binary64, fits, div}
 use lib.Ieee.Positive.{den, den-pos, positive}
 use lib.Ieee.Scale.{finite}
 use Rattle.float_laws.proofs.Value.{Le, pnum, nnum, val, zeroF, oneF, le-to-val, lt-of-val}
 use Rattle.float_laws.proofs.Order.{float-le-trans, positive-of-lt, positive-nnum}
 use Rattle.float_laws.proofs.Operations.{mulQ, divQ}
-use Rattle.float_laws.proofs.Bounds.{mul-between, div-between}
+use Rattle.float_laws.proofs.Bounds.{div-between}
 use Rattle.float_laws.proofs.Within.{wholeQ, Within, held-whole, within-low, within-high}
 
 -- The float 1/1024.
@@ -54,22 +54,6 @@ mul-step-low x t n s h = low-side (pnum x) (nnum x) (den x) (pnum t) (nnum t) (d
 
     low-side : (p m d q r e : ℕ) → r ≡ 0 → q * 1 + 0 * e ≤ 1 * 1 * e + r * 1 → m ≤ p + n * d → 0 * (d * e) + (p * r + m * q) * 1 ≤ (p * q + m * r) * 1 + n * (d * e)
     low-side p m d q r e z h k = subst (λ (y : ℕ). 0 * (d * e) + (p * y + m * q) * 1 ≤ (p * q + m * y) * 1 + n * (d * e)) (sym z) (low-at p m d q e (omega arith) k)
-
--- The upper bound n of x is one of the exact product.
-mul-step-high : (x t : Float) (n : ℕ) → Step t → pnum x ≤ n * den x + nnum x → Le (mulQ (val x) (val t)) (wholeQ false n)
-mul-step-high x t n s h = high-side (pnum x) (nnum x) (den x) (pnum t) (nnum t) (den t) (least-unsigned t (s .finite-t) (s .least)) (le-to-val t oneF (s .finite-t) tt (s .most)) h
-  where
-    high-at : (p m d q e : ℕ) → q ≤ e → p ≤ n * d + m → (p * q + m * 0) * 1 + 0 * (d * e) ≤ n * (d * e) + (p * 0 + m * q) * 1
-    high-at p m d q e h k = let u = mul-le-mul-right q k in let v = mul-le-mul-right (n * d) h in omega arith
-
-    high-side : (p m d q r e : ℕ) → r ≡ 0 → q * 1 + 0 * e ≤ 1 * 1 * e + r * 1 → p ≤ n * d + m → (p * q + m * r) * 1 + 0 * (d * e) ≤ n * (d * e) + (p * r + m * q) * 1
-    high-side p m d q r e z h k = subst (λ (y : ℕ). (p * q + m * y) * 1 + 0 * (d * e) ≤ n * (d * e) + (p * y + m * q) * 1) (sym z) (high-at p m d q e (omega arith) k)
-
--- |x| ≤ n frames are at most n seconds: |x t| ≤ n, rounding included.
-pub mul-step-within : (x t : Float) (n : ℕ) → n < 2 ^ 53 → Within x n → Step t → Within (mul binary64 x t) n
-mul-step-within x t n s a st =
-    mul-between binary64 (wholeQ true n) (wholeQ false n) x t (held-whole true n s) (held-whole false n s) (a .0) (st .finite-t)
-    (mul-step-low x t n st (within-low x n a)) (mul-step-high x t n st (within-high x n a))
 
 -- 1/1024 ≤ t on numerators.
 least-reach : (t : Float) → T (finite t) → T (le leastStep t) → den t ≤ pnum t * 1024

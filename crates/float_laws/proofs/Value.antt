@@ -86,10 +86,6 @@ one-sided (fin false m e) = inr refl
 pub q-nonneg : (a : Q) → Le (val zeroF) a → a .n ≤ a .p
 q-nonneg a h = omega (arith, h)
 
--- A fraction that is at most 0 has no more above than below.
-pub q-nonpos : (a : Q) → Le a (val zeroF) → a .p ≤ a .n
-q-nonpos a h = omega (arith, h)
-
 -- ---- the tests `le` and `lt` against the order of numbers
 
 or-l : (a b : Bool) → T a → T (a || b)
