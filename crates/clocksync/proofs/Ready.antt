@@ -9,7 +9,8 @@ use lib.Ieee.{Float, lt, binary64, add}
 use Rattle.settings.specs.declared.Settings.{Settings}
 use Rattle.settings.specs.Settings.{samplesToDiscardOf, samplesToStoreOf}
 use Rattle.clocksync.specs.Mean.{nothing64, meanOf}
-use Rattle.clocksync.specs.Clock.{heldOf, timedOf, tickedOf, firstOf, heardOf, deviatesOf, syncedOf, sampledOf, filledOf, addedOf, namedOf, sampleOf, settledOf, bothOf, readyOf}
+use Rattle.clocksync.specs.Clock.{heldOf, timedOf, tickedOf, firstOf, heardOf, deviatesOf, syncedOf, sampledOf, filledOf, addedOf, namedOf, sampleOf}
+use Rattle.clocksync.specs.Clock.{settledOf, bothOf, readyOf}
 use Rattle.clocksync.specs.declared.Offset.{Offset}
 use Rattle.clocksync.specs.declared.Offset.the-variants.{NoOffset, Seconds}
 use Rattle.clocksync.specs.declared.ClientId.{ClientId}
@@ -129,7 +130,8 @@ module _ (s : Settings) (c : Clock) (delta : Float) (h : Heard) where
       (ap hasId (settled-id s t h) ∙ k)
 
   -- an update that gives a clock its first offset leaves it ready, where an offset that is heard comes with a number
-  pub first-offset-ready : c .offset ≡ NoOffset → (hasOffset (h .offset) ≡ true → hasId (h .id) ≡ true) → hasOffset (settledOf s (tickedOf c (s .period) delta .clock) h .offset) ≡ true → readyOf (settledOf s (tickedOf c (s .period) delta .clock) h) ≡ true
+  pub first-offset-ready : c .offset ≡ NoOffset → (hasOffset (h .offset) ≡ true → hasId (h .id) ≡ true) →
+      hasOffset (settledOf s (tickedOf c (s .period) delta .clock) h .offset) ≡ true → readyOf (settledOf s (tickedOf c (s .period) delta .clock) h) ≡ true
   first-offset-ready e k o =
       let t = tickedOf c (s .period) delta .clock in
       both-ready (settledOf s t h .offset) (settledOf s t h .id) o

@@ -6,11 +6,13 @@ use native.Mathlib.Omega.{arith}
 use lib.Dec.{T, lit<}
 use lib.Ieee.{Float, binary64, add, sub, div}
 use lib.Ieee.Scale.{finite}
-use Rattle.float_laws.proofs.Value.{Q, Le, Eqv, q-le-trans, val, le-to-val}
-use Rattle.float_laws.proofs.Order.{Same, same-trans, between-finite}
-use Rattle.float_laws.proofs.Round.{rnd, rnd-same}
-use Rattle.float_laws.proofs.Operations.{addQ, subQ, divQ, add-is-rounded, sub-is-rounded, div-is-rounded}
-use Rattle.float_laws.proofs.Within.{Within, add-within, sub-within, div-within}
+use Rattle.float_laws.specs.Fractions.{Q, Le, Eqv, addQ, subQ, val, Same, rnd, roundQ}
+use Rattle.float_laws.specs.Bounds.{Within}
+use Rattle.float_laws.proofs.Value.{q-le-trans, le-to-val}
+use Rattle.float_laws.proofs.Order.{same-trans, between-finite}
+use Rattle.float_laws.proofs.Round.{rnd-same}
+use Rattle.float_laws.proofs.Operations.{divQ, add-is-rounded, sub-is-rounded, div-is-rounded}
+use Rattle.float_laws.proofs.Within.{add-within, sub-within, div-within}
 use Rattle.clocksync.specs.Rfc5905.{halfQ, thetaOf}
 use Rattle.clocksync.specs.Offset.{two64, offsetOf, offsetBy}
 
@@ -39,10 +41,6 @@ exact-offset a s b = go (a .p) (a .n) (a .d) (s .p) (s .n) (s .d) (b .p) (b .n) 
         (omega arith) (omega arith) (omega arith)
 
 -- ---- with each result rounded
-
--- a fraction rounded to binary64
-abbrev pub roundQ : Q → Q
-roundQ q = val (rnd binary64 q)
 
 -- a finite float that compares equal to a rounding has its number
 value-of : (x : Float) (q : Q) → T (finite x) → Same x (rnd binary64 q) → Eqv (val x) (roundQ q)

@@ -9,8 +9,9 @@ use lib.Ieee.{Float, lt, le}
 use lib.Ieee.Fits.{and-l, and-r, and-i}
 use lib.Ieee.Bits.{is-true}
 use lib.Ieee.Scale.{finite}
-use Rattle.float_laws.proofs.Value.{q-le-refl, val, le-of-val}
-use Rattle.float_laws.proofs.Order.{Same, float-le-trans, float-le-of-lt, float-le-of-not-lt}
+use Rattle.float_laws.specs.Fractions.{val, Same}
+use Rattle.float_laws.proofs.Value.{q-le-refl, le-of-val}
+use Rattle.float_laws.proofs.Order.{float-le-trans, float-le-of-lt, float-le-of-not-lt}
 use Rattle.clocksync.specs.Mean.{insertedOf, sortedOnto, sortedOf}
 use Rattle.clocksync.specs.Order.{All, AllFinite, AtMost, Ordered, Permutes}
 

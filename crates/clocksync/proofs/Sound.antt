@@ -12,8 +12,9 @@ use lib.Ieee.Bits.{is-true}
 use lib.Ieee.Fits.{add-fits}
 use lib.Ieee.Scale.{finite}
 use borrow.Author.Tests.{lt-ltb, ltb-true, ltb-false, le-leb, leb-true}
+use Rattle.float_laws.specs.Bounds.{Within}
 use Rattle.float_laws.proofs.Order.{float-le-trans, float-le-of-not-lt, between-finite}
-use Rattle.float_laws.proofs.Within.{Within, within-widen, within-of-tests, tests-of-within}
+use Rattle.float_laws.proofs.Within.{within-widen, within-of-tests, tests-of-within}
 use Rattle.float_laws.proofs.Clock.{AllWithin, sumUp, mean-within, offset-within, add-finite}
 use Rattle.settings.specs.declared.Settings.{Settings}
 use Rattle.settings.specs.Settings.{hour64, samplesToDiscardOf, samplesToStoreOf, passesOf}
@@ -22,7 +23,8 @@ use Rattle.settings.proofs.Limits.{Limited, period-within, discard-few, store-f
 use Rattle.settings.proofs.Few.{needed-range}
 use Rattle.clocksync.specs.Offset.{offsetOf}
 use Rattle.clocksync.specs.Mean.{nothing64, insertedOf, sortedOnto, sortedOf, innerOf, sumFrom, averageOf, meanOf}
-use Rattle.clocksync.specs.Clock.{heldOf, newOf, timedOf, tickedOf, deviatesOf, syncedOf, sampledOf, filledOf, addedOf, namedOf, sampleOf, settledOf, sampleOk, samplesOk, timerOk, offsetOk, soundClock}
+use Rattle.clocksync.specs.Clock.{heldOf, newOf, timedOf, tickedOf, deviatesOf, syncedOf, sampledOf, filledOf, addedOf, namedOf, sampleOf, settledOf}
+use Rattle.clocksync.specs.Clock.{sampleOk, samplesOk, timerOk, offsetOk, soundClock}
 use Rattle.clocksync.specs.declared.Offset.{Offset}
 use Rattle.clocksync.specs.declared.Offset.the-variants.{NoOffset, Seconds}
 use Rattle.clocksync.specs.declared.Clock.{Clock}
@@ -283,7 +285,8 @@ unfolding newOf samplesOk timerOk le lt eq
 new-sound s pass = of-parts s newOf (record { fewer = omega (arith, store-few s pass .0); held = lit≤ tt; samples = refl; timer = refl; offset = refl })
 
 -- a sound clock is sound after an update: after its tick, and after what was heard with an offset that passes the test of a sample
-pub clock-sound : (s : Settings) (c : Clock) (delta : Float) (h : Heard) → passesOf s ≡ true → length (c .samples) ≡ 64 → T (fits binary64 (c .timer)) → Within delta 3600 → offsetOk (h .offset) ≡ true → soundClock s c ≡ true → soundClock s (settledOf s (tickedOf c (s .period) delta .clock) h) ≡ true
+pub clock-sound : (s : Settings) (c : Clock) (delta : Float) (h : Heard) → passesOf s ≡ true → length (c .samples) ≡ 64 → T (fits binary64 (c .timer)) →
+    Within delta 3600 → offsetOk (h .offset) ≡ true → soundClock s c ≡ true → soundClock s (settledOf s (tickedOf c (s .period) delta .clock) h) ≡ true
 clock-sound s c delta h pass full f wd ok k =
     let t = tickedOf c (s .period) delta .clock in
     let p = ticked-parts s c delta pass f wd (parts-of s c k) in

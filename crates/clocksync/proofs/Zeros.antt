@@ -16,9 +16,9 @@ use lib.Ieee.Scale.{finite, round-same}
 use borrow.Author.Tests.{lt-ltb, le-ltb, eq-eqb, ne-eqb, eqb-true}
 use Rattle.timestamp.proofs.Basics.{split}
 use Rattle.timestamp.proofs.Whole.{holds}
+use Rattle.float_laws.specs.Fractions.{Same, sgn, rnd}
 use Rattle.float_laws.proofs.Value.{le-to-val}
-use Rattle.float_laws.proofs.Order.{Same}
-use Rattle.float_laws.proofs.Round.{sgn, rnd, rnd-at-most}
+use Rattle.float_laws.proofs.Round.{rnd-at-most}
 use Rattle.settings.proofs.Discard.{plus, round-plus}
 use Rattle.clocksync.specs.Mean.{nothing64, sortedOf, innerOf, sumFrom, averageOf, meanOf}
 use Rattle.clocksync.specs.Order.{All, AllFinite, AllFit, Ordered, Permutes}

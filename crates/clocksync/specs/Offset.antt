@@ -3,8 +3,7 @@
 use mathlib.Core.Bool.{false}
 use lib.IntN.{pos}
 use lib.Ieee.{Float, fin, binary64, add, sub, div}
-use Rattle.float_laws.proofs.Value.{Q}
-use Rattle.float_laws.proofs.Operations.{addQ, subQ}
+use Rattle.float_laws.specs.Fractions.{Q, addQ, subQ}
 use Rattle.clocksync.specs.Rfc5905.{halfQ}
 
 -- 2

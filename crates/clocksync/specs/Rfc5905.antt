@@ -4,8 +4,7 @@
 use Prim.Native.Nat.{_*_}
 use native.Mathlib.Nat.{mul-pos}
 use lib.Dec.{lit<}
-use Rattle.float_laws.proofs.Value.{Q}
-use Rattle.float_laws.proofs.Operations.{addQ, subQ}
+use Rattle.float_laws.specs.Fractions.{Q, addQ, subQ}
 
 -- half of a fraction
 abbrev pub halfQ : Q → Q

@@ -12,10 +12,13 @@ use lib.Ieee.Exact.{HasValue, round-exact}
 use lib.Ieee.Fits.{round-fits, neg-fits, reach}
 use lib.Ieee.Positive.{positive}
 use lib.Ieee.Scale.{finite}
-use Rattle.float_laws.proofs.Value.{Q, Le, Eqv, q-le-refl, q-le-trans, val, zeroF, oneF, le-to-val, le-of-val}
-use Rattle.float_laws.proofs.Order.{Same, float-le-trans, between-finite}
-use Rattle.float_laws.proofs.Round.{sgn, rnd, has-value-finite, has-value-eqv, rnd-at-least, rnd-at-most}
-use Rattle.float_laws.proofs.Operations.{addQ, negQ, subQ, mulQ, difference-times, add-is-rounded, neg-finite, neg-val, sub-is-rounded, mul-is-rounded, divQ, div-is-rounded, remQ, rem-is-rounded}
+use Rattle.float_laws.specs.Fractions.{Q, Le, Eqv, addQ, negQ, subQ, mulQ, val, Same, sgn, rnd}
+use Rattle.float_laws.specs.Bounds.{zeroF, oneF, Between}
+use Rattle.float_laws.proofs.Value.{q-le-refl, q-le-trans, le-to-val, le-of-val}
+use Rattle.float_laws.proofs.Order.{float-le-trans, between-finite}
+use Rattle.float_laws.proofs.Round.{has-value-finite, has-value-eqv, rnd-at-least, rnd-at-most}
+use Rattle.float_laws.proofs.Operations.{difference-times, add-is-rounded, neg-finite, neg-val, sub-is-rounded, mul-is-rounded, divQ, div-is-rounded}
+use Rattle.float_laws.proofs.Operations.{remQ, rem-is-rounded}
 
 -- The format holds the number: some finite value of the format is that number.
 pub Held : Format → Q → Type 0
@@ -83,10 +86,6 @@ held-diff f p n k h a b = go (ltb p n) (ltb→lt p n) (nltb→le p n)
     go false u v = held-eqv f (sgn false (p - n) (2 ^ k) (pow-pos k)) (diffQ p n k) (held-dyadic f false (p - n) k h (omega (arith, a))) (let e = difference-times p n (2 ^ k) (v tt) in (omega arith, omega arith))
 
 -- ---- between two numbers
-
--- z is finite, at least lo and at most hi.
-abbrev pub Between : Q → Float → Q → Type 0
-Between lo z hi = T (finite z) × Le lo (val z) × Le (val z) hi
 
 -- What lies between two numbers lies between any two outside them.
 pub between-widen : (lo hi lo' hi' : Q) (z : Float) → Le lo' lo → Le hi hi' → Between lo z hi → Between lo' z hi'

@@ -15,11 +15,12 @@ use lib.Ieee.Digits.{back}
 use lib.Ieee.Exact.{HasValue}
 use lib.Ieee.Positive.{den}
 use lib.Ieee.Scale.{finite}
-use Rattle.float_laws.proofs.Value.{Q, pnum, nnum, val, zeroF}
+use Rattle.float_laws.specs.Fractions.{Q, addQ, pnum, nnum, val, sgn, rnd}
+use Rattle.float_laws.specs.Bounds.{zeroF, Within}
 use Rattle.float_laws.proofs.Order.{float-le-trans, between-finite}
-use Rattle.float_laws.proofs.Round.{sgn, rnd, rnd-mono, fits-bounds}
-use Rattle.float_laws.proofs.Operations.{addQ, add-is-rounded}
-use Rattle.float_laws.proofs.Within.{Within, within-widen, within-low, within-high, zero-within, add-within, sub-within, div-within}
+use Rattle.float_laws.proofs.Round.{rnd-mono, fits-bounds}
+use Rattle.float_laws.proofs.Operations.{add-is-rounded}
+use Rattle.float_laws.proofs.Within.{within-widen, within-low, within-high, zero-within, add-within, sub-within, div-within}
 
 -- ---- the mean of samples
 

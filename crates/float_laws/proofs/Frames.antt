@@ -6,15 +6,17 @@ use Prim.Native.Nat.{ℕ, zero, suc, _+_, _*_, _≤_, _<_, _^_}
 use native.Mathlib.Nat.{le-trans, mul-le-mul-right, lt-of-le-of-lt, lt-of-not-le, mul-le-mul}
 use native.Mathlib.Omega.{arith}
 use mathlib.Core.Bool.{Bool, true, false, not, cond}
-use lib.IntN.{pos}
 use lib.Dec.{T, lit<, lit≤, not-T}
-use lib.Ieee.{Float, fin, lt, le, binary64, add, sub, mul}
+use lib.Ieee.{Float, lt, le, binary64, add, sub, mul}
 use lib.Ieee.Positive.{den}
 use lib.Ieee.Scale.{finite}
-use Rattle.float_laws.proofs.Value.{Q, Le, q-le-trans, pnum, nnum, val, zeroF, le-to-val, le-of-val, lt-to-val}
+use Rattle.float_laws.specs.Fractions.{Q, Le, pnum, nnum, val}
+use Rattle.float_laws.specs.Bounds.{zeroF, Between}
+use Rattle.float_laws.specs.Laws.{Step, sixtyFour, catchUp, enough, SixtyFiveSuffice}
+use Rattle.float_laws.proofs.Value.{q-le-trans, le-to-val, le-of-val, lt-to-val}
 use Rattle.float_laws.proofs.Order.{float-le-of-not-lt}
-use Rattle.float_laws.proofs.Bounds.{Held, held-val, held-zero, diffQ, held-diff, Between, add-between, sub-between, mul-between}
-use Rattle.float_laws.proofs.Timestep.{Step, least-unsigned, unitsOf, units-least, units-most, units-under, units-over}
+use Rattle.float_laws.proofs.Bounds.{Held, held-val, held-zero, diffQ, held-diff, add-between, sub-between, mul-between}
+use Rattle.float_laws.proofs.Timestep.{least-unsigned, unitsOf, units-least, units-most, units-under, units-over}
 
 -- The least that the value can be after k additions.
 abbrev floorQ : Float → ℕ → Q
@@ -31,10 +33,6 @@ units-room w h = omega arith
 
 held-floor : (t : Float) → Step t → (k : ℕ) → k ≤ 65 → Held binary64 (floorQ t k)
 held-floor t s k h = held-diff binary64 (k * unitsOf t) (64 * suc (unitsOf t)) 17 (lit≤ tt) (lt-of-le-of-lt (mul-le-mul h (units-most t s)) (lit< tt)) (units-room (unitsOf t) (units-most t s))
-
--- The float 64.
-abbrev pub sixtyFour : Float
-sixtyFour = fin false 1 (pos 6)
 
 -- 64 t, rounded, is at most 64 (u + 1) units.
 most-delta : (t : Float) → Step t → Between (val zeroF) (mul binary64 sixtyFour t) (diffQ (64 * suc (unitsOf t)) 0 17)
@@ -96,13 +94,8 @@ frames-step t k x s g h =
         let u = mul-le-mul-right (e * e) i in
         omega arith
 
--- At most n additions of t to x, which end where the value is not below 0.
-abbrev pub catchUp : ℕ → Float → Float → Float
-catchUp zero x t = x
-catchUp (suc n) x t = cond (lt x zeroF) (catchUp n (add binary64 x t) t) x
-
 -- The run of additions, from the kth on.
-frames-end : (n k : ℕ) (x t : Float) → n + k ≡ 65 → Step t → After t k x → T (le zeroF (catchUp n x t)) × T (le (catchUp n x t) t)
+frames-end : (n k : ℕ) (x t : Float) → n + k ≡ enough → Step t → After t k x → T (le zeroF (catchUp n x t)) × T (le (catchUp n x t) t)
 frames-end zero k x t e s g = (float-le-of-not-lt x zeroF (g .finite-x) tt (not-T (lt x zeroF) (λ (h : T (lt x zeroF)). omega (arith, e, frames-bound t k x s g h))), le-of-val x t (g .finite-x) (s .finite-t) (g .ceiling))
 frames-end (suc n) k x t e s g = go (lt x zeroF) (λ (h : T (lt x zeroF)). frames-end n (suc k) (add binary64 x t) t (omega (arith, e)) s (frames-step t k x s g h)) (λ (h : T (not (lt x zeroF))). h)
   where
@@ -110,7 +103,7 @@ frames-end (suc n) k x t e s g = go (lt x zeroF) (λ (h : T (lt x zeroF)). frame
     go true u v = u tt
     go false u v = (float-le-of-not-lt x zeroF (g .finite-x) tt (v tt), le-of-val x t (g .finite-x) (s .finite-t) (g .ceiling))
 
--- After at most 65 additions the value is from 0 to t.
-pub sixty-five-suffice : (o d t : Float) → Step t → T (finite o) → T (finite d) → T (le zeroF o) → T (le o t) → T (le zeroF d) → T (le d (mul binary64 sixtyFour t))
-    → T (le zeroF (catchUp 65 (sub binary64 o d) t)) × T (le (catchUp 65 (sub binary64 o d) t) t)
-sixty-five-suffice o d t s po pd h k i j = frames-end 65 0 (sub binary64 o d) t refl s (frames-start o d t s po pd h k i j)
+-- After at most 65 additions the value is from 0 to t. Nothing uses it yet: kept for request 13 of document 02.
+pub sixty-five-suffice : SixtyFiveSuffice
+unfolding SixtyFiveSuffice
+sixty-five-suffice o d t s po pd h k i j = frames-end enough 0 (sub binary64 o d) t refl s (frames-start o d t s po pd h k i j)

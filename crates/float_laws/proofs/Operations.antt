@@ -10,25 +10,10 @@ use lib.Ieee.{Float, nan, inf, fin, up, down, neg, Format, round, sum, add, sub,
 use lib.Ieee.Fits.{down-pos}
 use lib.Ieee.Positive.{den, den-pos, positive}
 use lib.Ieee.Scale.{finite}
-use Rattle.float_laws.proofs.Value.{Q, Le, Eqv, q-le-refl, q-le-trans, pnum, val}
-use Rattle.float_laws.proofs.Order.{Same, same-trans, positive-pnum}
-use Rattle.float_laws.proofs.Round.{rnd, rnd-same, round-is-rnd}
-
--- The exact sum.
-abbrev pub addQ : Q → Q → Q
-addQ a b = record { p = a .p * b .d + b .p * a .d; n = a .n * b .d + b .n * a .d; d = a .d * b .d; pos = mul-pos (a .pos) (b .pos) }
-
--- The exact negative.
-abbrev pub negQ : Q → Q
-negQ a = record { p = a .n; n = a .p; d = a .d; pos = a .pos }
-
--- The exact difference.
-abbrev pub subQ : Q → Q → Q
-subQ a b = addQ a (negQ b)
-
--- The exact product.
-abbrev pub mulQ : Q → Q → Q
-mulQ a b = record { p = a .p * b .p + a .n * b .n; n = a .p * b .n + a .n * b .p; d = a .d * b .d; pos = mul-pos (a .pos) (b .pos) }
+use Rattle.float_laws.specs.Fractions.{Q, Le, Eqv, addQ, negQ, subQ, mulQ, pnum, val, Same, rnd}
+use Rattle.float_laws.proofs.Value.{q-le-refl, q-le-trans}
+use Rattle.float_laws.proofs.Order.{same-trans, positive-pnum}
+use Rattle.float_laws.proofs.Round.{rnd-same, round-is-rnd}
 
 -- ---- the sum
 

@@ -9,11 +9,9 @@ use lib.Ieee.{Float, nan, inf, fin, up, down, lt, le, neg}
 use lib.Ieee.Fits.{up-pos}
 use lib.Ieee.Positive.{den, positive}
 use lib.Ieee.Scale.{finite}
-use Rattle.float_laws.proofs.Value.{Q, Lt, Eqv, q-le-trans, pnum, nnum, val, zeroF, le-to-val, le-of-val, lt-to-val, lt-of-val}
-
--- x and y compare equal: they are one number, up to the sign of a zero, or one infinity.
-abbrev pub Same : Float → Float → Type 0
-Same x y = T (le x y) × T (le y x)
+use Rattle.float_laws.specs.Fractions.{Q, Lt, Eqv, pnum, nnum, val, Same}
+use Rattle.float_laws.specs.Bounds.{zeroF}
+use Rattle.float_laws.proofs.Value.{q-le-trans, le-to-val, le-of-val, lt-to-val, lt-of-val}
 
 -- The test `<=` is transitive on all floats.
 pub float-le-trans : (x y z : Float) → T (le x y) → T (le y z) → T (le x z)

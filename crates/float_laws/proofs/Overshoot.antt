@@ -8,10 +8,12 @@ use lib.Dec.{T}
 use lib.Ieee.{Float, lt, le, binary64, fits, sub, mul, div}
 use lib.Ieee.Positive.{den, positive, positive-finite}
 use lib.Ieee.Scale.{finite}
-use Rattle.float_laws.proofs.Value.{pnum, nnum, val, zeroF, oneF, q-nonneg, le-to-val}
+use Rattle.float_laws.specs.Fractions.{pnum, nnum, val}
+use Rattle.float_laws.specs.Bounds.{zeroF, oneF, Between, InUnit}
+use Rattle.float_laws.specs.Laws.{tweenWeight, TweenUnit}
+use Rattle.float_laws.proofs.Value.{q-nonneg, le-to-val}
 use Rattle.float_laws.proofs.Order.{float-le-of-not-lt}
-use Rattle.float_laws.proofs.Bounds.{held-val, held-zero, held-one, Between, in-order, sub-between, mul-between, div-between}
-use Rattle.float_laws.proofs.Within.{InUnit}
+use Rattle.float_laws.proofs.Bounds.{held-val, held-zero, held-one, in-order, sub-between, mul-between, div-between}
 
 -- Where 0 ≤ o ≤ t and t is positive, o / t is from 0 to 1.
 quotient-unit : (o t : Float) → T (finite o) → T (positive t) → T (le zeroF o) → T (le o t) → InUnit (div binary64 o t)
@@ -29,12 +31,9 @@ one-less-unit w b =
     sub-between binary64 (val zeroF) (val oneF) oneF w held-zero held-one tt (b .0)
     (omega (arith, b .2)) (omega (arith, b .1))
 
--- The tween weight of an overshoot o and a timestep t, before it is shaped: 1 - o / t.
-abbrev pub tweenWeight : Float → Float → Float
-tweenWeight o t = sub binary64 oneF (div binary64 o t)
-
--- Where 0 ≤ o ≤ t and t is positive, the tween weight is finite and from 0 to 1.
-pub tween-unit : (o t : Float) → T (finite o) → T (positive t) → T (le zeroF o) → T (le o t) → T (finite (tweenWeight o t)) × T (le zeroF (tweenWeight o t)) × T (le (tweenWeight o t) oneF)
+-- Where 0 ≤ o ≤ t and t is positive, the tween weight is finite and from 0 to 1. Nothing uses it yet: kept for request 2 of document 02.
+pub tween-unit : TweenUnit
+unfolding TweenUnit
 tween-unit o t p q h k = in-order zeroF (tweenWeight o t) oneF tt tt (one-less-unit (div binary64 o t) (quotient-unit o t p q h k))
 
 -- Where y is from 0 to 1 and t is at least 0, y t is from 0 to t.

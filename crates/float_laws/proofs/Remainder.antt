@@ -8,11 +8,13 @@ use lib.Dec.{T}
 use lib.Ieee.{Float, binary64, fits, rem}
 use lib.Ieee.Positive.{den, den-pos, positive, positive-finite}
 use lib.Ieee.Scale.{finite}
-use Rattle.float_laws.proofs.Value.{Q, Lt, pnum, nnum, val, one-sided, le-to-val}
-use Rattle.float_laws.proofs.Order.{Same, same-trans, between-finite, positive-pnum, positive-nnum}
-use Rattle.float_laws.proofs.Round.{rnd, rnd-same, rnd-held}
-use Rattle.float_laws.proofs.Operations.{negQ, remQ, rem-is-rounded}
-use Rattle.float_laws.proofs.Bounds.{held-val, held-neg-val, Between, between-widen, rem-between}
+use Rattle.float_laws.specs.Fractions.{Q, Lt, negQ, pnum, nnum, val, Same, rnd}
+use Rattle.float_laws.specs.Bounds.{Between}
+use Rattle.float_laws.proofs.Value.{one-sided, le-to-val}
+use Rattle.float_laws.proofs.Order.{same-trans, between-finite, positive-pnum, positive-nnum}
+use Rattle.float_laws.proofs.Round.{rnd-same, rnd-held}
+use Rattle.float_laws.proofs.Operations.{remQ, rem-is-rounded}
+use Rattle.float_laws.proofs.Bounds.{held-val, held-neg-val, between-widen, rem-between}
 
 -- x % y is from -y to y.
 pub rem-within : (x y : Float) → T (fits binary64 y) → T (finite x) → T (positive y) → Between (negQ (val y)) (rem binary64 x y) (val y)

@@ -13,17 +13,9 @@ use lib.Ieee.Exact.{HasValue, round-exact}
 use lib.Ieee.Fits.{and-l, and-r, down-pos}
 use lib.Ieee.Order.{round-mono}
 use lib.Ieee.Scale.{finite}
-use Rattle.float_laws.proofs.Value.{Q, Le, Eqv, q-le-refl, val}
-use Rattle.float_laws.proofs.Order.{Same, float-le-trans, same-trans, same-of, le-neg}
-
--- The fraction a / c, or -a / c where the sign is `true`.
-abbrev pub sgn : Bool → ℕ → (c : ℕ) → 0 < c → Q
-sgn false a c C = record { p = a; n = 0; d = c; pos = C }
-sgn true a c C = record { p = 0; n = a; d = c; pos = C }
-
--- The fraction rounded to the format, to nearest with ties to even; an infinity where that overflows.
-unfoldable pub rnd : Format → Q → Float
-rnd f a = cond (ltb (a .p) (a .n)) (round f true (a .n - a .p) (a .d)) (round f false (a .p - a .n) (a .d))
+use Rattle.float_laws.specs.Fractions.{Q, Le, Eqv, val, Same, sgn, rnd}
+use Rattle.float_laws.proofs.Value.{q-le-refl}
+use Rattle.float_laws.proofs.Order.{float-le-trans, same-trans, same-of, le-neg}
 
 -- ---- a negative fraction is rounded as its size is
 

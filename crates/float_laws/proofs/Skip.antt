@@ -12,13 +12,17 @@ use lib.Ieee.Digits.{back}
 use lib.Ieee.Fits.{down-pos}
 use lib.Ieee.Positive.{den, den-pos}
 use lib.Ieee.Scale.{finite}
-use Rattle.float_laws.proofs.Value.{Le, Lt, pnum, nnum, val, zeroF, oneF, le-to-val, lt-to-val, lt-of-val}
+use Rattle.float_laws.specs.Fractions.{Le, Lt, pnum, nnum, val}
+use Rattle.float_laws.specs.Bounds.{zeroF, oneF, Between, wholeQ, InUnit}
+use Rattle.float_laws.specs.Laws.{Step, tweenWeight, halfCycle, wrap, lastStamp, firstStamp, SkipCycle}
+use Rattle.float_laws.proofs.Value.{le-to-val, lt-to-val, lt-of-val}
 use Rattle.float_laws.proofs.Round.{fits-bounds}
-use Rattle.float_laws.proofs.Bounds.{held-eqv, diffQ, held-diff, Between, sub-between, mul-between, div-between}
-use Rattle.float_laws.proofs.Within.{wholeQ, InUnit, held-whole}
-use Rattle.float_laws.proofs.Timestep.{Step, least-unsigned, step-positive, step-nonneg, mul-step-low, div-least-low, unitsOf, units-least, units-most, units-under, units-over}
-use Rattle.float_laws.proofs.Overshoot.{tweenWeight, mul-unit}
-use Rattle.float_laws.proofs.Wrap.{halfCycle, wrap, wrap-near, wrap-unit, wrap-cycle}
+use Rattle.float_laws.proofs.Bounds.{held-eqv, diffQ, held-diff, sub-between, mul-between, div-between}
+use Rattle.float_laws.proofs.Within.{held-whole}
+use Rattle.float_laws.proofs.Timestep.{least-unsigned, step-positive, step-nonneg, mul-step-low, div-least-low, unitsOf, units-least, units-most}
+use Rattle.float_laws.proofs.Timestep.{units-under, units-over}
+use Rattle.float_laws.proofs.Overshoot.{mul-unit}
+use Rattle.float_laws.proofs.Wrap.{wrap-near, wrap-unit, wrap-cycle}
 
 -- Where c - x is from 0 to 1, the overshoot is from 0 to the timestep.
 pub skip-in : (z t : Float) → Step t → InUnit z → Between (val zeroF) (mul binary64 (wrap z) t) (val t)
@@ -26,16 +30,9 @@ skip-in z t s w = mul-unit (wrap z) t (s .fits-t) (s .finite-t) (step-nonneg t s
 
 -- ---- a target above the last stamp
 
--- The float 32,767, the last stamp of a cycle.
-abbrev pub lastStamp : Float
-lastStamp = fin false 32767 (pos 0)
-
--- The float -32,768, the stamp after the last.
-abbrev pub firstStamp : Float
-firstStamp = fin true 1 (pos 15)
-
--- Where x is above 32,767 and c is -32,768, the overshoot is from 0 to the timestep.
-pub skip-cycle : (x t : Float) → T (finite x) → T (lt lastStamp x) → T (le x halfCycle) → Step t → Between (val zeroF) (mul binary64 (wrap (sub binary64 firstStamp x)) t) (val t)
+-- Where x is above 32,767 and c is -32,768, the overshoot is from 0 to the timestep. Nothing uses it yet: kept for request 2 of document 02.
+pub skip-cycle : SkipCycle
+unfolding SkipCycle
 skip-cycle x t p h k s =
     let z = sub binary64 firstStamp x in
     let w = sub-between binary64 (wholeQ true (2 ^ 16)) (wholeQ true (2 ^ 16 - 1)) firstStamp x (held-whole true (2 ^ 16) (lit< tt)) (held-whole true (2 ^ 16 - 1) (lit< tt)) tt p

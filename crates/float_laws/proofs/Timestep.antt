@@ -4,27 +4,18 @@ use Prim.Native.Nat.{ℕ, suc, _+_, _*_, _≤_, _<_, _^_, _/_}
 use native.Mathlib.Nat.{le-refl, mul-le-mul-right, le-of-suc-le-suc, div-mul-le-self, div-lt-iff-lt-mul, le-div-iff-mul-le}
 use native.Mathlib.Omega.{arith}
 use mathlib.Core.Bool.{true, false}
-use lib.IntN.{negsuc}
 use lib.Dec.{T}
-use lib.Ieee.{Float, fin, le, binary64, fits, div}
+use lib.Ieee.{Float, le, binary64, div}
 use lib.Ieee.Positive.{den, den-pos, positive}
 use lib.Ieee.Scale.{finite}
-use Rattle.float_laws.proofs.Value.{Le, pnum, nnum, val, zeroF, oneF, le-to-val, lt-of-val}
+use Rattle.float_laws.specs.Fractions.{Le, mulQ, pnum, nnum, val}
+use Rattle.float_laws.specs.Bounds.{zeroF, oneF, wholeQ, Within}
+use Rattle.float_laws.specs.Laws.{leastStep, Step}
+use Rattle.float_laws.proofs.Value.{le-to-val, lt-of-val}
 use Rattle.float_laws.proofs.Order.{float-le-trans, positive-of-lt, positive-nnum}
-use Rattle.float_laws.proofs.Operations.{mulQ, divQ}
+use Rattle.float_laws.proofs.Operations.{divQ}
 use Rattle.float_laws.proofs.Bounds.{div-between}
-use Rattle.float_laws.proofs.Within.{wholeQ, Within, held-whole, within-low, within-high}
-
--- The float 1/1024.
-abbrev pub leastStep : Float
-leastStep = fin false 1 (negsuc 9)
-
--- t is a timestep: a finite binary64 value from 1/1024 to 1.
-pub record Step (t : Float) : Type 0 where
-  pub fits-t : T (fits binary64 t)
-  pub finite-t : T (finite t)
-  pub least : T (le leastStep t)
-  pub most : T (le t oneF)
+use Rattle.float_laws.proofs.Within.{held-whole, within-low, within-high}
 
 -- A float that is at least 1/1024 is positive.
 least-positive : (t : Float) → T (finite t) → T (le leastStep t) → T (positive t)

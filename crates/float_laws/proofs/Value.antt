@@ -9,27 +9,9 @@ use lib.IntN.{pos}
 use lib.Dec.{T, ltb, eqb, eqb→eq, ltb→lt, lt→ltb}
 use lib.Ieee.{Float, nan, inf, fin, up, down, lt, le}
 use lib.Ieee.Fits.{and-l, and-r, and-i, eq→eqb}
-use lib.Ieee.Positive.{den, den-pos}
 use lib.Ieee.Scale.{finite}
-
--- The number (p - n) / d. A negative number has its size in n.
-pub record Q : Type 0 where
-  pub p : ℕ
-  pub n : ℕ
-  pub d : ℕ
-  pub pos : 0 < d
-
--- a is at most b.
-abbrev pub Le : Q → Q → Type 0
-Le a b = a .p * b .d + b .n * a .d ≤ b .p * a .d + a .n * b .d
-
--- a is less than b.
-abbrev pub Lt : Q → Q → Type 0
-Lt a b = a .p * b .d + b .n * a .d < b .p * a .d + a .n * b .d
-
--- a and b are one number.
-abbrev pub Eqv : Q → Q → Type 0
-Eqv a b = Le a b × Le b a
+use Rattle.float_laws.specs.Fractions.{Q, Le, Lt, pnum, nnum, val}
+use Rattle.float_laws.specs.Bounds.{zeroF}
 
 -- Each fraction is at most itself.
 pub q-le-refl : (a : Q) → Le a a
@@ -48,32 +30,6 @@ pub q-le-trans : (a b c : Q) → Le a b → Le b c → Le a c
 q-le-trans a b c h k = through (a .p) (a .n) (a .d) (b .p) (b .n) (b .d) (c .p) (c .n) (c .d) (b .pos) h k
 
 -- ---- the number of a float
-
--- The numerator of a finite float that has a positive sign, in units of 1 / den; 0 for any other float.
-abbrev pub pnum : Float → ℕ
-pnum nan = 0
-pnum (inf s) = 0
-pnum (fin true m e) = 0
-pnum (fin false m e) = m * up e
-
--- The numerator of a finite float that has a negative sign, in units of 1 / den; 0 for any other float.
-abbrev pub nnum : Float → ℕ
-nnum nan = 0
-nnum (inf s) = 0
-nnum (fin true m e) = m * up e
-nnum (fin false m e) = 0
-
--- The number of a finite float; 0 for a NaN and for an infinity.
-abbrev pub val : Float → Q
-val x = record { p = pnum x; n = nnum x; d = den x; pos = den-pos x }
-
--- The float +0.
-abbrev pub zeroF : Float
-zeroF = fin false 0 (pos 0)
-
--- The float 1.
-abbrev pub oneF : Float
-oneF = fin false 1 (pos 0)
 
 -- A float has a positive or a negative numerator, never both.
 pub one-sided : (x : Float) → (pnum x ≡ 0) ⊎ (nnum x ≡ 0)

@@ -10,21 +10,11 @@ use lib.Ieee.{Float, nan, inf, fin, up, le, binary64, add, sub, div}
 use lib.Ieee.Exact.{HasValue}
 use lib.Ieee.Positive.{den, positive-of-value}
 use lib.Ieee.Scale.{finite}
-use Rattle.float_laws.proofs.Value.{Q, q-le-trans, pnum, nnum, val, zeroF, oneF, le-to-val, le-of-val}
-use Rattle.float_laws.proofs.Round.{sgn, has-value-finite, has-value-eqv}
-use Rattle.float_laws.proofs.Bounds.{Held, held-dyadic, Between, between-widen, add-between, sub-between, div-between}
-
--- The whole number n, or -n where the sign is `true`.
-abbrev pub wholeQ : Bool → ℕ → Q
-wholeQ s n = sgn s n (2 ^ 0) (pow-pos 0)
-
--- z is finite, at least -n and at most n.
-abbrev pub Within : Float → ℕ → Type 0
-Within z n = Between (wholeQ true n) z (wholeQ false n)
-
--- z is finite, at least 0 and at most 1.
-abbrev pub InUnit : Float → Type 0
-InUnit z = Between (val zeroF) z (val oneF)
+use Rattle.float_laws.specs.Fractions.{pnum, nnum, val}
+use Rattle.float_laws.specs.Bounds.{zeroF, wholeQ, Within}
+use Rattle.float_laws.proofs.Value.{q-le-trans, le-to-val, le-of-val}
+use Rattle.float_laws.proofs.Round.{has-value-finite, has-value-eqv}
+use Rattle.float_laws.proofs.Bounds.{Held, held-dyadic, between-widen, add-between, sub-between, div-between}
 
 -- Each whole number below 2 ^ 53, and its negative, is held.
 pub held-whole : (s : Bool) (n : ℕ) → n < 2 ^ 53 → Held binary64 (wholeQ s n)

@@ -4,33 +4,19 @@ use Prim.Native.Nat.{ℕ, _+_, _-_, _*_, _≤_, _<_, _^_}
 use native.Mathlib.Nat.{mul-le-mul-right, mul-lt-mul-of-pos-right}
 use native.Mathlib.Omega.{arith}
 use mathlib.Core.Bool.{Bool, true, false, not, cond}
-use lib.IntN.{pos}
 use lib.Dec.{T, lit<, lit≤}
-use lib.Ieee.{Float, fin, lt, le, binary64, fits, add, sub, rem}
+use lib.Ieee.{Float, lt, le, binary64, fits, add, sub, rem}
 use lib.Ieee.Fits.{add-fits}
 use lib.Ieee.Positive.{den, den-pos}
 use lib.Ieee.Scale.{finite}
-use Rattle.float_laws.proofs.Value.{pnum, nnum, val, zeroF, oneF, le-to-val, le-of-val, lt-to-val, lt-of-val}
+use Rattle.float_laws.specs.Fractions.{pnum, nnum, val}
+use Rattle.float_laws.specs.Bounds.{zeroF, oneF, Between, wholeQ, Within, InUnit}
+use Rattle.float_laws.specs.Laws.{halfCycle, cycle, upward, wrap}
+use Rattle.float_laws.proofs.Value.{le-to-val, le-of-val, lt-to-val, lt-of-val}
 use Rattle.float_laws.proofs.Order.{float-le-of-lt, float-le-of-not-lt}
-use Rattle.float_laws.proofs.Bounds.{Held, held-eqv, diffQ, held-diff, Between, between-widen, add-between, sub-between}
-use Rattle.float_laws.proofs.Within.{wholeQ, Within, InUnit, held-whole, add-within}
+use Rattle.float_laws.proofs.Bounds.{Held, held-eqv, diffQ, held-diff, between-widen, add-between, sub-between}
+use Rattle.float_laws.proofs.Within.{held-whole, add-within}
 use Rattle.float_laws.proofs.Remainder.{rem-within, rem-keeps}
-
--- The float 32,768.
-abbrev pub halfCycle : Float
-halfCycle = fin false 1 (pos 15)
-
--- The float 65,536.
-abbrev cycle : Float
-cycle = fin false 1 (pos 16)
-
--- A cycle is added to a remainder below 0.
-abbrev upward : Float → Float
-upward r = cond (lt r zeroF) (add binary64 r cycle) r
-
--- The frame count x wrapped: (x + 32,768) rem 65,536 - 32,768, the remainder never negative.
-abbrev pub wrap : Float → Float
-wrap x = sub binary64 (upward (rem binary64 (add binary64 x halfCycle) cycle)) halfCycle
 
 fits-cycle : T (fits binary64 cycle)
 unfolding fits

@@ -8,7 +8,7 @@ use lib.Dec.{T, eqb, ltb, leb}
 use lib.ListN.{length}
 use lib.Ieee.{Float, binary64, fits, add, le}
 use borrow.Author.Tests.{ltb-true, eqb-true, eqb-false}
-use Rattle.float_laws.proofs.Value.{zeroF}
+use Rattle.float_laws.specs.Bounds.{zeroF}
 use Rattle.float_laws.proofs.Order.{float-le-trans}
 use Rattle.timestamp.specs.declared.Timestamp.{Timestamp}
 use Rattle.timestamp.specs.Timestamps.{bitsOf}

@@ -8,9 +8,10 @@ use lib.IntN.{pos}
 use lib.Ieee.{Float, nan, inf, fin, up, down, binary64, add, lt, eq, le}
 use lib.Ieee.Fits.{and-l}
 use borrow.Author.Tests.{eqb-true, eq-eqb}
-use Rattle.float_laws.proofs.Value.{zeroF, oneF, le-of-val}
+use Rattle.float_laws.specs.Bounds.{zeroF, oneF, Within}
+use Rattle.float_laws.proofs.Value.{le-of-val}
 use Rattle.float_laws.proofs.Order.{between-finite, float-le-trans}
-use Rattle.float_laws.proofs.Within.{Within, within-of-tests, add-within}
+use Rattle.float_laws.proofs.Within.{within-of-tests, add-within}
 use Rattle.float_laws.proofs.Overshoot.{clamp-unit}
 use Rattle.timestamp.specs.declared.Timestamp.{Timestamp}
 use Rattle.timestamp.specs.declared.Ordering.{Ordering}

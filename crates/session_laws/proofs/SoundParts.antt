@@ -11,9 +11,9 @@ use lib.Ieee.{Float, fin, binary64, fits, add, lt, le, eq}
 use lib.Ieee.Bits.{is-true}
 use lib.Ieee.Fits.{and-l, and-r}
 use borrow.Author.Tests.{lt-ltb, ltb-true, eqb-true, eq-eqb}
-use Rattle.float_laws.proofs.Value.{zeroF, oneF}
+use Rattle.float_laws.specs.Bounds.{zeroF, oneF, Within}
 use Rattle.float_laws.proofs.Order.{between-finite, float-le-trans}
-use Rattle.float_laws.proofs.Within.{Within, within-widen, within-of-tests, add-within}
+use Rattle.float_laws.proofs.Within.{within-widen, within-of-tests, add-within}
 use Rattle.timestamp.proofs.Basics.{holds-true, not-true}
 use Rattle.settings.specs.declared.Settings.{Settings}
 use Rattle.settings.specs.Settings.{passesOf, between, samplesToDiscardOf, samplesToStoreOf}

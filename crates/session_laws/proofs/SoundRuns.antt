@@ -8,11 +8,14 @@ use lib.Dec.{T, lit<}
 use lib.IntN.{pos}
 use lib.Ieee.{Float, nan, inf, fin, binary64, fits, sub, mul, lt, le}
 use lib.Ieee.Scale.{finite}
-use Rattle.float_laws.proofs.Value.{q-le-refl, val, oneF, le-of-val}
+use Rattle.float_laws.specs.Fractions.{val}
+use Rattle.float_laws.specs.Bounds.{oneF, Within}
+use Rattle.float_laws.specs.Laws.{Step}
+use Rattle.float_laws.proofs.Value.{q-le-refl, le-of-val}
 use Rattle.float_laws.proofs.Order.{between-finite, float-le-trans, float-le-of-lt, float-le-of-not-lt}
 use Rattle.float_laws.proofs.Round.{has-value-finite}
-use Rattle.float_laws.proofs.Within.{Within, within-of-tests}
-use Rattle.float_laws.proofs.Timestep.{Step, div-least-within}
+use Rattle.float_laws.proofs.Within.{within-of-tests}
+use Rattle.float_laws.proofs.Timestep.{div-least-within}
 use Rattle.float_laws.proofs.Frames.{After, frames-start, frames-step}
 use Rattle.timestamp.specs.declared.Timestamp.{Timestamp}
 use Rattle.settings.specs.declared.Settings.{Settings}

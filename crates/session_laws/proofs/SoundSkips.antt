@@ -14,16 +14,17 @@ use lib.Ieee.Fits.{sub-fits, down-pos}
 use lib.Ieee.Positive.{den}
 use lib.Ieee.Scale.{finite}
 use borrow.Author.Tests.{le-leb, lt-ltb}
-use Rattle.float_laws.proofs.Value.{Q, Le, Eqv, q-le-trans, pnum, nnum, val, zeroF, oneF, le-to-val, le-of-val, lt-to-val}
+use Rattle.float_laws.specs.Fractions.{Q, Le, Eqv, addQ, pnum, nnum, val}
+use Rattle.float_laws.specs.Bounds.{zeroF, oneF, Between, wholeQ, Within, InUnit}
+use Rattle.float_laws.specs.Laws.{Step, tweenWeight, halfCycle, wrap, lastStamp}
+use Rattle.float_laws.proofs.Value.{q-le-trans, le-to-val, le-of-val, lt-to-val}
 use Rattle.float_laws.proofs.Order.{between-finite, float-le-of-not-lt}
 use Rattle.float_laws.proofs.Round.{has-value-finite, has-value-eqv}
-use Rattle.float_laws.proofs.Operations.{addQ}
-use Rattle.float_laws.proofs.Bounds.{held-zero, held-one, Between, in-order, sub-between}
-use Rattle.float_laws.proofs.Within.{wholeQ, Within, InUnit, tests-of-within, within-widen}
-use Rattle.float_laws.proofs.Timestep.{Step, div-step-within}
-use Rattle.float_laws.proofs.Overshoot.{tweenWeight}
-use Rattle.float_laws.proofs.Wrap.{halfCycle, wrap, wrap-within}
-use Rattle.float_laws.proofs.Skip.{lastStamp, skip-in, skip-out}
+use Rattle.float_laws.proofs.Bounds.{held-zero, held-one, in-order, sub-between}
+use Rattle.float_laws.proofs.Within.{tests-of-within, within-widen}
+use Rattle.float_laws.proofs.Timestep.{div-step-within}
+use Rattle.float_laws.proofs.Wrap.{wrap-within}
+use Rattle.float_laws.proofs.Skip.{skip-in, skip-out}
 use Rattle.timestamp.specs.Timestamps.{signedOf, bitsOf}
 use Rattle.timestamp.specs.Whole.{ceilOf}
 use Rattle.timestamp.specs.FloatTimestamps.{fromUnwrapped, fromSeconds, floatOf, ceilStampOf}

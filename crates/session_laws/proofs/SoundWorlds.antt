@@ -4,7 +4,7 @@ use mathlib.Core.Bool.{Bool, true, false, cond}
 use Prim.Native.Nat.{ℕ, _^_, _<_}
 use lib.Dec.{T, eqb}
 use lib.Ieee.{Float, eq, le}
-use Rattle.float_laws.proofs.Value.{zeroF, oneF}
+use Rattle.float_laws.specs.Bounds.{zeroF, oneF}
 use Rattle.timestamp.specs.declared.Timestamp.{Timestamp}
 use Rattle.command.specs.declared.CommandBuffer.{CommandBuffer}
 use Rattle.command.specs.declared.Entry.{Entry}

@@ -1,0 +1,90 @@
+-- Laws of binary64 arithmetic for two requests of document 02, which nothing uses yet: each is stated here by name, and proofs/ proves it under the same
+-- name in small letters.
+-- The operations are IEEE 754's, the rounding of each included. Definitions only. Assumes nothing.
+use Prim.Native.Nat.{ℕ, zero, suc}
+use mathlib.Core.Bool.{true, false, cond}
+use lib.IntN.{pos, negsuc}
+use lib.Dec.{T}
+use lib.Ieee.{Float, fin, lt, le, binary64, fits, add, sub, mul, div, rem}
+use lib.Ieee.Positive.{positive}
+use lib.Ieee.Scale.{finite}
+use Rattle.float_laws.specs.Fractions.{val}
+use Rattle.float_laws.specs.Bounds.{zeroF, oneF, Between}
+
+-- ---- a timestep
+
+-- The float 1/1024.
+abbrev pub leastStep : Float
+leastStep = fin false 1 (negsuc 9)
+
+-- t is a timestep: a finite binary64 value from 1/1024 to 1.
+pub record Step (t : Float) : Type 0 where
+  pub fits-t : T (fits binary64 t)
+  pub finite-t : T (finite t)
+  pub least : T (le leastStep t)
+  pub most : T (le t oneF)
+
+-- ---- the frames of an update: for request 13 of document 02
+
+-- The float 64.
+abbrev pub sixtyFour : Float
+sixtyFour = fin false 1 (pos 6)
+
+-- At most n additions of t to x, which end where the value is not below 0.
+abbrev pub catchUp : ℕ → Float → Float → Float
+catchUp zero x t = x
+catchUp (suc n) x t = cond (lt x zeroF) (catchUp n (add binary64 x t) t) x
+
+-- So many additions suffice.
+abbrev pub enough : ℕ
+enough = 65
+
+-- An update starts from o - d with 0 ≤ o ≤ t and 0 ≤ d ≤ 64 t, and adds t while the value is below 0: after at most 65 additions the value is from 0 to t.
+unfoldable pub SixtyFiveSuffice : Type 0
+SixtyFiveSuffice =
+    (o d t : Float) → Step t → T (finite o) → T (finite d) → T (le zeroF o) → T (le o t) → T (le zeroF d) → T (le d (mul binary64 sixtyFour t)) →
+    T (le zeroF (catchUp enough (sub binary64 o d) t)) × T (le (catchUp enough (sub binary64 o d) t) t)
+
+-- ---- the tween weight: for request 2 of document 02, by which refusal 27 goes
+
+-- The tween weight of an overshoot o and a timestep t, before it is shaped: 1 - o / t.
+abbrev pub tweenWeight : Float → Float → Float
+tweenWeight o t = sub binary64 oneF (div binary64 o t)
+
+-- Where 0 ≤ o ≤ t and t is positive, the tween weight is finite and from 0 to 1.
+unfoldable pub TweenUnit : Type 0
+TweenUnit =
+    (o t : Float) → T (finite o) → T (positive t) → T (le zeroF o) → T (le o t) →
+    T (finite (tweenWeight o t)) × T (le zeroF (tweenWeight o t)) × T (le (tweenWeight o t) oneF)
+
+-- ---- a skip past the last stamp of a cycle: for request 2 of document 02
+
+-- The float 32,768.
+abbrev pub halfCycle : Float
+halfCycle = fin false 1 (pos 15)
+
+-- The float 65,536.
+abbrev pub cycle : Float
+cycle = fin false 1 (pos 16)
+
+-- A cycle is added to a remainder below 0.
+abbrev pub upward : Float → Float
+upward r = cond (lt r zeroF) (add binary64 r cycle) r
+
+-- The frame count x wrapped: (x + 32,768) rem 65,536 - 32,768, the remainder never negative.
+abbrev pub wrap : Float → Float
+wrap x = sub binary64 (upward (rem binary64 (add binary64 x halfCycle) cycle)) halfCycle
+
+-- The float 32,767, the last stamp of a cycle.
+abbrev pub lastStamp : Float
+lastStamp = fin false 32767 (pos 0)
+
+-- The float -32,768, the stamp after the last.
+abbrev pub firstStamp : Float
+firstStamp = fin true 1 (pos 15)
+
+-- Where a skip's target x is above 32,767 and it sets the stamp -32,768, the overshoot is from 0 to the timestep.
+unfoldable pub SkipCycle : Type 0
+SkipCycle =
+    (x t : Float) → T (finite x) → T (lt lastStamp x) → T (le x halfCycle) → Step t →
+    Between (val zeroF) (mul binary64 (wrap (sub binary64 firstStamp x)) t) (val t)
