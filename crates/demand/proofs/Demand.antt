@@ -8,7 +8,7 @@ use Rattle.client.specs.declared.ClientWorldSimulations.{ClientWorldSimulations
 use Rattle.client.specs.declared.Queued.{Queued}
 use Rattle.client.specs.declared.Queued.the-variants.{Nothing, Held}
 use Rattle.client.specs.Sides.{newSideOf, oldSideOf, worldOf, oldStampOf, newStampOf}
-use Rattle.session_laws.proofs.SoundParts.{FloatsFit}
+use Rattle.session_laws.specs.Soundness.{FloatsFit}
 use Rattle.session_laws.proofs.TraceFrames.{QueuedFits, Fitting}
 use Rattle.session_state.specs.declared.Session.{Session}
 use Rattle.demand.specs.Calls.{Call, Update, Issue, Answered, outcomeOf, happened, sessionOf, Chain}

@@ -8,7 +8,7 @@ use lib.ListN.{length, replicate}
 use Rattle.tape.specs.Words.{stepsOn, commandsOn}
 use Rattle.tape.proofs.Counting.{steps-on-append, steps-on-zeros, steps-both}
 use Rattle.settings.specs.declared.Settings.{Settings}
-use Rattle.session_laws.proofs.SoundParts.{FloatsFit}
+use Rattle.session_laws.specs.Soundness.{FloatsFit}
 use Rattle.session_laws.proofs.TraceSteps.{lagIn}
 use Rattle.session_laws.proofs.TraceReading.{keeps-self}
 use Rattle.session_laws.proofs.LedgerCalls.{Settles}

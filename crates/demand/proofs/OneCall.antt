@@ -10,7 +10,7 @@ use Rattle.tape.specs.Words.{commandsOn}
 use Rattle.settings.specs.declared.Settings.{Settings}
 use Rattle.client.specs.declared.Ledger.{Ledger}
 use Rattle.client.specs.Sides.{oldStampOf}
-use Rattle.session_laws.proofs.SoundParts.{FloatsFit}
+use Rattle.session_laws.specs.Soundness.{FloatsFit}
 use Rattle.session_laws.proofs.TraceSteps.{lagIn}
 use Rattle.session_laws.proofs.TraceFrames.{QueuedFits, Fitting}
 use Rattle.session_laws.proofs.TraceArrivals.{alike-fitting, alike-lag}

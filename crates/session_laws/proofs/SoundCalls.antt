@@ -28,6 +28,7 @@ use Rattle.client.specs.declared.DisplayTime.{DisplayTime}
 use Rattle.client.specs.declared.DisplayTime.the-variants.{NotDisplayed, DisplayedAt}
 use Rattle.client_receive.specs.Receive.{receivedOf}
 use Rattle.session_state.specs.Session.{withClock, withWorldsOf}
+use Rattle.session_laws.specs.Soundness.{FloatsFit, OpenSound, OpenUnsound, UpdateSound, IssueSound}
 use Rattle.session_laws.proofs.SoundWorlds.{new-kept, new-weighed, received-kept, received-weighed}
 use Rattle.refusals.specs.declared.Stop.{Stop}
 use Rattle.refusals.specs.declared.Stop.the-variants.{Done, TooManyFrames, StatusStops}
@@ -41,7 +42,8 @@ use Rattle.session_state.specs.Sound.{noOffset, connectedOf, soundOf}
 use Rattle.inbox_passes.specs.Passes.{hasForWorlds, heardIn, receivedIn}
 use Rattle.session.specs.Calls.{startOf, openOf, timesOk, refusedAtOnce, Answer, refusedWith, startedAt, syncedOf, clockAfter, clockUpdateOf, sceneOf, stageAfter, acceptedOf, concludedOf, serverTimeBy, sceneAfter, playedOf, worldsUpdateOf, updateBy, updateOf, unreceived}
 use Rattle.session.specs.Issue.{unissued, entryOf, issuedBy, issuedOf, issueBy, issueOf}
-use Rattle.session_laws.proofs.SoundParts.{sound-facts, facts-sound, FloatsFit, times-within, clock-after-sound, clock-after-timer, clock-after-slots, clock-after-ready, clock-after-first, server-within, scene-after-kept, scene-after-weighed}
+use Rattle.session_laws.proofs.SoundParts.{sound-facts, facts-sound, times-within, clock-after-sound, clock-after-timer, clock-after-slots}
+use Rattle.session_laws.proofs.SoundParts.{clock-after-ready, clock-after-first, server-within, scene-after-kept, scene-after-weighed}
 
 -- ---- open
 
@@ -70,13 +72,26 @@ start-sound c pass =
     })
 
 -- every session that an accepted open returns is sound
-pub open-sound : (c : Settings) → openOf c .refusal ≡ 0 → soundOf (openOf c .session) ≡ true
-unfolding openOf
+pub open-sound : OpenSound
+unfolding OpenSound openOf
 open-sound c h = start-sound c (go (passesOf c) h)
   where
     go : (b : Bool) → _≡_ {A = ℕ} (cond b 0 1) 0 → b ≡ true
     go true e = refl
     go false e = absurd (omega arith)
+
+-- the session that a refused open returns is not
+pub open-unsound : OpenUnsound
+unfolding OpenUnsound openOf startOf
+open-unsound c h = go (soundOf (startOf c)) (λ e. sound-facts (startOf c) e .settings)
+  where
+    fails : (b : Bool) → _≡_ {A = ℕ} (cond b 0 1) 1 → b ≡ false
+    fails true e = absurd (omega arith)
+    fails false e = refl
+
+    go : (b : Bool) → (b ≡ true → passesOf c ≡ true) → b ≡ false
+    go true f = not-true (sym (fails (passesOf c) h) ∙ f refl)
+    go false f = refl
 
 -- ---- a session without worlds has no offset
 
@@ -272,7 +287,8 @@ update-good s delta seconds inbox len f = go (eqb (refusedAtOnce s delta seconds
     go false t n k = refused-not (refusedAtOnce s delta seconds inbox) s len (n refl) k
 
 -- every session that an accepted update returns is sound, whatever session it was handed
-pub update-sound : (s : Session) (delta seconds : Float) (inbox : List ℕ) (len : ℕ) → FloatsFit s → updateOf s delta seconds inbox len .reply .refusal ≡ 0 → soundOf (updateOf s delta seconds inbox len .reply .session) ≡ true
+pub update-sound : UpdateSound
+unfolding UpdateSound
 update-sound s delta seconds inbox len f k = update-good s delta seconds inbox len f k .sound
 
 -- ---- a refused update returns the session
@@ -393,7 +409,8 @@ issue-ways s h =
     (λ e. down-with 7 s (λ z. omega arith))
 
 -- every session that an accepted issue returns is sound
-pub issue-sound : (s : Session) (h : ℕ) → issueOf s h .refusal ≡ 0 → soundOf (issueOf s h .session) ≡ true
+pub issue-sound : IssueSound
+unfolding IssueSound
 issue-sound s h e = go (issue-ways s h)
   where
     go : Issued s (issueOf s h) → soundOf (issueOf s h .session) ≡ true

@@ -32,7 +32,8 @@ use Rattle.clocksync.specs.declared.Ticked.{Ticked}
 use Rattle.clocksync.specs.declared.Offset.{Offset}
 use Rattle.clocksync.specs.declared.Offset.the-variants.{NoOffset, Seconds}
 use Rattle.clocksync.specs.Mean.{nothing64, meanOf}
-use Rattle.clocksync.specs.Clock.{laidOut, heldOf, timedOf, tickedOf, listenOf, heardOf, syncedOf, sampledOf, filledOf, namedOf, sampleOf, settledOf, serverSecondsOf, readyOf, offsetOk, soundClock}
+use Rattle.clocksync.specs.Clock.{laidOut, heldOf, timedOf, tickedOf, listenOf, heardOf, syncedOf, sampledOf, filledOf, namedOf, sampleOf, settledOf}
+use Rattle.clocksync.specs.Clock.{serverSecondsOf, readyOf, offsetOk, soundClock}
 use Rattle.clocksync.proofs.Sound.{sample-within, measured-ok, clock-sound, clock-timer-fits}
 use Rattle.clocksync.proofs.Ready.{hasOffset, hasId, ready-id, heard-id, ready-stays, first-offset-ready}
 use Rattle.client.specs.declared.Queued.{Queued}
@@ -40,6 +41,7 @@ use Rattle.client.specs.declared.Queued.the-variants.{Nothing, Held}
 use Rattle.client.specs.declared.ClientWorldSimulations.{ClientWorldSimulations}
 use Rattle.client.specs.declared.Received.{Received}
 use Rattle.client.specs.Sides.{newSideOf, oldSideOf, worldOf, oldStampOf, newStampOf}
+use Rattle.session_laws.specs.Soundness.{FloatsFit}
 use Rattle.session_laws.proofs.SoundWorlds.{SmallQueued, InitOrder, Kept, Weighed, is-nought, is-even, received-kept, received-weighed, noted-kept, noted-weighed}
 use Rattle.session_laws.proofs.SoundFrames.{weighed-unit}
 use Rattle.session_laws.proofs.SoundRuns.{InStep}
@@ -171,13 +173,6 @@ facts-sound s f =
     both (both (both (both (f .settings) (f .clock)) (f .connected)) (worlds-hold (s .worlds) (f .kept) (f .weighed)))
     (both (is-true (le zeroF (s .overshoot)) (f .overshoot .low)) (is-true (le (s .overshoot) (s .settings .timestep)) (f .overshoot .high)))
 
--- ---- what the types say of a session's floats and of its clock's slots
-
-pub record FloatsFit (s : Session) : Type 0 where
-  pub timestep : T (fits binary64 (s .settings .timestep))
-  pub timer : T (fits binary64 (s .clock .timer))
-  pub slots : length (s .clock .samples) ≡ 64
-
 -- ---- times
 
 pub times-within : (delta seconds : Float) → timesOk delta seconds ≡ true → Within delta 3600 × Within seconds (2 ^ 32)
@@ -203,7 +198,8 @@ time-within x h =
 -- ---- the clock messages of an inbox
 
 -- an offset that is heard passes the test of a sample
-heard-ok : (seconds : Float) (h : Heard) (ms : List Message) → Within seconds (2 ^ 32) → Each Bounded ms → offsetOk (h .offset) ≡ true → offsetOk (over (hearOne seconds) h ms .offset) ≡ true
+heard-ok : (seconds : Float) (h : Heard) (ms : List Message) → Within seconds (2 ^ 32) → Each Bounded ms → offsetOk (h .offset) ≡ true →
+    offsetOk (over (hearOne seconds) h ms .offset) ≡ true
 unfolding heardOf
 heard-ok seconds h ms w b k = over-keeps (λ (x : Heard). offsetOk (x .offset) ≡ true) (hearOne seconds) one h ms b k
   where
@@ -272,7 +268,8 @@ module _ (s : Session) (delta seconds : Float) (inbox : List ℕ) where
   unfolding heardIn
   clock-after-sound f pass ok h =
       let t = times-within delta seconds ok in
-      clock-sound (s .settings) (s .clock) delta (heardIn seconds inbox (listenOf (s .clock))) pass (f .slots) (f .timer) (t .0) (heard-ok seconds (listenOf (s .clock)) (messagesOf inbox) (t .1) (messages-bounded inbox) refl) h
+      let o = heard-ok seconds (listenOf (s .clock)) (messagesOf inbox) (t .1) (messages-bounded inbox) refl in
+      clock-sound (s .settings) (s .clock) delta (heardIn seconds inbox (listenOf (s .clock))) pass (f .slots) (f .timer) (t .0) o h
 
   -- a value of the format in its timer, and 64 slots
   pub clock-after-timer : T (fits binary64 (clockAfter s delta seconds inbox .timer))
@@ -284,11 +281,14 @@ module _ (s : Session) (delta seconds : Float) (inbox : List ℕ) where
   -- what is heard knows the client's number where the clock did, and where there is an offset
   known : Known (hasId (s .clock .id)) (heardIn seconds inbox (listenOf (s .clock)))
   unfolding heardIn
-  known = heard-known seconds (listenOf (s .clock)) (messagesOf inbox) (hasId (s .clock .id)) (messages-bounded inbox) (record { kept = λ z. z; brought = λ z. absurd (false≢true z) })
+  known =
+      heard-known seconds (listenOf (s .clock)) (messagesOf inbox) (hasId (s .clock .id)) (messages-bounded inbox)
+      (record { kept = λ z. z; brought = λ z. absurd (false≢true z) })
 
   -- a clock that is ready stays so
   pub clock-after-ready : readyOf (s .clock) ≡ true → readyOf (clockAfter s delta seconds inbox) ≡ true
-  clock-after-ready h = ready-stays (s .settings) (s .clock) delta (heardIn seconds inbox (listenOf (s .clock))) h (known .kept (ready-id (s .clock .offset) (s .clock .id) h))
+  clock-after-ready h =
+      ready-stays (s .settings) (s .clock) delta (heardIn seconds inbox (listenOf (s .clock))) h (known .kept (ready-id (s .clock .offset) (s .clock .id) h))
 
   -- the first offset comes with an id
   pub clock-after-first : s .clock .offset ≡ NoOffset → hasOffset (clockAfter s delta seconds inbox .offset) ≡ true → readyOf (clockAfter s delta seconds inbox) ≡ true
