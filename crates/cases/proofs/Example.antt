@@ -21,12 +21,15 @@ use Rattle.client_receive.specs.Receive.{offeredBase, offeredSide, receivedOf, 
 use Rattle.client_publish.specs.Publish.{publishedNone, publishedSide, publishedOld, publishedBlended}
 use Rattle.client_frame.specs.Frame.{readiedWith, loadedAt, loadedOf, loadedQueued, blendedOn, openedOf, steppedSide, caughtUpOf, steppedNew, caughtOf, simulatedOf, shownOf, stopsOf, snapshotOf, openOf as frameOpened, frameOf, frameStops}
 use Rattle.client_publish.specs.Ending.{tweenOf, weightOk, timeOf, displayedOf, revisedOf, postUpdateOf}
-use Rattle.fixed_timestepper.specs.TimeKeeper.{logicalOf, driftOf, uncappedOf, compensatedOf, framed, runOf, skipsOf, maybeSkipped, finishedOf, advancedOf, updatedOf}
+use Rattle.fixed_timestepper.specs.TimeKeeper.{logicalOf, driftOf, uncappedOf, compensatedOf, framed, runOf, skipsOf, maybeSkipped, unendedOf, advancedOf, updatedOf}
 use Rattle.session_state.specs.Sound.{queuedSound, weightSound, initSound, buffersSound, worldsSound, overshootSound, connectedOf, soundOf}
 use Rattle.inbox_passes.specs.Passes.{hasForWorlds, heardIn, receivedIn, notedIn}
-use Rattle.session.specs.Calls.{refusedWith, startOf, openOf, timesOk, refusedAtOnce, syncedOf, clockUpdateOf, acceptedOf, playedOf, worldsUpdateOf, updateOf}
+use Rattle.refusals.specs.Refusals.{onceRefusalBy}
+use Rattle.session.specs.Calls.{concludedOf, startOf, openOf, timesOk, refusedAtOnce, clockUpdateOf, playedOf, worldsUpdateOf, updateOf}
+use Rattle.session_answers.specs.Answers.{refusedWith, syncedOf, acceptedOf}
 use Rattle.demand.specs.Calls.{Chain}
-use Rattle.demand.specs.Demand.{Typed, worldsExist, Demand3}
+use Rattle.demand.specs.Demand.{Typed, Demand3}
+use Rattle.session_state.specs.Session.{hasWorlds}
 use Rattle.demand.proofs.Demand.{demand-3}
 use Rattle.cases.specs.Table.{settingsWith, clockAt, opened, heardOnce, heardTwice, heardThrice, frameOne}
 use Rattle.cases.specs.Example.{before, refused, calls, Example}
@@ -35,7 +38,7 @@ use Rattle.cases.specs.Example.{before, refused, calls, Example}
 record Allowed : Type 0 where
   typed : Typed before
   sound : soundOf before ≡ true
-  exists : worldsExist (before .stage) ≡ true
+  exists : hasWorlds (before .stage) ≡ true
   frames : frameOne .reply .frames ≡ 1
   caught : frameOne .reply .steps ≡ 3
   none : refused .frames ≡ 0
@@ -43,7 +46,7 @@ record Allowed : Type 0 where
 
 -- they are computed, under the definitions of the calls
 allowed : Allowed
-unfolding fits refusedWith add sub mul div rem round lt le eq ofInt toSigned toUnsigned ofBits toBits signedOf orderOf inRange ceilOf roundOf fromUnwrapped fromSeconds stampOf ceilStampOf lagFramesOf discardOf secondsPass thresholdsPass samplesPass countsPass passesOf offsetOf sampleInserted sortedOnto sortedOf sumFrom averageOf meanOf heldOf newOf tickedOf heardOf filledOf settledOf samplesOk timerOk soundClock bitsOf inboxTime clockOf frontOf messagesAfter refusalIn refusalOf laid inRangeOf dueOf laterThan placedOf insertedOf leaving droppedOf movedOf takenOf restOf commandWords inOrderAfter inOrder soundBuffer stepWord commandWord snapshotWord publishWord noneWord scheduledOf stepOf loadOf newSideOf oldSideOf worldOf withWorld oldStampOf newStampOf newWorldsOf ledgerOf withLedger putOf andThen doneAt laterOf overshotOf newerOf statusOf offeredBase offeredSide receivedOf fromFutureOf freshOf notedOf snapshotsBy snapshotsOf notesOf publishedNone publishedSide publishedOld publishedBlended readiedWith loadedAt loadedOf loadedQueued blendedOn openedOf steppedSide caughtUpOf steppedNew caughtOf simulatedOf shownOf stopsOf snapshotOf frameOpened frameOf frameStops tweenOf weightOk timeOf displayedOf revisedOf postUpdateOf logicalOf driftOf uncappedOf compensatedOf framed runOf skipsOf maybeSkipped finishedOf advancedOf updatedOf queuedSound weightSound initSound buffersSound worldsSound overshootSound connectedOf soundOf hasForWorlds heardIn receivedIn notedIn startOf openOf timesOk refusedAtOnce syncedOf clockUpdateOf acceptedOf playedOf worldsUpdateOf updateOf settingsWith clockAt opened heardOnce heardTwice heardThrice frameOne
+unfolding fits refusedWith add sub mul div rem round lt le eq ofInt toSigned toUnsigned ofBits toBits signedOf orderOf inRange ceilOf roundOf fromUnwrapped fromSeconds stampOf ceilStampOf lagFramesOf discardOf secondsPass thresholdsPass samplesPass countsPass passesOf offsetOf sampleInserted sortedOnto sortedOf sumFrom averageOf meanOf heldOf newOf tickedOf heardOf filledOf settledOf samplesOk timerOk soundClock bitsOf inboxTime clockOf frontOf messagesAfter refusalIn refusalOf laid inRangeOf dueOf laterThan placedOf insertedOf leaving droppedOf movedOf takenOf restOf commandWords inOrderAfter inOrder soundBuffer stepWord commandWord snapshotWord publishWord noneWord scheduledOf stepOf loadOf newSideOf oldSideOf worldOf withWorld oldStampOf newStampOf newWorldsOf ledgerOf withLedger putOf andThen doneAt laterOf overshotOf newerOf statusOf offeredBase offeredSide receivedOf fromFutureOf freshOf notedOf snapshotsBy snapshotsOf notesOf publishedNone publishedSide publishedOld publishedBlended readiedWith loadedAt loadedOf loadedQueued blendedOn openedOf steppedSide caughtUpOf steppedNew caughtOf simulatedOf shownOf stopsOf snapshotOf frameOpened frameOf frameStops tweenOf weightOk timeOf displayedOf revisedOf postUpdateOf logicalOf driftOf uncappedOf compensatedOf framed runOf skipsOf maybeSkipped advancedOf unendedOf updatedOf onceRefusalBy concludedOf queuedSound weightSound initSound buffersSound worldsSound overshootSound connectedOf soundOf hasForWorlds heardIn receivedIn notedIn startOf openOf timesOk refusedAtOnce syncedOf clockUpdateOf acceptedOf playedOf worldsUpdateOf updateOf settingsWith clockAt opened heardOnce heardTwice heardThrice frameOne
 allowed =
     record {
       typed = record { timestep = tt; timer = tt; slots = refl; left = omega arith; right = omega arith; queued = tt };

@@ -7,11 +7,13 @@ use lib.ListN.{replicate}
 use lib.Ieee.{nan}
 use Rattle.session_state.specs.declared.Session.{Session}
 use Rattle.session_state.specs.Sound.{soundOf}
-use Rattle.session.specs.declared.UpdateAnswer.{UpdateAnswer}
-use Rattle.session.specs.Calls.{Reply, updateOf}
+use Rattle.session_answers.specs.declared.UpdateAnswer.{UpdateAnswer}
+use Rattle.session.specs.Calls.{updateOf}
+use Rattle.session_answers.specs.Answers.{Reply}
 use Rattle.session.specs.Issue.{issueOf}
 use Rattle.demand.specs.Calls.{Call, Update, Issue, Chain, sum, framesOf, caughtOf}
-use Rattle.demand.specs.Demand.{Typed, worldsExist, Told}
+use Rattle.demand.specs.Demand.{Typed, Told}
+use Rattle.session_state.specs.Session.{hasWorlds}
 use Rattle.cases.specs.Table.{secondsOf, heardThrice, frameOne}
 
 -- the answer of an update whose reply is this
@@ -39,7 +41,7 @@ calls = loading ∷ Update nan (secondsOf 102) [] (replicate 3 7) (answerOf refu
 pub record Example : Type 0 where
   pub typed : Typed before
   pub sound : soundOf before ≡ true
-  pub exists : worldsExist (before .stage) ≡ true
+  pub exists : hasWorlds (before .stage) ≡ true
   pub chain : Chain before calls
   pub frames : sum framesOf calls ≡ 1
   pub caught : sum caughtOf calls ≡ 3

@@ -23,8 +23,9 @@ use Rattle.fixed_timestepper.specs.TimeKeeper.{Event, FrameFrom, SkipFrom}
 use Rattle.session_state.specs.declared.Stage.{Stage}
 use Rattle.session_state.specs.declared.Stage.the-variants.{SyncingInitialState, Ready}
 use Rattle.session_state.specs.declared.Session.{Session}
-use Rattle.session.specs.declared.ReportAnswer.{ReportAnswer}
-use Rattle.session.specs.Calls.{Reply, Answer, openOf, updateOf, reportOf}
+use Rattle.session_answers.specs.declared.ReportAnswer.{ReportAnswer}
+use Rattle.session.specs.Calls.{openOf, updateOf, reportOf}
+use Rattle.session_answers.specs.Answers.{Reply, Answer}
 use Rattle.demand.specs.Demand.{Load, NoLoad, Loaded, loadIn, behindOf, behindAfter}
 
 -- the float 32,768.0

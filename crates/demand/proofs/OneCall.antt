@@ -15,14 +15,13 @@ use Rattle.session_laws.proofs.TraceSteps.{lagIn}
 use Rattle.session_laws.proofs.TraceFrames.{QueuedFits, Fitting}
 use Rattle.session_laws.proofs.TraceArrivals.{alike-fitting, alike-lag}
 use Rattle.session_laws.proofs.TraceReading.{Keeps}
-use Rattle.session_laws.proofs.LedgerCalls.{hasWorlds, Settles}
+use Rattle.session_laws.proofs.LedgerCalls.{Settles}
 use Rattle.fixed_timestepper.specs.TimeKeeper.{rulesOf, Event}
 use Rattle.session_state.specs.declared.Session.{Session}
-use Rattle.session_state.specs.declared.Stage.{Stage}
-use Rattle.session_state.specs.declared.Stage.the-variants.{SyncingClock, SyncingInitialState, Ready}
 use Rattle.session_state.specs.Sound.{soundOf}
 use Rattle.demand.specs.Calls.{Outcome, quiet, ledgerIn}
-use Rattle.demand.specs.Demand.{framesIn, distancesIn, wordsIn, Ruled, newSteps, Walk, worldsExist}
+use Rattle.demand.specs.Demand.{framesIn, distancesIn, wordsIn, Ruled, newSteps, Walk}
+use Rattle.session_state.specs.Session.{hasWorlds}
 use Rattle.demand.proofs.TraceCounts.{frames-append, distances-append, new-append}
 use Rattle.demand.proofs.TraceLaw.{Linked, lastIn, linked-append, last-append}
 use Rattle.demand.proofs.TraceRuns.{same-of, walk-append}
@@ -30,13 +29,13 @@ use Rattle.demand.proofs.TraceRuns.{same-of, walk-append}
 -- a session whose worlds a call may move: it is sound, its worlds exist, and their stamps have 16 bits
 pub record Standing (s : Session) : Type 0 where
   pub sound : soundOf s ≡ true
-  pub exists : worldsExist (s .stage) ≡ true
+  pub exists : hasWorlds (s .stage) ≡ true
   pub fitting : Fitting (s .worlds)
 
 -- the trace es leads from the session s to the session e in f frames, with k steps to catch up
 pub record Traced (s e : Session) (f k : ℕ) (es : List Event) : Type 0 where
   pub settings : e .settings ≡ s .settings
-  pub exists : worldsExist (e .stage) ≡ true
+  pub exists : hasWorlds (e .stage) ≡ true
   pub fitting : Fitting (e .worlds)
   pub frames : framesIn es ≡ f
   pub caught : newSteps 0 es + newSteps 1 es ≡ k
@@ -56,7 +55,7 @@ pub record OneCall (s : Session) (o : Outcome) (es : List Event) : Type 0 where
   pub floats : FloatsFit s → FloatsFit (o .session)
   pub sound : FloatsFit s → soundOf s ≡ true → soundOf (o .session) ≡ true
   pub happens : Standing s → Happens s o es
-  pub ledgers : (x : ℕ) → x < 2 → worldsExist (s .stage) ≡ true → Settles x s (o .session) (ledgerIn x o) (commandsOn x (o .tape))
+  pub ledgers : (x : ℕ) → x < 2 → hasWorlds (s .stage) ≡ true → Settles x s (o .session) (ledgerIn x o) (commandsOn x (o .tape))
 
 -- ---- traces of sessions
 
@@ -65,7 +64,7 @@ pub none-traced : (s e : Session) → Keeps s e → Standing s → Traced s e 0 
 none-traced s e k h =
     record {
       settings = k .settings;
-      exists = ap worldsExist (k .stage) ∙ h .exists;
+      exists = ap hasWorlds (k .stage) ∙ h .exists;
       fitting = alike-fitting (k .alike) (subst QueuedFits (sym (k .queued)) (h .fitting .queued)) (h .fitting);
       frames = refl;
       caught = refl;
@@ -104,11 +103,6 @@ joins {s} {m} {e} {f} {g} {k} {n} t u a b =
     }
 
 -- ---- calls in which nothing happens
-
-pub exists-has : (g : Stage) → worldsExist g ≡ true → hasWorlds g ≡ true
-exists-has SyncingClock h = h
-exists-has SyncingInitialState h = refl
-exists-has Ready h = refl
 
 -- what such a call came to
 pub quiet-happens : (s e : Session) (l r : Ledger) → Keeps s e → Standing s → Happens s (quiet e l r) []

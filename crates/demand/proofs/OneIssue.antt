@@ -7,10 +7,10 @@ use Rattle.session_laws.proofs.SoundCalls.{issue-stays-sound, issue-fits}
 use Rattle.session_laws.proofs.TraceReading.{issue-keeps}
 use Rattle.session_laws.proofs.LedgerCalls.{issue-settles}
 use Rattle.session_state.specs.declared.Session.{Session}
-use Rattle.session.specs.declared.IssueAnswer.{IssueAnswer}
+use Rattle.session_answers.specs.declared.IssueAnswer.{IssueAnswer}
 use Rattle.session.specs.Issue.{issueOf}
 use Rattle.demand.specs.Calls.{Outcome, quiet}
-use Rattle.demand.proofs.OneCall.{OneCall, exists-has, quiet-happens}
+use Rattle.demand.proofs.OneCall.{OneCall, quiet-happens}
 
 -- what an issue came to, by its answer
 abbrev issued : IssueAnswer → Outcome
@@ -23,7 +23,7 @@ by-definition s h =
       floats = λ f. issue-fits s h f;
       sound = λ f e. issue-stays-sound s h e;
       happens = λ k. quiet-happens s (issueOf s h .session) (issueOf s h .left) (issueOf s h .right) (issue-keeps s h) k;
-      ledgers = λ x p w. issue-settles x s h p (exists-has (s .stage) w);
+      ledgers = λ x p w. issue-settles x s h p w;
     }
 
 -- an issue

@@ -18,7 +18,7 @@ use Rattle.tape.specs.Words.{stepsOn}
 use Rattle.settings.specs.declared.Settings.{Settings}
 use Rattle.client.specs.declared.ClientWorldSimulations.{ClientWorldSimulations}
 use Rattle.client.specs.declared.Scene.{Scene}
-use Rattle.client.specs.Sides.{oldStampOf, withWorlds, andThen}
+use Rattle.client.specs.Sides.{oldStampOf, andThen}
 use Rattle.client_frame.specs.Frame.{frameOf}
 use Rattle.client_skip.specs.Skip.{skippedOf}
 use Rattle.client_publish.specs.Ending.{postUpdateOf}
@@ -176,12 +176,8 @@ ran-skipped c s r server i =
 
 -- ---- the end
 
-ran-stops : (c : Settings) (s : Scene) (r : Run) (stop : Stop) → Ran c s r → Ran c s (endsWith r (r .played .scene) stop)
-ran-stops c s r stop i =
-    record { rules = i .rules; frames = i .frames; words = i .words; caught = i .caught; old = i .old; fitting = i .fitting; linked = i .linked; last = i .last; walk = i .walk }
-
-ran-ends : (c : Settings) (s : Scene) (r : Run) (w : ClientWorldSimulations) (stop : Stop) → Alike (r .played .scene .worlds) w → QueuedFits (w .snapshots .queued) → Ran c s r → Ran c s (endsWith r (withWorlds (r .played .scene) w) stop)
-ran-ends c s r w stop a q i =
+ran-ends : (c : Settings) (s : Scene) (r : Run) (w : ClientWorldSimulations) → Alike (r .played .scene .worlds) w → QueuedFits (w .snapshots .queued) → Ran c s r → Ran c s (endsWith r w)
+ran-ends c s r w a q i =
     record {
       rules = i .rules;
       frames = i .frames;
@@ -199,8 +195,7 @@ ran-over c s server =
     record {
       rests = λ r i. i;
       skips = λ r i. ran-skipped c s r server i;
-      shows = λ r t lag i. ran-ends c s r (postUpdateOf (r .played .scene .worlds) t lag) Done (post-alike (r .played .scene .worlds) t lag) (rw (post-queued (r .played .scene .worlds) t lag) (i .fitting .queued)) i;
-      stops = λ r i. ran-stops c s r WeightStops i;
+      shows = λ r t lag i. ran-ends c s r (postUpdateOf (r .played .scene .worlds) t lag) (post-alike (r .played .scene .worlds) t lag) (rw (post-queued (r .played .scene .worlds) t lag) (i .fitting .queued)) i;
     }
 
 -- one update of the worlds

@@ -4,24 +4,23 @@ use mathlib.Core.List.{List, [], _∷_, _++_, append-nil}
 use mathlib.Core.Path.{_≡_, refl, ap, sym, _∙_}
 use Prim.Native.Nat.{ℕ, zero, suc, _+_}
 use native.Mathlib.Omega.{arith}
-use lib.Dec.{eqb, leb}
-use lib.ListN.{length}
 use lib.Ieee.{Float, binary64, add, sub, lt}
 use Rattle.settings.specs.declared.Settings.{Settings}
-use Rattle.clocksync.specs.Clock.{tickedOf, listenOf}
 use Rattle.client.specs.declared.Scene.{Scene}
 use Rattle.client.specs.Sides.{oldStampOf}
-use Rattle.client_publish.specs.Ending.{tweenOf, weightOk}
 use Rattle.client_frame.specs.Frame.{frameOf, frameStops}
 use Rattle.refusals.specs.declared.Stop.{Stop}
 use Rattle.refusals.specs.declared.Stop.the-variants.{Done, TooManyFrames, StatusStops}
-use Rattle.fixed_timestepper.specs.TimeKeeper.{nought, rulesOf, Event, FrameFrom, SkipFrom, Run, ended, framed, goesOn, whileBelow, runOf, compensatedOf, correctedOf, skipsOf, skipped, maybeSkipped, finishedOf, concluded, advancedOf, updatedOf}
-use Rattle.inbox_passes.specs.Passes.{heardIn, receivedIn}
-use Rattle.session_state.specs.declared.Stage.{Stage}
-use Rattle.session_state.specs.declared.Stage.the-variants.{SyncingClock, SyncingInitialState, Ready}
+use Rattle.fixed_timestepper.specs.TimeKeeper.{skippedBy, unendedOf, nought, rulesOf, Event, FrameFrom, SkipFrom, Run, ended, framed, goesOn, whileBelow, runOf, compensatedOf, correctedOf, skipsOf, skipped, maybeSkipped, advancedOf, updatedOf}
 use Rattle.session_state.specs.declared.Session.{Session}
-use Rattle.session.specs.Calls.{Answer, refusedAtOnce, refusedWith, unreceived, clockAfter, sceneAfter, acceptedOf, concludedOf, playedOf, worldsUpdateOf, updateBy, updateOf}
-use Rattle.demand.specs.Demand.{worldsExist}
+use Rattle.refusals.specs.Limits.{mostFrames}
+use Rattle.timestamp.proofs.Basics.{not-true}
+use Rattle.session_laws.proofs.Ways.{runIn, update-by-ways}
+use borrow.Author.Tests.{ne-eqb}
+use Prim.{⊥}
+use Rattle.session.specs.Calls.{requestOf, clockAfter, sceneAfter, playedOf, updateOf}
+use Rattle.session_answers.specs.Answers.{Answer, refusedWith, acceptedOf}
+use Rattle.session_state.specs.Session.{hasWorlds}
 use Rattle.demand.specs.Events.{framesFor, framesPlayed, sceneAt, overshootAt, skipAfter, playsFrom, serverAt, playedIn, eventsOf}
 
 -- ---- the frames
@@ -106,28 +105,20 @@ ended-skipped c server s o r h =
     let b : Bool = skipsOf (oldStampOf (r .played .scene .worlds)) (r .overshoot) server c in
     record { trace = skipped-by b c server r ∙ (λ i. h .trace i ++ skipAfter c server (h .scene i) (h .overshoot i)) }
 
-finished-by : {c : Settings} {server : Float} {s : Scene} {o : Float} {f : ℕ} (b : Bool) (x y : Run) → Ended c server s o f x → Ended c server s o f y → Ended c server s o f (cond b x y)
-finished-by true x y h k = h
-finished-by false x y h k = k
-
-ended-finished : (c : Settings) (server : Float) (s : Scene) (o : Float) (f : ℕ) (r : Run) → Ended c server s o f r → Ended c server s o f (finishedOf r c)
-unfolding finishedOf
-ended-finished c server s o f r h = finished-by (weightOk (tweenOf (r .overshoot) (c .timestep))) _ _ (record { trace = h .trace }) (record { trace = h .trace })
-
-ended-concluded : (stop : Stop) (c : Settings) (server : Float) (s : Scene) (o : Float) (r : Run) → r .stop ≡ stop → Shaped c s o r → concluded stop r server c .stop ≡ Done → (r .stop ≡ Done) × Ended c server s o (r .frames) (concluded stop r server c)
-ended-concluded Done c server s o r e h d = (e, ended-finished c server s o (r .frames) (maybeSkipped r server c) (ended-skipped c server s o r h))
+ended-concluded : (stop : Stop) (c : Settings) (server : Float) (s : Scene) (o : Float) (r : Run) → r .stop ≡ stop → Shaped c s o r → skippedBy stop r server c .stop ≡ Done
+    → (r .stop ≡ Done) × Ended c server s o (r .frames) (skippedBy stop r server c)
+ended-concluded Done c server s o r e h d = (e, ended-skipped c server s o r h)
 ended-concluded TooManyFrames c server s o r e h d = absurd (let z : _≡_ {A = ℕ} 0 1 = cc in omega arith)
 ended-concluded StatusStops c server s o r e h d = absurd (let z : _≡_ {A = ℕ} 0 1 = cc in omega arith)
-ended-concluded WeightStops c server s o r e h d = absurd (let z : _≡_ {A = ℕ} 0 1 = cc in omega arith)
 
 ended-updated : (c : Settings) (s : Scene) (o delta server : Float) → updatedOf c s o delta server .stop ≡ Done →
     let x : Float = sub binary64 o (compensatedOf (oldStampOf (s .worlds)) o delta server c) in
-    updatedOf c s o delta server .trace ≡ playsFrom c server s x (framesFor 65 (c .timestep) x)
-unfolding updatedOf advancedOf
+    updatedOf c s o delta server .trace ≡ playsFrom c server s x (framesFor mostFrames (c .timestep) x)
+unfolding updatedOf unendedOf advancedOf
 ended-updated c s o delta server d =
     let x : Float = sub binary64 o (compensatedOf (oldStampOf (s .worlds)) o delta server c) in
-    let e = ended-concluded (runOf 65 c s x .stop) c server s x (runOf 65 c s x) refl (shaped-run 65 c s x) d in
-    e .1 .trace ∙ ap (playsFrom c server s x) (run-count 65 c s x (e .0))
+    let e = ended-concluded (runOf mostFrames c s x .stop) c server s x (runOf mostFrames c s x) refl (shaped-run mostFrames c s x) d in
+    e .1 .trace ∙ ap (playsFrom c server s x) (run-count mostFrames c s x (e .0))
 
 -- ---- the update
 
@@ -136,46 +127,16 @@ abbrev Pinned : Session → Float → Float → List ℕ → Answer → Type 0
 Pinned s delta seconds inbox a = a .trace ≡ eventsOf s delta seconds inbox (a .reply .refusal)
 
 module _ (s : Session) (delta seconds : Float) (inbox : List ℕ) (len : ℕ) where
-  pinned-refused : (n : ℕ) → eqb n 0 ≡ false → Pinned s delta seconds inbox (refusedWith n s len)
+  pinned-refused : (n : ℕ) → (n ≡ 0 → ⊥) → Pinned s delta seconds inbox (refusedWith n s len)
   unfolding refusedWith eventsOf
-  pinned-refused n e = ap (λ (b : Bool). cond b (playedIn s delta seconds inbox) []) (sym e)
+  pinned-refused n e = ap (λ (b : Bool). cond b (playedIn s delta seconds inbox) []) (sym (ne-eqb n 0 e))
 
-  pinned-pick : (b : Bool) (x y : Answer) → (b ≡ true → Pinned s delta seconds inbox x) → (b ≡ false → Pinned s delta seconds inbox y) → Pinned s delta seconds inbox (cond b x y)
-  pinned-pick true x y h k = h refl
-  pinned-pick false x y h k = k refl
-
-  -- the run of its frames
-  run : Run
-  run = playedOf s (clockAfter s delta seconds inbox) delta seconds inbox
-
-  pinned-accepted : (q : Bool) → run .stop ≡ Done → Pinned s delta seconds inbox (acceptedOf s (clockAfter s delta seconds inbox) q run len)
-  unfolding run acceptedOf eventsOf playedOf
+  pinned-accepted : (q : Bool) → runIn s delta seconds inbox .stop ≡ Done → Pinned s delta seconds inbox (acceptedOf s (clockAfter s delta seconds inbox) q (runIn s delta seconds inbox) len)
+  unfolding acceptedOf eventsOf playedOf
   pinned-accepted q d = ended-updated (s .settings) (sceneAfter s inbox) (s .overshoot) delta (serverAt s delta seconds inbox) d
 
-  pinned-concluded : (stop : Stop) (q : Bool) → run .stop ≡ stop → Pinned s delta seconds inbox (concludedOf stop s (clockAfter s delta seconds inbox) q run len)
-  pinned-concluded Done q d =
-      pinned-pick (leb (length (run .played .words)) len) (acceptedOf s (clockAfter s delta seconds inbox) q run len) (refusedWith 28 s len) (λ b. pinned-accepted q d) (λ b. pinned-refused 28 refl)
-  pinned-concluded TooManyFrames q d = pinned-refused 25 refl
-  pinned-concluded StatusStops q d = pinned-refused 26 refl
-  pinned-concluded WeightStops q d = pinned-refused 27 refl
-
-  pinned-worlds : Pinned s delta seconds inbox (worldsUpdateOf s delta seconds inbox len)
-  unfolding worldsUpdateOf run
-  pinned-worlds =
-      let q : Bool = tickedOf (s .clock) (s .settings .period) delta .request in
-      let a : Answer = concludedOf (run .stop) s (clockAfter s delta seconds inbox) q run len in
-      pinned-pick (heardIn seconds inbox (listenOf (s .clock)) .other) (refusedWith 22 s len) (cond (receivedIn inbox (unreceived s) .full) (refusedWith 23 s len) a)
-      (λ b. pinned-refused 22 refl)
-      (λ b. pinned-pick (receivedIn inbox (unreceived s) .full) (refusedWith 23 s len) a (λ d. pinned-refused 23 refl) (λ d. pinned-concluded (run .stop) q refl))
-
-  pinned-by : (g : Stage) → worldsExist g ≡ true → Pinned s delta seconds inbox (updateBy g s delta seconds inbox len)
-  pinned-by SyncingClock x = absurd (let z : _≡_ {A = ℕ} 0 1 = cc in omega arith)
-  pinned-by SyncingInitialState x = pinned-worlds
-  pinned-by Ready x = pinned-worlds
-
   -- an update of a session whose worlds exist
-  pub trace-is : worldsExist (s .stage) ≡ true → Pinned s delta seconds inbox (updateOf s delta seconds inbox len)
-  unfolding updateOf
+  pub trace-is : hasWorlds (s .stage) ≡ true → Pinned s delta seconds inbox (updateOf s delta seconds inbox len)
   trace-is x =
-      pinned-pick (eqb (refusedAtOnce s delta seconds inbox) 0) (updateBy (s .stage) s delta seconds inbox len) (refusedWith (refusedAtOnce s delta seconds inbox) s len)
-      (λ e. pinned-by (s .stage) x) (λ e. pinned-refused (refusedAtOnce s delta seconds inbox) e)
+      update-by-ways {P = Pinned s delta seconds inbox} s delta seconds inbox len
+      (record { refuses = pinned-refused; syncs = λ j z. not-true (sym z ∙ x); plays = λ j z d ok. pinned-accepted (requestOf s delta) d })

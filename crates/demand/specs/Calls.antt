@@ -11,9 +11,10 @@ use Rattle.tape.specs.Words.{kindOf, countIf, stepWords, stepsOn, commandsOn}
 use Rattle.client.specs.declared.Ledger.{Ledger}
 use Rattle.fixed_timestepper.specs.TimeKeeper.{Event}
 use Rattle.session_state.specs.declared.Session.{Session}
-use Rattle.session.specs.declared.UpdateAnswer.{UpdateAnswer}
-use Rattle.session.specs.declared.IssueAnswer.{IssueAnswer}
-use Rattle.session.specs.Calls.{updateOf, Updates}
+use Rattle.session_answers.specs.declared.UpdateAnswer.{UpdateAnswer}
+use Rattle.session_answers.specs.declared.IssueAnswer.{IssueAnswer}
+use Rattle.session.specs.Calls.{updateOf}
+use Rattle.session_answers.specs.Answers.{Updates}
 use Rattle.session.specs.Issue.{issueOf}
 use Rattle.demand.specs.Events.{eventsOf}
 

@@ -1,6 +1,6 @@
 -- Demand 3: one statement about any list of updates and issues, from any sound session whose worlds exist. Document 01, "src/client.rs" and "Contracts and cases".
 -- Definitions only. Assumes nothing.
-use mathlib.Core.Bool.{Bool, true, false, cond}
+use mathlib.Core.Bool.{true, cond}
 use mathlib.Core.List.{List, [], _∷_, _++_}
 use mathlib.Core.Path.{_≡_}
 use Prim.Native.Nat.{ℕ, _+_, _-_, _*_, _%_, _<_, _≤_}
@@ -22,8 +22,7 @@ use Rattle.client_frame.specs.Frame.{frameOf, openOf, snapshotOf}
 use Rattle.client_skip.specs.Skip.{skippedOf}
 use Rattle.fixed_timestepper.specs.TimeKeeper.{rulesOf, Event, FrameFrom, SkipFrom}
 use Rattle.session_state.specs.declared.Session.{Session}
-use Rattle.session_state.specs.declared.Stage.{Stage}
-use Rattle.session_state.specs.declared.Stage.the-variants.{SyncingClock, SyncingInitialState, Ready}
+use Rattle.session_state.specs.Session.{hasWorlds}
 use Rattle.session_state.specs.Sound.{soundOf}
 use Rattle.demand.specs.Calls.{Call, Chain, endOf, traceOf, outcomeOf, happened, sum, sessionOf, framesOf, caughtOf, ledgerOn, markedOf, loadedOf, markedOn, appliedOn}
 
@@ -216,12 +215,6 @@ abbrev pub AllSound : List Call → Type 0
 AllSound [] = Unit {0}
 AllSound (c ∷ cs) = (soundOf (sessionOf c) ≡ true) × AllSound cs
 
--- worlds exist in every stage but SyncingClock
-abbrev pub worldsExist : Stage → Bool
-worldsExist SyncingClock = false
-worldsExist SyncingInitialState = true
-worldsExist Ready = true
-
 -- what the types say of a session: stamps have 16 bits
 abbrev pub Stamp : Queued → Type 0
 Stamp Nothing = Unit {0}
@@ -277,4 +270,4 @@ AlwaysSound = (s : Session) (cs : List Call) → Typed s → soundOf s ≡ true 
 
 -- demand 3, proved in proofs/Demand.antt
 unfoldable pub Demand3 : Type 0
-Demand3 = (s : Session) (cs : List Call) → Typed s → soundOf s ≡ true → worldsExist (s .stage) ≡ true → Chain s cs → Told s cs
+Demand3 = (s : Session) (cs : List Call) → Typed s → soundOf s ≡ true → hasWorlds (s .stage) ≡ true → Chain s cs → Told s cs

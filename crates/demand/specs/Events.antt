@@ -5,15 +5,15 @@ use mathlib.Core.Bool.{cond}
 use mathlib.Core.List.{List, [], _∷_, _++_}
 use lib.Dec.{eqb}
 use lib.Ieee.{Float, binary64, add, sub, lt}
+use Rattle.refusals.specs.Limits.{mostFrames}
 use Rattle.settings.specs.declared.Settings.{Settings}
-use Rattle.clocksync.specs.Clock.{serverSecondsOf}
 use Rattle.client.specs.declared.Scene.{Scene}
 use Rattle.client.specs.Sides.{oldStampOf}
 use Rattle.client_frame.specs.declared.Rules.{Rules}
 use Rattle.client_frame.specs.Frame.{frameOf}
 use Rattle.fixed_timestepper.specs.TimeKeeper.{nought, rulesOf, Event, FrameFrom, SkipFrom, compensatedOf, correctedOf, skipsOf}
 use Rattle.session_state.specs.declared.Session.{Session}
-use Rattle.session.specs.Calls.{clockAfter, serverTimeBy, sceneAfter}
+use Rattle.session.specs.Calls.{laggedOf, clockAfter, sceneAfter}
 
 -- how many frames bring an overshoot to 0 or above, each adding the timestep: so many at most
 abbrev pub framesFor : ℕ → Float → Float → ℕ
@@ -45,7 +45,7 @@ playsFrom c server s o f = framesPlayed f (rulesOf c) s ++ skipAfter c server (s
 
 -- the server's time that an update goes by: with the lag, by the clock once the inbox is heard
 abbrev pub serverAt : Session → Float → Float → List ℕ → Float
-serverAt s delta seconds inbox = add binary64 (serverTimeBy (serverSecondsOf (clockAfter s delta seconds inbox .offset) seconds) seconds) (s .settings .lag)
+serverAt s delta seconds inbox = laggedOf s (clockAfter s delta seconds inbox) seconds
 
 -- the overshoot that its frames start from
 abbrev pub startAt : Session → Float → Float → List ℕ → Float
@@ -55,7 +55,7 @@ startAt s delta seconds inbox =
 -- the frames of an update, from the scene once its inbox is read, and what is after them
 abbrev pub playedIn : Session → Float → Float → List ℕ → List Event
 playedIn s delta seconds inbox =
-    playsFrom (s .settings) (serverAt s delta seconds inbox) (sceneAfter s inbox) (startAt s delta seconds inbox) (framesFor 65 (s .settings .timestep) (startAt s delta seconds inbox))
+    playsFrom (s .settings) (serverAt s delta seconds inbox) (sceneAfter s inbox) (startAt s delta seconds inbox) (framesFor mostFrames (s .settings .timestep) (startAt s delta seconds inbox))
 
 -- an update of a session whose worlds exist, which answered this refusal: nothing where it was refused
 unfoldable pub eventsOf : Session → Float → Float → List ℕ → ℕ → List Event

@@ -11,6 +11,7 @@ pub mod LedgerArrivals
 pub mod SoundSkips
 pub mod SoundRuns
 pub mod SoundParts
+pub mod Ways
 pub mod SoundCalls
 pub mod TraceReading
 pub mod LedgerCalls

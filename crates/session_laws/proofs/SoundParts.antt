@@ -17,7 +17,7 @@ use Rattle.float_laws.proofs.Within.{within-widen, within-of-tests, add-within}
 use Rattle.timestamp.proofs.Basics.{holds-true, not-true}
 use Rattle.settings.specs.declared.Settings.{Settings}
 use Rattle.settings.specs.Settings.{passesOf, between, samplesToDiscardOf, samplesToStoreOf}
-use Rattle.timestamp.proofs.Tests.{apart}
+use Rattle.timestamp.proofs.Tests.{apart, both}
 use Rattle.settings.proofs.Limits.{timestep-within, lag-within}
 use Rattle.command.specs.Soundness.{soundBuffer}
 use Rattle.inbox.specs.declared.Message.{Message}
@@ -49,9 +49,6 @@ use Rattle.session_state.specs.declared.Session.{Session}
 use Rattle.session_state.specs.Sound.{queuedSound, weightSound, initSound, buffersSound, worldsSound, overshootSound, connectedOf, soundOf}
 use Rattle.inbox_passes.specs.Passes.{hearOne, heardIn, receiveOne, receivedIn, noteOne, notedIn}
 use Rattle.session.specs.Calls.{timesOk, clockAfter, serverTimeBy, sceneAfter, unreceived}
-
-both : {a b : Bool} → a ≡ true → b ≡ true → a && b ≡ true
-both p q = rw (p, q)
 
 -- ---- sound worlds
 
@@ -120,17 +117,18 @@ worlds-tell w h =
     let r = soundBuffer (w .right .commands) in
     let b = soundBuffer (w .base) in
     let q = queuedSound (w .snapshots .queued) in
-    let a = apart (buffersSound w && q && weightSound w) (initSound w) h in
-    let c = apart (buffersSound w && q) (weightSound w) (a .0) in
-    let d = apart (buffersSound w) q (c .0) in
-    let e = apart (l && r) b (d .0) in
-    let f = apart l r (e .0) in
-    (record { left = f .0; right = f .1; base = e .1; queued = queued-tells (w .snapshots .queued) (d .1); init = init-tells w (a .1) }, weight-tells w (c .1))
+    let a = apart (buffersSound w) (q && (weightSound w && initSound w)) h in
+    let c = apart q (weightSound w && initSound w) (a .1) in
+    let d = apart (weightSound w) (initSound w) (c .1) in
+    let e = apart l (r && b) (a .0) in
+    let f = apart r b (e .1) in
+    (record { left = e .0; right = f .0; base = f .1; queued = queued-tells (w .snapshots .queued) (c .0); init = init-tells w (d .1) }, weight-tells w (d .0))
 
 -- and back
 pub worlds-hold : (w : ClientWorldSimulations) → Kept w → Weighed w → worldsSound w ≡ true
 unfolding worldsSound buffersSound
-worlds-hold w k h = both (both (both (both (both (k .left) (k .right)) (k .base)) (queued-holds (w .snapshots .queued) (k .queued))) (weight-holds w h)) (init-holds w (k .init))
+worlds-hold w k h =
+    both (both (k .left) (both (k .right) (k .base))) (both (queued-holds (w .snapshots .queued) (k .queued)) (both (weight-holds w h) (init-holds w (k .init))))
 
 -- ---- a sound session
 
@@ -150,28 +148,32 @@ sound-facts s h =
     let c = soundClock (s .settings) (s .clock) in
     let n = connectedOf (s .stage) (s .clock) in
     let w = worldsSound (s .worlds) in
-    let a = apart (p && c && n && w) (overshootSound (s .overshoot) (s .settings .timestep)) h in
-    let b = apart (p && c && n) w (a .0) in
-    let d = apart (p && c) n (b .0) in
-    let e = apart p c (d .0) in
-    let v = worlds-tell (s .worlds) (b .1) in
-    let o = apart (le zeroF (s .overshoot)) (le (s .overshoot) (s .settings .timestep)) (a .1) in
+    let x = overshootSound (s .overshoot) (s .settings .timestep) in
+    let a = apart p (c && (n && (w && x))) h in
+    let b = apart c (n && (w && x)) (a .1) in
+    let d = apart n (w && x) (b .1) in
+    let e = apart w x (d .1) in
+    let v = worlds-tell (s .worlds) (e .0) in
+    let o = apart (le zeroF (s .overshoot)) (le (s .overshoot) (s .settings .timestep)) (e .1) in
     let lo = holds-true (le zeroF (s .overshoot)) (o .0) in
     let hi = holds-true (le (s .overshoot) (s .settings .timestep)) (o .1) in
     record {
-      settings = e .0;
-      clock = e .1;
-      connected = d .1;
+      settings = a .0;
+      clock = b .0;
+      connected = d .0;
       kept = v .0;
       weighed = v .1;
-      overshoot = record { number = between-finite zeroF (s .overshoot) (s .settings .timestep) tt (timestep-within (s .settings) (e .0) .number) lo hi; low = lo; high = hi };
+      overshoot = record { number = between-finite zeroF (s .overshoot) (s .settings .timestep) tt (timestep-within (s .settings) (a .0) .number) lo hi; low = lo; high = hi };
     }
 
 pub facts-sound : (s : Session) → SoundFacts s → soundOf s ≡ true
 unfolding soundOf overshootSound
 facts-sound s f =
-    both (both (both (both (f .settings) (f .clock)) (f .connected)) (worlds-hold (s .worlds) (f .kept) (f .weighed)))
-    (both (is-true (le zeroF (s .overshoot)) (f .overshoot .low)) (is-true (le (s .overshoot) (s .settings .timestep)) (f .overshoot .high)))
+    both (f .settings)
+    (both (f .clock)
+    (both (f .connected)
+    (both (worlds-hold (s .worlds) (f .kept) (f .weighed))
+    (both (is-true (le zeroF (s .overshoot)) (f .overshoot .low)) (is-true (le (s .overshoot) (s .settings .timestep)) (f .overshoot .high))))))
 
 -- ---- times
 

@@ -28,7 +28,7 @@ use Rattle.session_laws.proofs.SoundWorlds.{Kept, Weighed}
 use Rattle.session_laws.proofs.SoundFrames.{kept-moves, weighed-updates}
 use Rattle.refusals.specs.declared.Stop.{Stop}
 use Rattle.refusals.specs.declared.Stop.the-variants.{Done, TooManyFrames, StatusStops}
-use Rattle.fixed_timestepper.specs.TimeKeeper.{nought, atLeastZero, driftOf, beyondDeadband, uncappedOf, compensatedOf, Run, framed, skipsOf, skipped, maybeSkipped, endsWith, finishedOf, concluded, advancedOf, updatedOf}
+use Rattle.fixed_timestepper.specs.TimeKeeper.{nought, atLeastZero, driftOf, beyondDeadband, uncappedOf, compensatedOf, Run, framed, skipsOf, skipped, maybeSkipped, skippedBy, unendedOf, advancedOf, updatedOf}
 use Rattle.fixed_timestepper.proofs.Induction.{Runs, run-by, updated-by, moves-by}
 use Rattle.session_laws.proofs.SoundSkips.{corrected-in}
 
@@ -153,33 +153,14 @@ module _ (c : Settings) (pass : passesOf c ≡ true) where
         go true ok = let x = corrected-in server (c .timestep) w (step-of c pass fit) ok in record { number = x .0; low = x .1; high = x .2 }
         go false ok = i
 
-    -- an update that is played to its end has a weight that passes
-    finished-done : (r : Run) → finishedOf r c .stop ≡ Done → weightOk (tweenOf (r .overshoot) (c .timestep)) ≡ true
-    unfolding finishedOf
-    finished-done r = go (weightOk (tweenOf (r .overshoot) (c .timestep))) _
+    -- an update that ends by itself, where the weight passes, leaves an overshoot from 0 to the timestep
+    pub updated-overshoot : (s : Scene) (o delta server : Float) → Within server (2 ^ 34) → InStep (c .timestep) o → updatedOf c s o delta server .stop ≡ Done
+        → weightOk (tweenOf (updatedOf c s o delta server .overshoot) (c .timestep)) ≡ true → InStep (c .timestep) (updatedOf c s o delta server .overshoot)
+    unfolding updatedOf unendedOf
+    updated-overshoot s o delta server w i = go (advancedOf c s o delta server .stop) (advancedOf c s o delta server) (λ q. advanced-in s o delta server i q) refl
       where
-        go : (b : Bool) (s : Scene) → cond b (endsWith r s Done) (endsWith r (r .played .scene) WeightStops) .stop ≡ Done → b ≡ true
-        go true s e = refl
-        go false s e = absurd (let z : _≡_ {A = ℕ} 0 1 = cc in omega arith)
-
-    finished-overshoot : (r : Run) → finishedOf r c .overshoot ≡ r .overshoot
-    unfolding finishedOf
-    finished-overshoot r = go (weightOk (tweenOf (r .overshoot) (c .timestep))) _
-      where
-        go : (b : Bool) (s : Scene) → cond b (endsWith r s Done) (endsWith r (r .played .scene) WeightStops) .overshoot ≡ r .overshoot
-        go true s = refl
-        go false s = refl
-
-    concluded-in : (x : Stop) (r : Run) (server : Float) → r .stop ≡ x → Within server (2 ^ 34) → (x ≡ Done → InStep (c .timestep) (r .overshoot)) → concluded x r server c .stop ≡ Done → InStep (c .timestep) (concluded x r server c .overshoot)
-    concluded-in Done r server q w i e =
-        let v = maybeSkipped r server c in
-        subst (λ (o : Float). InStep (c .timestep) o) (sym (finished-overshoot v)) (skipped-in r server w (i refl) (finished-done v e))
-    concluded-in TooManyFrames r server q w i e = absurd (let z : _≡_ {A = ℕ} 0 1 = cc in omega arith)
-    concluded-in StatusStops r server q w i e = absurd (let z : _≡_ {A = ℕ} 0 1 = cc in omega arith)
-    concluded-in WeightStops r server q w i e = absurd (let z : _≡_ {A = ℕ} 0 1 = cc in omega arith)
-
-    -- an update that ends by itself leaves an overshoot from 0 to the timestep
-    pub updated-overshoot : (s : Scene) (o delta server : Float) → Within server (2 ^ 34) → InStep (c .timestep) o → updatedOf c s o delta server .stop ≡ Done → InStep (c .timestep) (updatedOf c s o delta server .overshoot)
-    unfolding updatedOf
-    updated-overshoot s o delta server w i e =
-        concluded-in (advancedOf c s o delta server .stop) (advancedOf c s o delta server) server refl w (λ q. advanced-in s o delta server i q) e
+        go : (x : Stop) (r : Run) → (r .stop ≡ Done → InStep (c .timestep) (r .overshoot)) → r .stop ≡ x → skippedBy x r server c .stop ≡ Done
+            → weightOk (tweenOf (skippedBy x r server c .overshoot) (c .timestep)) ≡ true → InStep (c .timestep) (skippedBy x r server c .overshoot)
+        go Done r k e d ok = skipped-in r server w (k e) ok
+        go TooManyFrames r k e d ok = absurd (let z : _≡_ {A = ℕ} 0 1 = cc in omega arith)
+        go StatusStops r k e d ok = absurd (let z : _≡_ {A = ℕ} 0 1 = cc in omega arith)

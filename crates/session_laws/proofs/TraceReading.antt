@@ -1,48 +1,34 @@
 -- What the reading of an inbox, a refused or accepted issue and the stages leave of the worlds: sides, stamps and weight as they were, and stamps of 16 bits. Assumes nothing.
 use mathlib.Core.Path.{_≡_, refl}
-use mathlib.Core.Bool.{Bool, true, false, cond, _&&_}
+use mathlib.Core.Bool.{true}
 use mathlib.Core.List.{List, [], _∷_}
-use Prim.Native.Nat.{ℕ, _≤_, _^_}
-use native.Mathlib.Omega.{arith}
-use lib.Dec.{ltb}
-use Rattle.timestamp.specs.declared.Timestamp.{Timestamp}
+use Prim.Native.Nat.{ℕ, _≤_}
 use Rattle.inbox.specs.declared.Message.{Message}
 use Rattle.inbox.specs.declared.Message.the-variants.{Command, Snapshot, Clock, BadTime, WrongWord, CutShort}
 use Rattle.inbox.specs.Inbox.{messagesOf}
 use Rattle.inbox.specs.Passes.{over}
 use Rattle.inbox.proofs.Passes.{Each}
 use Rattle.inbox.proofs.Bounds.{Bounded, messages-bounded}
-use Rattle.command.specs.declared.Entry.{Entry}
-use Rattle.settings.specs.Settings.{passesOf}
 use Rattle.settings.proofs.Limits.{steps-few}
-use Rattle.clocksync.specs.Clock.{soundClock}
 use Rattle.client.specs.declared.ClientWorldSimulations.{ClientWorldSimulations}
 use Rattle.client.specs.declared.Scene.{Scene}
 use Rattle.client.specs.declared.Received.{Received}
-use Rattle.client_receive.specs.Receive.{receivedOf}
 use Rattle.session_laws.proofs.TraceFrames.{QueuedFits, Fitting}
 use Rattle.session_laws.proofs.TraceArrivals.{Alike, alike-self, alike-then, alike-fitting, Offers, offers-self, offers-then, offers, notes-alike, notes-fit}
-use Rattle.session_state.specs.declared.Stage.{Stage}
-use Rattle.session_state.specs.declared.Stage.the-variants.{SyncingClock, SyncingInitialState, Ready}
 use Rattle.session_state.specs.declared.Session.{Session}
-use Rattle.session.specs.declared.IssueAnswer.{IssueAnswer}
-use Rattle.session_state.specs.Sound.{soundOf, connectedOf, worldsSound, overshootSound}
+use Rattle.session_state.specs.Sound.{soundOf}
 use Rattle.inbox_passes.specs.Passes.{receiveOne, receivedIn, noteOne, notedIn}
-use Rattle.session.specs.Calls.{sceneOf, sceneAfter, unreceived}
-use Rattle.session.specs.Issue.{unissued, entryOf, issuedBy, issuedOf, issueBy, issueOf}
+use Rattle.session.specs.Calls.{sceneAfter, unreceived}
+use Rattle.session_answers.specs.Answers.{sceneOf}
+use Rattle.session.specs.Issue.{entryOf, receivedNow, issueOf}
+use Rattle.session_laws.proofs.SoundParts.{sound-facts}
+use Rattle.session_laws.proofs.Ways.{issue-by-ways}
 
 -- ---- the settings of a sound session
 
-first-of : (a b c d e : Bool) → a && b && c && d && e ≡ true → a ≡ true
-first-of true b c d e h = refl
-first-of false b c d e h = absurd (let z : _≡_ {A = ℕ} 0 1 = cc in omega arith)
-
 -- m is from 1 to 64
 pub sound-m : (s : Session) → soundOf s ≡ true → (1 ≤ s .settings .m) × (s .settings .m ≤ 64)
-unfolding soundOf
-sound-m s h =
-    steps-few (s .settings)
-    (first-of (passesOf (s .settings)) (soundClock (s .settings) (s .clock)) (connectedOf (s .stage) (s .clock)) (worldsSound (s .worlds)) (overshootSound (s .overshoot) (s .settings .timestep)) h)
+sound-m s h = steps-few (s .settings) (sound-facts s h .settings)
 
 -- ---- commands
 
@@ -128,32 +114,8 @@ pub record Keeps (s e : Session) : Type 0 where
 pub keeps-self : (s : Session) → Keeps s s
 keeps-self s = record { settings = refl; stage = refl; alike = alike-self (s .worlds); queued = refl }
 
-issued-by : (g : Stage) (s : Session) (t : Timestamp) (e : Entry) → Keeps s (issuedBy g s t (receivedOf (sceneOf s) e) .session)
-issued-by SyncingClock s t e = keeps-self s
-issued-by SyncingInitialState s t e = keeps-self s
-issued-by Ready s t e =
-    let o : Offers (sceneOf s) (receivedOf (sceneOf s) e .scene) = offers (sceneOf s) e in
-    record { settings = refl; stage = refl; alike = o .alike; queued = rw (o .snapshots) refl }
-
-issue-pick : (b : Bool) (s : Session) (x y : IssueAnswer) → Keeps s (x .session) → Keeps s (y .session) → Keeps s (cond b x y .session)
-issue-pick true s x y h k = h
-issue-pick false s x y h k = k
-
-issued-keeps : (s : Session) (h : ℕ) → Keeps s (issuedOf s h .session)
-unfolding issuedOf
-issued-keeps s h =
-    issue-pick (receivedOf (sceneOf s) (entryOf s h) .full) s (unissued 23 s) (issuedBy (s .stage) s (entryOf s h .stamp) (receivedOf (sceneOf s) (entryOf s h))) (keeps-self s)
-    (issued-by (s .stage) s (entryOf s h .stamp) (entryOf s h))
-
-issue-by : (g : Stage) (s : Session) (h : ℕ) → Keeps s (issueBy g s h .session)
-issue-by SyncingClock s h = keeps-self s
-issue-by SyncingInitialState s h = issued-keeps s h
-issue-by Ready s h = issued-keeps s h
-
 -- an issue, refused or not
 pub issue-keeps : (s : Session) (h : ℕ) → Keeps s (issueOf s h .session)
-unfolding issueOf
 issue-keeps s h =
-    issue-pick (ltb h (2 ^ 24)) s (cond (soundOf s) (issueBy (s .stage) s h) (unissued 20 s)) (unissued 7 s)
-    (issue-pick (soundOf s) s (issueBy (s .stage) s h) (unissued 20 s) (issue-by (s .stage) s h) (keeps-self s))
-    (keeps-self s)
+    issue-by-ways (λ a. Keeps s (a .session)) s h (λ n k. keeps-self s)
+    (λ i k. let o : Offers (sceneOf s) (receivedNow s h .scene) = offers (sceneOf s) (entryOf s h) in record { settings = refl; stage = refl; alike = o .alike; queued = rw (o .snapshots) refl })

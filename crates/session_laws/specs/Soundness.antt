@@ -1,6 +1,7 @@
 -- Document 01, "Turned down by the session": every session returned by an accepted call is sound, and what a refused open returns is not.
 -- proofs/SoundCalls proves each statement under the same name in small letters.
 -- Definitions only. Assumes nothing.
+use Prim.{⊥}
 use mathlib.Core.Bool.{true, false}
 use mathlib.Core.List.{List}
 use mathlib.Core.Path.{_≡_}
@@ -8,6 +9,7 @@ use Prim.Native.Nat.{ℕ}
 use lib.Dec.{T}
 use lib.ListN.{length}
 use lib.Ieee.{Float, binary64, fits}
+use Rattle.refusals.specs.Refusals.{accepted}
 use Rattle.settings.specs.declared.Settings.{Settings}
 use Rattle.session_state.specs.declared.Session.{Session}
 use Rattle.session_state.specs.Sound.{soundOf}
@@ -22,18 +24,18 @@ pub record FloatsFit (s : Session) : Type 0 where
 
 -- open, accepted
 unfoldable pub OpenSound : Type 0
-OpenSound = (c : Settings) → openOf c .refusal ≡ 0 → soundOf (openOf c .session) ≡ true
+OpenSound = (c : Settings) → openOf c .refusal ≡ accepted → soundOf (openOf c .session) ≡ true
 
 -- open, refused: its session is unsound
 unfoldable pub OpenUnsound : Type 0
-OpenUnsound = (c : Settings) → openOf c .refusal ≡ 1 → soundOf (openOf c .session) ≡ false
+OpenUnsound = (c : Settings) → (openOf c .refusal ≡ accepted → ⊥) → soundOf (openOf c .session) ≡ false
 
 -- update, accepted, whatever session it was handed
 unfoldable pub UpdateSound : Type 0
 UpdateSound =
     (s : Session) (delta seconds : Float) (inbox : List ℕ) (len : ℕ) → FloatsFit s →
-    updateOf s delta seconds inbox len .reply .refusal ≡ 0 → soundOf (updateOf s delta seconds inbox len .reply .session) ≡ true
+    updateOf s delta seconds inbox len .reply .refusal ≡ accepted → soundOf (updateOf s delta seconds inbox len .reply .session) ≡ true
 
 -- issue, accepted, whatever session it was handed
 unfoldable pub IssueSound : Type 0
-IssueSound = (s : Session) (h : ℕ) → issueOf s h .refusal ≡ 0 → soundOf (issueOf s h .session) ≡ true
+IssueSound = (s : Session) (h : ℕ) → issueOf s h .refusal ≡ accepted → soundOf (issueOf s h .session) ≡ true
