@@ -1,4 +1,5 @@
 // The answers as text. Each function takes the next place in the output buffer and returns it.
+use super::mean::Room;
 use super::output;
 use super::output::Out;
 use super::session_calls::Tape;
@@ -408,47 +409,39 @@ pub(crate) fn frame_stamp(out: &mut Out, at: usize, stamp: i32) -> usize {
     output::byte(out, m, b'\n')
 }
 
-// An answer buffer of so many zero bytes.
-fn zeros(out: &mut Out, at: usize, length: u64) -> usize {
+// The byte at a place of an answer buffer. Past the bytes that there are it is 0: so long an answer is refused.
+fn byte_at(all: &Room, i: u64) -> u64 {
+    if i < 513 {
+        return wide_byte(all[i as usize]);
+    }
+    0
+}
+
+// A byte as a number to print.
+fn wide_byte(b: u8) -> u64 {
+    b as u64
+}
+
+// An answer buffer of so many bytes.
+fn bytes(out: &mut Out, at: usize, all: &Room, length: u64) -> usize {
+    if length == 0 {
+        return output::byte(out, at, b'-');
+    }
     let mut n = at;
-    let mut left = length;
-    while left > 0 {
-        n = output::text(out, n, b"00");
-        left -= 1;
+    let mut i: u64 = 0;
+    while i < length {
+        n = output::hex(out, n, byte_at(all, i), 2);
+        i += 1;
     }
     n
 }
 
-// The bytes of a number, low byte first.
-fn low_first(out: &mut Out, at: usize, v: u64) -> usize {
-    let mut n = at;
-    let mut x = v;
-    let mut left: u32 = 8;
-    while left > 0 {
-        n = output::hex(out, n, x % 256, 2);
-        x = x / 256;
-        left -= 1;
-    }
-    n
-}
-
-// The answer of a `mean` that was refused.
-pub(crate) fn no_mean(out: &mut Out, at: usize, refusal: u32, length: u64) -> usize {
+// The answer of `mean`: its refusal and its buffer, as the call left it.
+pub(crate) fn mean(out: &mut Out, at: usize, refusal: u32, all: &Room, length: u64) -> usize {
     let n = named(out, at, b"mean ", refusal as u64);
     let m = output::byte(out, n, b' ');
-    if length == 0 {
-        let k = output::byte(out, m, b'-');
-        return output::byte(out, k, b'\n');
-    }
-    let k = zeros(out, m, length);
+    let k = bytes(out, m, all, length);
     output::byte(out, k, b'\n')
-}
-
-// The answer of `mean`.
-pub(crate) fn mean(out: &mut Out, at: usize, x: f64) -> usize {
-    let n = output::text(out, at, b"mean 0 ");
-    let m = low_first(out, n, output::bits_of(x));
-    output::byte(out, m, b'\n')
 }
 
 // What ends the program.

@@ -5,7 +5,6 @@ use super::input::In;
 use super::lines;
 use super::lines::Place;
 use super::mean;
-use super::mean::MeanAnswer;
 use super::output::Out;
 use timestamp::Timestamp;
 
@@ -36,14 +35,6 @@ pub(crate) fn frame_stamp(p: Place, end: u32, input: &mut In, out: &mut Out) -> 
     lines::answered(f.cursor, answers::frame_stamp(out, p.at, stamp))
 }
 
-// The answer of `mean`, whose answer buffer has so many bytes.
-fn put_mean(out: &mut Out, at: usize, m: MeanAnswer, length: u64) -> usize {
-    match m {
-        MeanAnswer::Refused(n) => answers::no_mean(out, at, n, length),
-        MeanAnswer::Is(x) => answers::mean(out, at, x),
-    }
-}
-
 // Plays `mean`.
 pub(crate) fn mean(p: Place, end: u32, input: &mut In, out: &mut Out) -> Place {
     let f = fields::read(input, p.cursor, end, b"dfd");
@@ -53,18 +44,21 @@ pub(crate) fn mean(p: Place, end: u32, input: &mut In, out: &mut Out) -> Place {
     if f.end != 32 {
         return lines::bad(p);
     }
-    let mut bytes = [0u8; 512];
+    let mut bytes = [0u8; 513];
     let b = mean::read_bytes(input, f.cursor, &mut bytes);
     if !b.ok {
         return lines::bad(p);
     }
     let v = f.values;
-    let m = mean::mean_of_bytes(
+    // every byte of the answer is set before the call, so that what is printed is the call's own
+    let mut answer = [255u8; 513];
+    let refusal = mean::call(
         fields::narrow(v[0]),
         fields::float_of(v[1]),
-        v[2],
         &bytes,
         b.count,
+        &mut answer,
+        v[2],
     );
-    lines::answered(b.cursor, put_mean(out, p.at, m, v[2]))
+    lines::answered(b.cursor, answers::mean(out, p.at, refusal, &answer, v[2]))
 }

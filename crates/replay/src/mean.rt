@@ -1,8 +1,12 @@
-// The host's mean call: the bytes of its samples are read from the line, and its answer is worked out.
+// The host's mean call: the bytes of its samples are read from the line and lent to it, with a buffer for its answer.
 use super::fields;
 use super::input::Cursor;
 use super::input::In;
 use super::input::next;
+
+// What samples and answers are laid out on: one byte more than the 64 samples of the longest right call have. A line may give or ask for
+// more; it is lent these 513, which are as wrong a length, so that the call itself refuses it.
+pub type Room = [u8; 513];
 
 // The bytes that a field gives: how many, whether they are well written, the byte that ended the field, and the cursor after it.
 pub struct Bytes {
@@ -19,12 +23,6 @@ struct Reading {
     last: u32,
     dash: bool,
     bad: bool,
-}
-
-// What the mean call comes to.
-pub enum MeanAnswer {
-    Refused(u32),
-    Is(f64),
 }
 
 // One character more.
@@ -62,16 +60,16 @@ fn byte_of(high: u32, low: u32) -> u8 {
 }
 
 // After an even number of digits the byte of the last two is kept, as long as there is room.
-fn keep(bytes: &mut [u8; 512], r: Reading, high: u32) {
+fn keep(bytes: &mut Room, r: Reading, high: u32) {
     let n = r.total;
     if n % 2 == 1 {
         return;
     }
-    if n == 0 || n > 1024 {
+    if n == 0 || n > 1026 {
         return;
     }
     let i = (n / 2 - 1) as usize;
-    bytes[i % 512] = byte_of(high, r.last);
+    bytes[i % 513] = byte_of(high, r.last);
 }
 
 // Whether the characters are two digits a byte, or the sign for no bytes alone.
@@ -97,8 +95,8 @@ fn finished(cursor: Cursor, end: u32, r: Reading) -> Bytes {
     }
 }
 
-// Reads the last field of a line as bytes, of which the first 512 are kept.
-pub(crate) fn read_bytes(input: &mut In, c: Cursor, bytes: &mut [u8; 512]) -> Bytes {
+// Reads the last field of a line as bytes, of which the first 513 are kept.
+pub(crate) fn read_bytes(input: &mut In, c: Cursor, bytes: &mut Room) -> Bytes {
     let mut cursor = c;
     let mut r = Reading {
         total: 0,
@@ -124,61 +122,36 @@ pub(crate) fn read_bytes(input: &mut In, c: Cursor, bytes: &mut [u8; 512]) -> By
     finished(cursor, 32, r)
 }
 
-// A byte as a number.
-fn wide(b: u8) -> u64 {
-    b as u64
-}
-
-// The sample at a place, low byte first.
-fn sample(bytes: &[u8; 512], i: usize) -> f64 {
-    let at = (i % 64) * 8;
-    let mut bits: u64 = 0;
-    let mut k: usize = 8;
-    while k > 0 {
-        k -= 1;
-        bits = (bits % 72057594037927936) * 256 + wide(bytes[(at + k) % 512]) % 256;
+// The first of some bytes.
+fn first(bytes: &[u8], count: usize) -> &[u8] {
+    if count <= bytes.len() {
+        return &bytes[..count];
     }
-    fields::float_of(bits)
+    bytes
 }
 
-// The mean of so many samples, or refusal 8 where one is not finite or beyond 2^33.
-fn mean_of_samples(bytes: &[u8; 512], store: usize, discard: usize) -> MeanAnswer {
-    let mut all = [0.0; 64];
-    let mut i: usize = 0;
-    while i < store {
-        if i >= 64 {
-            return MeanAnswer::Refused(8);
-        }
-        let x = sample(bytes, i);
-        if !clocksync::sample_sound(x) {
-            return MeanAnswer::Refused(8);
-        }
-        all[i] = x;
-        i += 1;
+// The host's call with the first bytes of an answer, or with all where there are no more.
+fn call_with(needed: u32, rate: f64, samples: &[u8], answer: &mut [u8], length: usize) -> u32 {
+    if length <= answer.len() {
+        return host::kadwunge_mean_of_samples(needed, rate, samples, &mut answer[..length]);
     }
-    MeanAnswer::Is(clocksync::mean_of(all, store, discard))
+    host::kadwunge_mean_of_samples(needed, rate, samples, answer)
 }
 
-// The mean of samples given as bytes: refusal 1 for samples needed or a rate out of range, 8 for the samples and the answer's length.
-pub(crate) fn mean_of_bytes(
+// The host's call, lent as many of the bytes as the line gave and as long an answer as it asks for.
+pub(crate) fn call(
     needed: u32,
     rate: f64,
-    length: u64,
-    bytes: &[u8; 512],
+    bytes: &Room,
     count: u64,
-) -> MeanAnswer {
-    if !settings::samples_pass(needed, rate) {
-        return MeanAnswer::Refused(1);
-    }
-    if length != 8 {
-        return MeanAnswer::Refused(8);
-    }
-    let store = settings::store_count(needed, rate);
-    if count % 8 != 0 {
-        return MeanAnswer::Refused(8);
-    }
-    if count / 8 != store as u64 {
-        return MeanAnswer::Refused(8);
-    }
-    mean_of_samples(bytes, store, settings::discard_count(needed, rate))
+    answer: &mut Room,
+    length: u64,
+) -> u32 {
+    call_with(
+        needed,
+        rate,
+        first(bytes, count as usize),
+        answer,
+        length as usize,
+    )
 }
