@@ -1,5 +1,6 @@
 /* Compares the host's calls, as C links them, with an implementation of their meanings written here in C alone.
- * Prints a line for each group: "ok NAME: N values compared, 0 differences", or "FAIL ..." with the first differences above it. */
+ * Prints a line for each group: "ok NAME: N values compared, 0 differences", or "FAIL ..." with the first differences above it.
+ * A group that compared nothing fails. */
 #include "kadwunge.h"
 
 #include <math.h>
@@ -112,9 +113,10 @@ static int failed;
 
 static void finish(const char *name)
 {
-    if (differences != 0)
+    int good = differences == 0 && compared > 0;
+    if (!good)
         failed = 1;
-    printf("%s %s: %llu values compared, %llu differences\n", differences ? "FAIL" : "ok", name, (unsigned long long)compared,
+    printf("%s %s: %llu values compared, %llu differences\n", good ? "ok" : "FAIL", name, (unsigned long long)compared,
            (unsigned long long)differences);
     compared = differences = 0;
 }
