@@ -5,6 +5,8 @@ use super::input::In;
 use super::lines;
 use super::lines::Place;
 use super::mean;
+use super::mean::Bytes;
+use super::mean::Room;
 use super::output::Out;
 use timestamp::Timestamp;
 
@@ -35,6 +37,21 @@ pub(crate) fn frame_stamp(p: Place, end: u32, input: &mut In, out: &mut Out) -> 
     lines::answered(f.cursor, answers::frame_stamp(out, p.at, stamp))
 }
 
+// Plays a `mean` whose numbers and bytes were read.
+fn play_mean(v: [u64; 11], bytes: &Room, b: Bytes, at: usize, out: &mut Out) -> Place {
+    // every byte of the answer is ff before the call, so that what is printed is the call's own
+    let mut answer = [255u8; 513];
+    let refusal = mean::call(
+        fields::narrow(v[0]),
+        fields::float_of(v[1]),
+        bytes,
+        b.count,
+        &mut answer,
+        v[2],
+    );
+    lines::answered(b.cursor, answers::mean(out, at, refusal, &answer, v[2]))
+}
+
 // Plays `mean`.
 pub(crate) fn mean(p: Place, end: u32, input: &mut In, out: &mut Out) -> Place {
     let f = fields::read(input, p.cursor, end, b"dfd");
@@ -50,15 +67,5 @@ pub(crate) fn mean(p: Place, end: u32, input: &mut In, out: &mut Out) -> Place {
         return lines::bad(p);
     }
     let v = f.values;
-    // every byte of the answer is set before the call, so that what is printed is the call's own
-    let mut answer = [255u8; 513];
-    let refusal = mean::call(
-        fields::narrow(v[0]),
-        fields::float_of(v[1]),
-        &bytes,
-        b.count,
-        &mut answer,
-        v[2],
-    );
-    lines::answered(b.cursor, answers::mean(out, p.at, refusal, &answer, v[2]))
+    play_mean(v, &bytes, b, p.at, out)
 }

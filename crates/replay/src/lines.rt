@@ -92,6 +92,18 @@ pub(crate) fn line_of(f: Field) -> Line {
     Line::End
 }
 
+// Whether a line is a call on the session.
+pub(crate) fn is_on_session(l: Line) -> bool {
+    match l {
+        Line::Open => true,
+        Line::Update => true,
+        Line::Issue => true,
+        Line::Report => true,
+        Line::Session => true,
+        _ => false,
+    }
+}
+
 // The place after a line was read up to a cursor and answered up to a place of the output.
 pub(crate) fn answered(cursor: Cursor, at: usize) -> Place {
     Place {

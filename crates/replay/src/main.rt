@@ -8,6 +8,7 @@ mod mean;
 mod output;
 mod session_calls;
 
+use fields::Fields;
 use input::Cursor;
 use input::In;
 use lines::Line;
@@ -26,14 +27,12 @@ fn pass_over(p: Place, end: u32, input: &mut In) -> Place {
     lines::answered(fields::skip_line(input, p.cursor), p.at)
 }
 
-// Plays a line that leaves the session as it is.
-fn play_beside(s: Session, l: Line, p: Place, end: u32, input: &mut In, out: &mut Out) -> Place {
+// Plays a line that is no call on the session.
+fn play_beside(l: Line, p: Place, end: u32, input: &mut In, out: &mut Out) -> Place {
     match l {
         Line::End => lines::ended(p),
         Line::Empty => p,
         Line::Comment => pass_over(p, end, input),
-        Line::Report => session_calls::report(s, p, end, out),
-        Line::Session => session_calls::show(s, p, end, out),
         Line::Order => host_calls::order(p, end, input, out),
         Line::Stamp => host_calls::frame_stamp(p, end, input, out),
         Line::Mean => host_calls::mean(p, end, input, out),
@@ -48,25 +47,26 @@ fn moved(p: Player, place: Place) -> Player {
     q
 }
 
-// Plays a line of which the first field was read.
-fn play_line(
+// Plays a call on the session, of which the line was read.
+fn play_call(
     p: Player,
     l: Line,
-    end: u32,
-    input: &mut In,
+    f: Fields,
+    at: usize,
     words: &mut Words,
     tape: &mut Tape,
     out: &mut Out,
 ) -> Player {
     match l {
-        Line::Update => session_calls::update(p, end, input, words, tape, out),
-        Line::Issue => session_calls::issue(p, end, input, out),
-        Line::Open => session_calls::open(p, end, input, out),
-        _ => moved(p, play_beside(p.session, l, p.place, end, input, out)),
+        Line::Open => session_calls::open(f, at, out),
+        Line::Update => session_calls::update(p.session, f, at, words, tape, out),
+        Line::Issue => session_calls::issue(p.session, f, at, out),
+        Line::Report => moved(p, session_calls::report(p.session, f, at, out)),
+        _ => moved(p, session_calls::show(p.session, f, at, out)),
     }
 }
 
-// Reads the first field of the next line, and plays it.
+// Reads the next line and plays it.
 fn play_next(
     p: Player,
     input: &mut In,
@@ -75,10 +75,19 @@ fn play_next(
     out: &mut Out,
 ) -> Player {
     let place = p.place;
+    let at = place.at;
     let s = fields::scan(input, place.cursor);
-    let f = s.field;
-    let q = moved(p, lines::answered(s.cursor, place.at));
-    play_line(q, lines::line_of(f), f.end, input, words, tape, out)
+    let first = s.field;
+    let l = lines::line_of(first);
+    if !lines::is_on_session(l) {
+        let q = lines::answered(s.cursor, at);
+        return moved(p, play_beside(l, q, first.end, input, out));
+    }
+    let f = session_calls::read_call(l, input, s.cursor, first.end, words);
+    if !f.ok {
+        return moved(p, lines::bad(place));
+    }
+    play_call(p, l, f, at, words, tape, out)
 }
 
 // After the last line: a line that is no call is named.

@@ -1,10 +1,12 @@
-// The calls on a session: open, update, issue, report, and the line that prints it. Each reads what is left of its line; `end` is the
-// byte that ended the call's name.
+// The calls on a session: open, update, issue, report, and the line that prints it. A line is first read whole, without the session, and
+// then played: the session is a large value, and every step of a function that holds it is dear to prove.
 use super::answers;
 use super::fields;
+use super::fields::Fields;
 use super::input::Cursor;
 use super::input::In;
 use super::lines;
+use super::lines::Line;
 use super::lines::Place;
 use super::output::Out;
 use session::calls;
@@ -23,16 +25,6 @@ pub type Tape = [u32; 65536];
 pub struct Player {
     pub session: Session,
     pub place: Place,
-}
-
-// What an update's line says: whether it is well written, the cursor after it, both times, the tape's length and the count of the words.
-struct UpdateLine {
-    ok: bool,
-    cursor: Cursor,
-    delta: f64,
-    seconds: f64,
-    length: usize,
-    count: usize,
 }
 
 // The words of an update's inbox: how many were kept, whether each was well written, and the cursor after them.
@@ -72,31 +64,6 @@ fn settings_of(v: [u64; 11]) -> Settings {
 pub(crate) fn no_session() -> Session {
     let a = calls::open(settings_of([0; 11]));
     a.session
-}
-
-// The player after a line that is no call.
-fn at_bad_line(p: Player) -> Player {
-    let place = lines::bad(p.place);
-    let mut q = p;
-    q.place = place;
-    q
-}
-
-// Plays `open`. The session that it returns, refused or not, is the one that the following calls are handed.
-pub(crate) fn open(p: Player, end: u32, input: &mut In, out: &mut Out) -> Player {
-    let place = p.place;
-    let f = fields::read_last(input, place.cursor, end, b"fffffffdfdd");
-    if !f.ok {
-        return at_bad_line(p);
-    }
-    let v = f.values;
-    let a = calls::open(settings_of(v));
-    let session = a.session;
-    let n = answers::open(out, place.at, a.refusal);
-    Player {
-        session,
-        place: lines::answered(f.cursor, n),
-    }
 }
 
 // Reads the words that are left of an update's line. Those past the 4,097th are read and not kept: so many are refused in any case.
@@ -139,33 +106,28 @@ fn read_words(input: &mut In, c: Cursor, end: u32, words: &mut Words) -> ReadWor
     }
 }
 
-// Reads what is left of an update's line.
-fn read_update(input: &mut In, c: Cursor, end: u32, words: &mut Words) -> UpdateLine {
+// Reads what is left of an update's line: both times, the tape's length, and the words, of which the fourth value is the count.
+fn read_update(input: &mut In, c: Cursor, end: u32, words: &mut Words) -> Fields {
     let f = fields::read(input, c, end, b"ffd");
-    let cursor = f.cursor;
-    let v = f.values;
-    let delta = fields::float_of(v[0]);
-    let seconds = fields::float_of(v[1]);
-    let length = tape_length(v[2]);
     if !f.ok {
-        return UpdateLine {
-            ok: false,
-            cursor,
-            delta,
-            seconds,
-            length,
-            count: 0,
-        };
+        return f;
     }
-    let w = read_words(input, cursor, f.end, words);
+    let w = read_words(input, f.cursor, f.end, words);
     let after = w.cursor;
-    UpdateLine {
-        ok: w.ok,
-        cursor: after,
-        delta,
-        seconds,
-        length,
-        count: w.count,
+    let mut g = f;
+    g.cursor = after;
+    g.ok = w.ok;
+    g.values[3] = w.count as u64;
+    g
+}
+
+// Reads what is left of a line that is a call on the session; `end` is the byte that ended its name.
+pub(crate) fn read_call(l: Line, input: &mut In, c: Cursor, end: u32, words: &mut Words) -> Fields {
+    match l {
+        Line::Open => fields::read_last(input, c, end, b"fffffffdfdd"),
+        Line::Update => read_update(input, c, end, words),
+        Line::Issue => fields::read_last(input, c, end, b"d"),
+        _ => fields::read_last(input, c, end, b""),
     }
 }
 
@@ -189,51 +151,64 @@ fn first(words: &[u32], count: usize) -> &[u32] {
     words
 }
 
-// The update of a line. The inbox is the first words that were read, and the tape the first words of those laid out.
-fn call_update(s: Session, l: UpdateLine, words: &[u32], tape: &mut [u32]) -> UpdateAnswer {
-    let inbox = first(words, l.count);
-    let length = l.length;
+// The first words of those laid out for a tape.
+fn first_of_tape(tape: &mut [u32], length: usize) -> &mut [u32] {
     if length <= tape.len() {
-        return calls::update(s, l.delta, l.seconds, inbox, &mut tape[..length]);
+        return &mut tape[..length];
     }
-    calls::update(s, l.delta, l.seconds, inbox, tape)
+    tape
+}
+
+// The update of a line's values. The inbox is the first words that were read, and the tape the first words of those laid out.
+fn call_update(s: Session, v: [u64; 11], words: &[u32], tape: &mut [u32]) -> UpdateAnswer {
+    calls::update(
+        s,
+        fields::float_of(v[0]),
+        fields::float_of(v[1]),
+        first(words, v[3] as usize),
+        first_of_tape(tape, tape_length(v[2])),
+    )
+}
+
+// Plays `open`. The session that it returns, refused or not, is the one that the following calls are handed.
+pub(crate) fn open(f: Fields, at: usize, out: &mut Out) -> Player {
+    let v = f.values;
+    let a = calls::open(settings_of(v));
+    let session = a.session;
+    let n = answers::open(out, at, a.refusal);
+    Player {
+        session,
+        place: lines::answered(f.cursor, n),
+    }
 }
 
 // Plays `update`.
 pub(crate) fn update(
-    p: Player,
-    end: u32,
-    input: &mut In,
+    s: Session,
+    f: Fields,
+    at: usize,
     words: &mut Words,
     tape: &mut Tape,
     out: &mut Out,
 ) -> Player {
-    let place = p.place;
-    let l = read_update(input, place.cursor, end, words);
-    if !l.ok {
-        return at_bad_line(p);
-    }
-    fill(tape, l.length);
-    let a = call_update(p.session, l, words, tape);
+    let v = f.values;
+    let length = tape_length(v[2]);
+    fill(tape, length);
+    let a = call_update(s, v, words, tape);
     let session = a.session;
-    let n = answers::update(out, place.at, a, tape, l.length);
+    let n = answers::update(out, at, a, tape, length);
     Player {
         session,
-        place: lines::answered(l.cursor, n),
+        place: lines::answered(f.cursor, n),
     }
 }
 
 // Plays `issue`.
-pub(crate) fn issue(p: Player, end: u32, input: &mut In, out: &mut Out) -> Player {
-    let place = p.place;
-    let f = fields::read_last(input, place.cursor, end, b"d");
-    if !f.ok {
-        return at_bad_line(p);
-    }
+pub(crate) fn issue(s: Session, f: Fields, at: usize, out: &mut Out) -> Player {
     let v = f.values;
-    let a = calls::issue(p.session, fields::narrow(v[0]));
+    let a = calls::issue(s, fields::narrow(v[0]));
     let session = a.session;
-    let n = answers::issue(out, place.at, a);
+    let n = answers::issue(out, at, a);
     Player {
         session,
         place: lines::answered(f.cursor, n),
@@ -241,18 +216,12 @@ pub(crate) fn issue(p: Player, end: u32, input: &mut In, out: &mut Out) -> Playe
 }
 
 // Plays `report`.
-pub(crate) fn report(s: Session, p: Place, end: u32, out: &mut Out) -> Place {
-    if !fields::ends_line(end) {
-        return lines::bad(p);
-    }
+pub(crate) fn report(s: Session, f: Fields, at: usize, out: &mut Out) -> Place {
     let a = calls::report(s);
-    lines::answered(p.cursor, answers::report(out, p.at, a))
+    lines::answered(f.cursor, answers::report(out, at, a))
 }
 
 // Prints the session.
-pub(crate) fn show(s: Session, p: Place, end: u32, out: &mut Out) -> Place {
-    if !fields::ends_line(end) {
-        return lines::bad(p);
-    }
-    lines::answered(p.cursor, answers::session(out, p.at, s))
+pub(crate) fn show(s: Session, f: Fields, at: usize, out: &mut Out) -> Place {
+    lines::answered(f.cursor, answers::session(out, at, s))
 }
