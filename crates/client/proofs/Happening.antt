@@ -12,17 +12,17 @@ use Rattle.client.specs.declared.Ledger.{Ledger}
 use Rattle.client.specs.declared.Scene.{Scene}
 use Rattle.client.specs.declared.Shown.{Shown}
 use Rattle.client.specs.Ledgers.{applies}
-use Rattle.client.specs.Sides.{newSideOf, oldSideOf, worldOf, withWorld, stampOf, oldStampOf, newStampOf, ledgerOf, withLedger, withWorlds, putOf, Played, still, andThen, doneAt, Plays}
+use Rattle.client.specs.Sides.{newSideOf, oldSideOf, worldOf, withWorld, worldStampOf, oldStampOf, newStampOf, ledgerOf, withLedger, withWorlds, putOf, Played, still, andThen, doneAt, Plays}
 
 -- the stamp of the old world, by its side
-pub old-stamp-is : (w : ClientWorldSimulations) {side : ℕ} {s : Simulation} {t : Timestamp} → side ≡ oldSideOf w → s ≡ worldOf w side → t ≡ stampOf s → t ≡ oldStampOf w
+pub old-stamp-is : (w : ClientWorldSimulations) {side : ℕ} {s : Simulation} {t : Timestamp} → side ≡ oldSideOf w → s ≡ worldOf w side → t ≡ worldStampOf s → t ≡ oldStampOf w
 unfolding oldStampOf
-old-stamp-is w hs hw ht = ht ∙ ap stampOf (hw ∙ ap (worldOf w) hs)
+old-stamp-is w hs hw ht = ht ∙ ap worldStampOf (hw ∙ ap (worldOf w) hs)
 
 -- the stamp of the new world, by its side
-pub new-stamp-is : (w : ClientWorldSimulations) {side : ℕ} {s : Simulation} {t : Timestamp} → side ≡ newSideOf w → s ≡ worldOf w side → t ≡ stampOf s → t ≡ newStampOf w
+pub new-stamp-is : (w : ClientWorldSimulations) {side : ℕ} {s : Simulation} {t : Timestamp} → side ≡ newSideOf w → s ≡ worldOf w side → t ≡ worldStampOf s → t ≡ newStampOf w
 unfolding newStampOf
-new-stamp-is w hs hw ht = ht ∙ ap stampOf (hw ∙ ap (worldOf w) hs)
+new-stamp-is w hs hw ht = ht ∙ ap worldStampOf (hw ∙ ap (worldOf w) hs)
 
 -- a world that is put back, with its ledger
 pub put-is : (s : Scene) (side : ℕ) (w : Simulation) (n k : ℕ) {v : ClientWorldSimulations} {l x : Ledger} {r : Scene}

@@ -74,16 +74,16 @@ withPublished w p =
     record { left = w .left; right = w .right; new = w .new; base = w .base; snapshots = w .snapshots; weight = w .weight; published = p }
 
 -- the stamp of a world's last completed frame: the midpoint of its buffer
-abbrev pub stampOf : Simulation → Timestamp
-stampOf s = s .commands .timestamp
+abbrev pub worldStampOf : Simulation → Timestamp
+worldStampOf s = s .commands .timestamp
 
 -- the stamp of the old world, which is the client's
 unfoldable pub oldStampOf : ClientWorldSimulations → Timestamp
-oldStampOf w = stampOf (worldOf w (oldSideOf w))
+oldStampOf w = worldStampOf (worldOf w (oldSideOf w))
 
 -- the stamp of the new world
 unfoldable pub newStampOf : ClientWorldSimulations → Timestamp
-newStampOf w = stampOf (worldOf w (newSideOf w))
+newStampOf w = worldStampOf (worldOf w (newSideOf w))
 
 -- two worlds and a base as a client starts with them: the left one is new, nothing is queued or published, and the weight is 1
 abbrev pub startingWith : Simulation → Simulation → CommandBuffer → ClientWorldSimulations

@@ -1,6 +1,6 @@
 // The two sides: which world is old and which is new, by a number, and a ledger for each. (src/old_new.rs of crystalorb.)
 ghost use mathlib.Core.Path.{_≡_};
-ghost use Rattle.client.specs.Sides.{newSideOf, oldSideOf, worldOf, withWorld, stampOf, oldStampOf, newStampOf, ledgerOf, withLedger, putOf};
+ghost use Rattle.client.specs.Sides.{newSideOf, oldSideOf, worldOf, withWorld, worldStampOf, oldStampOf, newStampOf, ledgerOf, withLedger, putOf};
 use super::ClientWorldSimulations;
 use super::Ledger;
 use super::Scene;
@@ -55,7 +55,7 @@ pub fn set_side(w: ClientWorldSimulations, side: u32, s: Simulation) -> ClientWo
 
 // The stamp of a world's last completed frame.
 pub fn stamp_of(s: Simulation) -> Timestamp
-    ensures { λ r. ⌜ r ≡ stampOf s ⌝ }
+    ensures { λ r. ⌜ r ≡ worldStampOf s ⌝ }
 {
     let b = s.commands;
     b.timestamp

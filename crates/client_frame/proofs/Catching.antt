@@ -16,7 +16,7 @@ use Rattle.client.specs.declared.Ledger.{Ledger}
 use Rattle.client.specs.declared.Scene.{Scene}
 use Rattle.client.specs.declared.Shown.{Shown}
 use Rattle.client.specs.Ledgers.{applies}
-use Rattle.client.specs.Sides.{newSideOf, worldOf, withWorld, stampOf, newStampOf, ledgerOf, withLedger, putOf, still, andThen, Plays, withLeft, withRight, withWorlds, withLedgers, withSteps}
+use Rattle.client.specs.Sides.{newSideOf, worldOf, withWorld, worldStampOf, newStampOf, ledgerOf, withLedger, putOf, still, andThen, Plays, withLeft, withRight, withWorlds, withLedgers, withSteps}
 use Rattle.client_frame.specs.Frame.{caughtUpOf, steppedSide, steppedNew, caughtOf}
 use Rattle.client_frame.specs.Inner.{putBack}
 use Rattle.client.proofs.Happening.{new-stamp-is, plays-still, plays-as, plays-then}
@@ -162,19 +162,19 @@ apart-start m o from was place {side} {w} {l} few hw hl =
     record { whole = subst (λ (x : Scene). Catching m o from was place was x place 0) (sym same) (catching-start m o from was place few) }
 
 -- the stamp of the world that is apart
-apart-stamp : (s : Scene) (side : ℕ) (w : Simulation) (l : Ledger) (n : ℕ) {t : Timestamp} → side ≡ newSideOf (s .worlds) → t ≡ stampOf w → t ≡ newStampOf (putBack s side w l n .worlds)
+apart-stamp : (s : Scene) (side : ℕ) (w : Simulation) (l : Ledger) (n : ℕ) {t : Timestamp} → side ≡ newSideOf (s .worlds) → t ≡ worldStampOf w → t ≡ newStampOf (putBack s side w l n .worlds)
 apart-stamp s side w l n hs ht = new-stamp-is (putBack s side w l n .worlds) (hs ∙ sym (back-new s side w l n (eqb side 0) refl)) (back-world s side w l n (eqb side 0) refl) ht
 
 module _ {m : ℕ} {o : Timestamp} {from : Scene} {was tape : List ℕ} {place side n p k : ℕ} {w : Simulation} {l : Ledger} (c : Apart m o from was place side tape w l n p k) where
   -- a step
   pub apart-again : {t : Timestamp} {b : Bool} {mid : List ℕ} {r : Stepped} {x : Ledger} {st : ℕ}
-      → k < m → side ≡ newSideOf (from .worlds) → t ≡ stampOf w → b ≡ caughtUpOf t o → b ≡ false
+      → k < m → side ≡ newSideOf (from .worlds) → t ≡ worldStampOf w → b ≡ caughtUpOf t o → b ≡ false
       → Does (stepOf w side) tape p r mid → x ≡ applies l (r .applied) (r .leftout) → st ≡ (n + 1) % 2 ^ 32 → Apart m o from was place side mid (r .world) x st (r .at) (k + 1)
   apart-again less hs ht hb f hd hx hn =
       record { whole = catching-step m o from was place (c .whole) less (apart-stamp from side w l n hs ht) hb f (apart-step from side w l n hs hd hx hn) }
 
   -- it has caught up, and is put back
-  pub apart-up : {t : Timestamp} {b : Bool} {y : Scene} → side ≡ newSideOf (from .worlds) → t ≡ stampOf w → b ≡ caughtUpOf t o → b ≡ true
+  pub apart-up : {t : Timestamp} {b : Bool} {y : Scene} → side ≡ newSideOf (from .worlds) → t ≡ worldStampOf w → b ≡ caughtUpOf t o → b ≡ true
       → y ≡ putBack from side w l n → Plays (caughtOf m o from) was place (record { scene = y; at = p }) tape
   apart-up hs ht hb f hy =
       let h : Plays (caughtOf m o from) was place (record { scene = putBack from side w l n; at = p }) tape = caught-up m o from was place (c .whole) (apart-stamp from side w l n hs ht) hb f in

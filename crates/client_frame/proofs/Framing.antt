@@ -35,7 +35,7 @@ use Rattle.client_publish.specs.declared.Stated.{Stated}
 use Rattle.client_publish.specs.Publish.{withState, publishedOld, publishedBlended}
 use Rattle.client_publish.specs.Inner.{States}
 use Rattle.client_frame.specs.declared.Rules.{Rules}
-use Rattle.client_frame.specs.Frame.{loadsOf, readiedWith, loadedAt, loadedOf, loadedQueued, clamped, blendedOn, resetNew, openedOf, steppedSide, caughtUpOf, withStep, steppedNew, caughtOf, simulatedOf, blendedBy, publishedBy, shownOf, isObsolete, tooFarOf, stopsOf, snapshotOf, openOf, frameOf, frameStops, Frames}
+use Rattle.client_frame.specs.Frame.{loadsOf, readiedWith, loadedAt, loadedOf, loadedQueued, clamped, blendedOn, resetNew, openedOf, steppedSide, caughtUpOf, withStep, steppedNew, caughtOf, simulatedOf, blendedBy, publishedBy, shownOf, isObsolete, tooFarOf, stopsOf, snapshotOf, frameOpened, frameOf, frameStops, Frames}
 use Rattle.client_frame.specs.Inner.{putBack}
 use Rattle.client.proofs.Happening.{plays-still, plays-as, plays-then, plays-done}
 
@@ -246,7 +246,7 @@ module _ (t : ReconciliationStatus) (q : Queued) (w e : ClientWorldSimulations) 
 pub frame-plays : (rules : Rules) (s : Scene) {t : ReconciliationStatus} {q : Queued} {b stop : Bool} {was mid last : List ℕ} {place : ℕ} {a r : Shown}
     → t ≡ statusOf (s .worlds) → q ≡ loadsOf t (s .worlds .snapshots .queued) → Plays (openedOf t q (rules .progress) s) was place a mid → b ≡ blendedBy t q → Plays (shownOf (rules .m) b (a .scene)) mid (a .at) r last
     → stop ≡ stopsOf t q (s .worlds) (r .scene .worlds) → Frames (frameOf rules s) (frameStops rules s) was place (record { scene = r .scene; at = r .at; stops = stop }) last
-unfolding frameOf frameStops openOf snapshotOf
+unfolding frameOf frameStops frameOpened snapshotOf
 frame-plays rules s {t} {q} {b} {stop} {was} {mid} {last} {place} {a} {r} ht hq ha hb hr hs =
     let m : ℕ = rules .m in
     let p : Float = rules .progress in

@@ -20,7 +20,7 @@ use Rattle.client.specs.Sides.{newSideOf, oldSideOf, worldOf, withWeight, withW
 use Rattle.client.specs.Status.{statusOf}
 use Rattle.client_publish.proofs.Telling.{Telling, publishes, old-by, blended-by}
 use Rattle.client_frame.specs.declared.Rules.{Rules}
-use Rattle.client_frame.specs.Frame.{loadedOf, loadedQueued, blendedOn, resetNew, openedOf, steppedSide, caughtUpOf, withStep, steppedNew, unless, caughtOf, simulatedOf, blendedBy, publishedBy, shownOf, snapshotOf, openOf, frameOf}
+use Rattle.client_frame.specs.Frame.{loadedOf, loadedQueued, blendedOn, resetNew, openedOf, steppedSide, caughtUpOf, withStep, steppedNew, unless, caughtOf, simulatedOf, blendedBy, publishedBy, shownOf, snapshotOf, frameOpened, frameOf}
 
 -- ---- one thing and then another
 
@@ -129,7 +129,7 @@ module _ {P : Law} {rules : Rules} {load steps show : ℕ} (h : Parts P rules lo
 
   -- a frame
   pub frame-by : (s : Scene) → P (load + (steps + show)) s (frameOf rules s)
-  unfolding frameOf openOf
+  unfolding frameOf frameOpened
   frame-by s =
       let r : ReconciliationStatus = statusOf (s .worlds) in
       let q : Queued = snapshotOf s in

@@ -162,12 +162,12 @@ unfoldable pub snapshotOf : Scene → Queued
 snapshotOf s = loadsOf (statusOf (s .worlds)) (s .worlds .snapshots .queued)
 
 -- a scene before its worlds step
-unfoldable pub openOf : Rules → Scene → Played
-openOf rules s = openedOf (statusOf (s .worlds)) (snapshotOf s) (rules .progress) s
+unfoldable pub frameOpened : Rules → Scene → Played
+frameOpened rules s = openedOf (statusOf (s .worlds)) (snapshotOf s) (rules .progress) s
 
 -- a frame, with so many catch-up steps at most and a progress of the weight as its rules say
 unfoldable pub frameOf : Rules → Scene → Played
-frameOf rules s = andThen (openOf rules s) (shownOf (rules .m) (blendedBy (statusOf (s .worlds)) (snapshotOf s)))
+frameOf rules s = andThen (frameOpened rules s) (shownOf (rules .m) (blendedBy (statusOf (s .worlds)) (snapshotOf s)))
 
 -- whether the Rust stops in the frame
 unfoldable pub frameStops : Rules → Scene → Bool

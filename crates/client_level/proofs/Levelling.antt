@@ -26,7 +26,7 @@ use Rattle.client.specs.declared.LastStamp.{LastStamp}
 use Rattle.client.specs.declared.Ledger.{Ledger}
 use Rattle.client.specs.declared.Scene.{Scene}
 use Rattle.client.specs.Ledgers.{applies}
-use Rattle.client.specs.Sides.{newSideOf, oldSideOf, worldOf, withWorld, withWeight, withWorlds, withLedger, ledgerOf, stampOf, oldStampOf, newStampOf, putOf, Played, still, andThen, doneAt, Plays, withLeft, withRight, withLedgers, withSteps}
+use Rattle.client.specs.Sides.{newSideOf, oldSideOf, worldOf, withWorld, withWeight, withWorlds, withLedger, ledgerOf, worldStampOf, oldStampOf, newStampOf, putOf, Played, still, andThen, doneAt, Plays, withLeft, withRight, withLedgers, withSteps}
 use Rattle.client.specs.Status.{statusBy, statusOf}
 use Rattle.client.proofs.Happening.{plays-as, plays-then}
 use Rattle.client_publish.specs.declared.Stated.{Stated}
@@ -34,7 +34,7 @@ use Rattle.client_publish.specs.Publish.{withState, publishedBlended}
 use Rattle.client_publish.proofs.Telling.{Telling, publishes, blended-by}
 use Rattle.client_publish.specs.Inner.{States}
 use Rattle.client_frame.specs.declared.Rules.{Rules}
-use Rattle.client_frame.specs.Frame.{loadsOf, loadedQueued, clamped, blendedOn, openedOf, steppedSide, caughtUpOf, withStep, steppedNew, caughtOf, simulatedOf, blendedBy, shownOf, stopsOf, snapshotOf, openOf, frameOf, frameStops}
+use Rattle.client_frame.specs.Frame.{loadsOf, loadedQueued, clamped, blendedOn, openedOf, steppedSide, caughtUpOf, withStep, steppedNew, caughtOf, simulatedOf, blendedBy, shownOf, stopsOf, snapshotOf, frameOpened, frameOf, frameStops}
 use Rattle.command.specs.Ranks.{waitsOf}
 use Rattle.client_level.specs.Level.{worldWaits, levelBy, isLevel, levelWeight, levelWords}
 use Rattle.client_frame.proofs.Framing.{stated-plays}
@@ -100,7 +100,7 @@ pub level-none : (w : ClientWorldSimulations) (m : ℕ) → m ≡ 0 → false �
 level-none w m e = level-is w m (eq-eqb _ _ e) refl refl refl
 
 -- whether a buffer waits for the next stamp
-waits-next : (w : Simulation) {t n : Timestamp} {x : Bool} → t ≡ stampOf w → n .0 ≡ sumOf (t .0) 1 → x ≡ waitsOf (w .commands) n → worldWaits w ≡ x
+waits-next : (w : Simulation) {t n : Timestamp} {x : Bool} → t ≡ worldStampOf w → n .0 ≡ sumOf (t .0) 1 → x ≡ waitsOf (w .commands) n → worldWaits w ≡ x
 waits-next w ht hn hx = sym (hx ∙ (λ i. waitsOf (w .commands) (record { 0 = (hn ∙ ap (λ (t : Timestamp). sumOf (t .0) 1) ht) i })))
 
 module _ (w : ClientWorldSimulations) (m : ℕ) {t : ReconciliationStatus} {l : Bool} (some : m ≡ 0 → ⊥) (ht : t ≡ statusOf w) (hl : l ≡ levelBy t (w .snapshots .queued)) where
@@ -113,13 +113,13 @@ module _ (w : ClientWorldSimulations) (m : ℕ) {t : ReconciliationStatus} {l : 
   level-status f = level-is w m (ne-eqb _ _ some) (status-is ∙ f) refl refl
 
   -- it does
-  module _ {a n : Timestamp} {x : Bool} (f : l ≡ true) (ha : a ≡ stampOf (w .left)) (hn : n .0 ≡ sumOf (a .0) 1) (hx : x ≡ waitsOf (w .left .commands) n) where
+  module _ {a n : Timestamp} {x : Bool} (f : l ≡ true) (ha : a ≡ worldStampOf (w .left)) (hn : n .0 ≡ sumOf (a .0) 1) (hx : x ≡ waitsOf (w .left .commands) n) where
     -- the left buffer does not wait
     pub level-left : x ≡ false → false ≡ isLevel w m
     level-left g = level-is w m (ne-eqb _ _ some) (status-is ∙ f) (waits-next (w .left) ha hn hx ∙ g) refl
 
     -- it does, and the right one decides
-    pub level-right : {b k : Timestamp} {y : Bool} → x ≡ true → b ≡ stampOf (w .right) → k .0 ≡ sumOf (b .0) 1 → y ≡ waitsOf (w .right .commands) k → y ≡ isLevel w m
+    pub level-right : {b k : Timestamp} {y : Bool} → x ≡ true → b ≡ worldStampOf (w .right) → k .0 ≡ sumOf (b .0) 1 → y ≡ waitsOf (w .right .commands) k → y ≡ isLevel w m
     level-right g hb hk hy = level-is w m (ne-eqb _ _ some) (status-is ∙ f) (waits-next (w .left) ha hn hx ∙ g) (waits-next (w .right) hb hk hy)
 
 -- ---- the weight and the words
@@ -205,7 +205,7 @@ side-waits-by true w side e l r = rw e l
 side-waits-by false w side e l r = rw e r
 
 -- the stamps of left and right are those of new and old, or the other way round
-stamps-by : (b : Bool) (w : ClientWorldSimulations) → eqb (w .new) 0 ≡ b → newStampOf w .0 ≡ oldStampOf w .0 → stampOf (w .left) .0 ≡ stampOf (w .right) .0
+stamps-by : (b : Bool) (w : ClientWorldSimulations) → eqb (w .new) 0 ≡ b → newStampOf w .0 ≡ oldStampOf w .0 → worldStampOf (w .left) .0 ≡ worldStampOf (w .right) .0
 unfolding newStampOf oldStampOf worldOf newSideOf oldSideOf
 stamps-by true w e h = rw e at h
 stamps-by false w e h = sym (rw e at h)
@@ -290,13 +290,13 @@ levelWith s n t l r k = levelAt s n n t l r k
 
 -- what a level frame begins with: the weight moves on or not, it publishes by the weight, and it does not stop
 record Opens (rules : Rules) (s : Scene) : Type 0 where
-  begins : openOf rules s ≡ still (reweighted (rules .progress) s)
+  begins : frameOpened rules s ≡ still (reweighted (rules .progress) s)
   blended : blendedBy (statusOf (s .worlds)) (snapshotOf s) ≡ true
   goes : (e : ClientWorldSimulations) → stopsOf (statusOf (s .worlds)) (snapshotOf s) (s .worlds) e ≡ false
 
 -- by the status and what is queued
 opens-by : (t : ReconciliationStatus) (q : Queued) (rules : Rules) (s : Scene) → statusOf (s .worlds) ≡ t → s .worlds .snapshots .queued ≡ q → levelBy t q ≡ true → Opens rules s
-unfolding openOf openedOf blendedOn loadedQueued stopsOf snapshotOf levelWeight
+unfolding frameOpened openedOf blendedOn loadedQueued stopsOf snapshotOf levelWeight
 opens-by AwaitingSnapshot Nothing rules s t e h =
     let p : Float = rules .progress in
     let q : snapshotOf s ≡ Nothing = (λ i. loadsOf (t i) (e i)) in
@@ -355,16 +355,16 @@ module _ (rules : Rules) (s : Scene) (level : isLevel (s .worlds) (rules .m) ≡
 
   -- the scene of a level frame as the code builds it: the stamp n, the weight t, the ledgers l and r, and the steps k
   level-scene : {n : Timestamp} {t : Float} {l r : Ledger} {k : ℕ}
-      → n .0 ≡ sumOf (stampOf (s .worlds .left) .0) 1 → t ≡ levelWeight (statusOf (s .worlds)) (s .worlds .weight) (rules .progress) → l ≡ applies (s .left) 0 0 → r ≡ applies (s .right) 0 0 → k ≡ (s .steps + 1) % 2 ^ 32
+      → n .0 ≡ sumOf (worldStampOf (s .worlds .left) .0) 1 → t ≡ levelWeight (statusOf (s .worlds)) (s .worlds .weight) (rules .progress) → l ≡ applies (s .left) 0 0 → r ≡ applies (s .right) 0 0 → k ≡ (s .steps + 1) % 2 ^ 32
       → levelWith s n t l r k ≡ levelled (reweighted (rules .progress) s)
   level-scene {n} hn ht hl hr hk =
-      let right : n .0 ≡ sumOf (stampOf (s .worlds .right) .0) 1 = hn ∙ ap (λ (x : ℕ). sumOf x 1) (stamps-by (eqb (s .worlds .new) 0) (s .worlds) refl (parts .stamps)) in
+      let right : n .0 ≡ sumOf (worldStampOf (s .worlds .right) .0) 1 = hn ∙ ap (λ (x : ℕ). sumOf x 1) (stamps-by (eqb (s .worlds .new) 0) (s .worlds) refl (parts .stamps)) in
       (λ i. levelAt s (record { 0 = hn i }) (record { 0 = right i }) (ht i) (hl i) (hr i) (hk i))
 
   -- a level frame as the code leaves it
   pub level-plays : {f : ReconciliationStatus} {n : Timestamp} {t : Float} {l r : Ledger} {k at q : ℕ} {was mid last : List ℕ} {a : Stated} {u : Scene}
       → f ≡ statusOf (s .worlds) → Puts was at (levelWords (s .worlds)) q mid
-      → n .0 ≡ sumOf (stampOf (s .worlds .left) .0) 1 → t ≡ levelWeight f (s .worlds .weight) (rules .progress) → l ≡ applies (s .left) 0 0 → r ≡ applies (s .right) 0 0 → k ≡ (s .steps + 1) % 2 ^ 32
+      → n .0 ≡ sumOf (worldStampOf (s .worlds .left) .0) 1 → t ≡ levelWeight f (s .worlds .weight) (rules .progress) → l ≡ applies (s .left) 0 0 → r ≡ applies (s .right) 0 0 → k ≡ (s .steps + 1) % 2 ^ 32
       → States (publishedBlended (levelWith s n t l r k)) (levelWith s n t l r k) mid q a last → u ≡ withState (levelWith s n t l r k) (a .state)
       → Plays (frameOf rules s) was at (record { scene = u; at = a .at }) last
   level-plays {f} {n} {t} {l} {r} {k} {at} {q} {was} {mid} hf hp hn ht hl hr hk ha hu =

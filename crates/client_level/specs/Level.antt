@@ -13,14 +13,14 @@ use Rattle.client.specs.declared.ReconciliationStatus.the-variants.{AwaitingSna
 use Rattle.client.specs.declared.Queued.{Queued}
 use Rattle.client.specs.declared.Queued.the-variants.{Nothing, Held}
 use Rattle.client.specs.declared.ClientWorldSimulations.{ClientWorldSimulations}
-use Rattle.client.specs.Sides.{newSideOf, oldSideOf, stampOf}
+use Rattle.client.specs.Sides.{newSideOf, oldSideOf, worldStampOf}
 use Rattle.client.specs.Status.{statusOf}
 use Rattle.client_frame.specs.Frame.{clamped}
 use Rattle.command.specs.Ranks.{waitsOf}
 
 -- a world's buffer stays as it is at its next step
 abbrev pub worldWaits : Simulation → Bool
-worldWaits w = waitsOf (w .commands) (nextStamp (stampOf w))
+worldWaits w = waitsOf (w .commands) (nextStamp (worldStampOf w))
 
 -- a frame of this status, with q queued, leaves both worlds level: it blends, or it awaits and nothing is queued
 abbrev pub levelBy : ReconciliationStatus → Queued → Bool

@@ -13,7 +13,7 @@ use Rattle.simulation.specs.declared.Simulation.{Simulation}
 use Rattle.client.specs.declared.LastStamp.the-variants.{Never, Last}
 use Rattle.client.specs.declared.ClientWorldSimulations.{ClientWorldSimulations}
 use Rattle.client.specs.declared.Scene.{Scene}
-use Rattle.client.specs.Sides.{newSideOf, oldSideOf, worldOf, stampOf, oldStampOf, Played}
+use Rattle.client.specs.Sides.{newSideOf, oldSideOf, worldOf, worldStampOf, oldStampOf, Played}
 use Rattle.client_publish.specs.declared.Stated.{Stated}
 use Rattle.client_publish.specs.Inner.{States}
 use Rattle.client_publish.specs.Publish.{withState, publishedNone, publishedSide, publishedMix, publishedOld, nearOne, publishedBoth, publishedBlended}
@@ -30,12 +30,12 @@ none-states s hw hp = record { scene = refl; puts = puts-as (ap (λ (x : ℕ). x
 
 -- the world of a side is published
 pub side-states : (s : Scene) (side : ℕ) {was last : List ℕ} {place p word : ℕ} {w : Simulation} {stamp : Timestamp}
-    → w ≡ worldOf (s .worlds) side → stamp ≡ stampOf w → word ≡ publishWord side → Puts was place (word ∷ []) p last
+    → w ≡ worldOf (s .worlds) side → stamp ≡ worldStampOf w → word ≡ publishWord side → Puts was place (word ∷ []) p last
     → States (publishedSide s side) s was place (record { state = Last stamp; at = p }) last
 unfolding publishedSide
 side-states s side hw hs hd hp =
     record {
-      scene = ap (λ (x : Timestamp). withState s (Last x)) (hs ∙ ap stampOf hw);
+      scene = ap (λ (x : Timestamp). withState s (Last x)) (hs ∙ ap worldStampOf hw);
       puts = puts-as (ap (λ (x : ℕ). x ∷ []) hd) hp;
     }
 

@@ -8,7 +8,7 @@ use Rattle.tape.specs.Words.{publishWord, mixWords, noneWord}
 use Rattle.client.specs.declared.LastStamp.{LastStamp}
 use Rattle.client.specs.declared.LastStamp.the-variants.{Never, Last}
 use Rattle.client.specs.declared.Scene.{Scene}
-use Rattle.client.specs.Sides.{newSideOf, oldSideOf, worldOf, stampOf, oldStampOf, Played}
+use Rattle.client.specs.Sides.{newSideOf, oldSideOf, worldOf, worldStampOf, oldStampOf, Played}
 use Rattle.client_publish.specs.Publish.{withState, publishedNone, publishedSide, publishedMix, publishedOld, nearOne, publishedBoth, publishedBlended}
 
 -- how a publish is told: nothing is published, the world of a side is, or a mix with a weight
@@ -39,7 +39,7 @@ module _ (P : Played → Type 0) (s : Scene) (h : (l : LastStamp) (w : Telling) 
 
   side-by : (side : ℕ) → P (publishedSide s side)
   unfolding publishedSide
-  side-by side = h (Last (stampOf (worldOf (s .worlds) side))) (of-side side)
+  side-by side = h (Last (worldStampOf (worldOf (s .worlds) side))) (of-side side)
 
   mix-by : (weight : Float) → P (publishedMix s weight)
   unfolding publishedMix

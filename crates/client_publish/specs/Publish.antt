@@ -9,7 +9,7 @@ use Rattle.tape.specs.Words.{publishWord, mixWords, noneWord}
 use Rattle.client.specs.declared.LastStamp.{LastStamp}
 use Rattle.client.specs.declared.LastStamp.the-variants.{Never, Last}
 use Rattle.client.specs.declared.Scene.{Scene}
-use Rattle.client.specs.Sides.{newSideOf, oldSideOf, worldOf, withPublished, withWorlds, stampOf, oldStampOf, Played}
+use Rattle.client.specs.Sides.{newSideOf, oldSideOf, worldOf, withPublished, withWorlds, worldStampOf, oldStampOf, Played}
 
 -- a state is published: the one before it is the last one, and the displayed time stays
 abbrev pub withState : Scene → LastStamp → Scene
@@ -21,7 +21,7 @@ publishedNone s = record { scene = withState s Never; words = noneWord ∷ [] }
 
 -- the world of a side is published
 unfoldable pub publishedSide : Scene → ℕ → Played
-publishedSide s side = record { scene = withState s (Last (stampOf (worldOf (s .worlds) side))); words = publishWord side ∷ [] }
+publishedSide s side = record { scene = withState s (Last (worldStampOf (worldOf (s .worlds) side))); words = publishWord side ∷ [] }
 
 -- a mix is published, with a weight
 unfoldable pub publishedMix : Scene → Float → Played

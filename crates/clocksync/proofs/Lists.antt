@@ -9,7 +9,7 @@ use native.Mathlib.Omega.{arith}
 use lib.ListN.{length, take, drop, getD, set, replicate, length-append, length-take, length-drop, length-set, drop-of-length-le}
 use lib.Seq.{slice, slice-cons, take-suc, take-take, drop-append-le, take-suc-set, take-set-lt, drop-set-lt, take-append-seam}
 use lib.Ieee.{Float, nan, binary64, lt, add}
-use Rattle.clocksync.specs.Mean.{nothing64, insertedOf, placeOf, sortedOnto, sortedOf, sumFrom}
+use Rattle.clocksync.specs.Mean.{nothing64, sampleInserted, placeOf, sortedOnto, sortedOf, sumFrom}
 use Rattle.clocksync.specs.Clock.{laidOut, samplesOk, sampleOk}
 
 -- ---- laid out in slots
@@ -119,12 +119,12 @@ place-most x (y ∷ ys) = go (lt x y) (place-most x ys)
     go false h = omega arith
 
 -- x goes to its place
-pub inserted-at : (x : Float) (ys : List Float) → insertedOf x ys ≡ take (placeOf x ys) ys ++ (x ∷ drop (placeOf x ys) ys)
-unfolding placeOf insertedOf
+pub inserted-at : (x : Float) (ys : List Float) → sampleInserted x ys ≡ take (placeOf x ys) ys ++ (x ∷ drop (placeOf x ys) ys)
+unfolding placeOf sampleInserted
 inserted-at x [] = refl
 inserted-at x (y ∷ ys) = go (lt x y) (inserted-at x ys)
   where
-    go : (b : Bool) → insertedOf x ys ≡ take (placeOf x ys) ys ++ (x ∷ drop (placeOf x ys) ys) → cond b (x ∷ y ∷ ys) (y ∷ insertedOf x ys) ≡ take (cond b 0 (suc (placeOf x ys))) (y ∷ ys) ++ (x ∷ drop (cond b 0 (suc (placeOf x ys))) (y ∷ ys))
+    go : (b : Bool) → sampleInserted x ys ≡ take (placeOf x ys) ys ++ (x ∷ drop (placeOf x ys) ys) → cond b (x ∷ y ∷ ys) (y ∷ sampleInserted x ys) ≡ take (cond b 0 (suc (placeOf x ys))) (y ∷ ys) ++ (x ∷ drop (cond b 0 (suc (placeOf x ys))) (y ∷ ys))
     go true h = refl
     go false h = ap (λ (l : List Float). y ∷ l) h
 
@@ -135,7 +135,7 @@ pub record Moving (target : List Float) (n : ℕ) (out : List Float) (moved : Fl
   pub few : n < 64
   pub long : length out ≡ 64
 
-pub moving-start : (x : Float) (n p : ℕ) (xs : List Float) → p ≡ placeOf x (take n xs) → n < 64 → length xs ≡ 64 → Moving (insertedOf x (take n xs)) n xs x p
+pub moving-start : (x : Float) (n p : ℕ) (xs : List Float) → p ≡ placeOf x (take n xs) → n < 64 → length xs ≡ 64 → Moving (sampleInserted x (take n xs)) n xs x p
 moving-start x n p xs e f l =
     let m : placeOf x (take n xs) ≤ n = omega (arith, place-most x (take n xs), length-take n xs) in
     record {
@@ -166,13 +166,13 @@ module _ {target : List Float} {n : ℕ} {out : List Float} {moved : Float} {i :
 
 -- ---- sorting
 
-onto-snoc : (ys xs : List Float) (x : Float) → sortedOnto ys (xs ++ (x ∷ [])) ≡ insertedOf x (sortedOnto ys xs)
+onto-snoc : (ys xs : List Float) (x : Float) → sortedOnto ys (xs ++ (x ∷ [])) ≡ sampleInserted x (sortedOnto ys xs)
 unfolding sortedOnto
 onto-snoc ys [] x = refl
-onto-snoc ys (z ∷ xs) x = onto-snoc (insertedOf z ys) xs x
+onto-snoc ys (z ∷ xs) x = onto-snoc (sampleInserted z ys) xs x
 
 -- the last sample is inserted last
-pub sorted-snoc : (xs : List Float) (x : Float) → sortedOf (xs ++ (x ∷ [])) ≡ insertedOf x (sortedOf xs)
+pub sorted-snoc : (xs : List Float) (x : Float) → sortedOf (xs ++ (x ∷ [])) ≡ sampleInserted x (sortedOf xs)
 unfolding sortedOf
 sorted-snoc xs x = onto-snoc [] xs x
 
@@ -187,11 +187,11 @@ unfolding sortedOf sortedOnto
 sorting-start n xs out f l = record { sorted = refl; high = omega arith; few = f; long = l }
 
 module _ {n : ℕ} {xs out : List Float} {i : ℕ} (s : Sorting n xs out i) where
-  pub sorting-next : {next : List Float} → i < n → take (i + 1) next ≡ insertedOf (getD xs i nan) (take i out) → Sorting n xs next (i + 1)
+  pub sorting-next : {next : List Float} → i < n → take (i + 1) next ≡ sampleInserted (getD xs i nan) (take i out) → Sorting n xs next (i + 1)
   sorting-next h e =
       let t : take (i + 1) xs ≡ take i xs ++ (getD xs i nan ∷ []) = rw (add-one i) (take-suc xs i nan (omega (arith, s .few, s .long))) in
       record {
-        sorted = e ∙ ap (insertedOf (getD xs i nan)) (s .sorted) ∙ sym (sorted-snoc (take i xs) (getD xs i nan)) ∙ ap sortedOf (sym t);
+        sorted = e ∙ ap (sampleInserted (getD xs i nan)) (s .sorted) ∙ sym (sorted-snoc (take i xs) (getD xs i nan)) ∙ ap sortedOf (sym t);
         high = omega arith;
         few = s .few;
         long = s .long;

@@ -9,7 +9,7 @@ use lib.Ieee.{Float, lt, binary64, add}
 use Rattle.settings.specs.declared.Settings.{Settings}
 use Rattle.settings.specs.Settings.{samplesToDiscardOf, samplesToStoreOf}
 use Rattle.clocksync.specs.Mean.{nothing64, meanOf}
-use Rattle.clocksync.specs.Clock.{heldOf, timedOf, tickedOf, firstOf, heardOf, deviatesOf, syncedOf, sampledOf, filledOf, addedOf, namedOf, sampleOf}
+use Rattle.clocksync.specs.Clock.{heldOf, timedOf, tickedOf, firstOf, heardOf, deviatesOf, offsetAfter, sampledOf, filledOf, addedOf, namedOf, sampleOf}
 use Rattle.clocksync.specs.Clock.{settledOf, bothOf, readyOf}
 use Rattle.clocksync.specs.declared.Offset.{Offset}
 use Rattle.clocksync.specs.declared.Offset.the-variants.{NoOffset, Seconds}
@@ -57,7 +57,7 @@ heard-id seconds h number send server = go (h .id)
 
 -- ---- through a sample
 
-synced-keeps : (o : Offset) (mean deviation : Float) → hasOffset (syncedOf o mean deviation) ≡ true
+synced-keeps : (o : Offset) (mean deviation : Float) → hasOffset (offsetAfter o mean deviation) ≡ true
 synced-keeps NoOffset mean deviation = refl
 synced-keeps (Seconds x) mean deviation = go (deviatesOf mean x deviation)
   where
@@ -70,7 +70,7 @@ added-keeps : (s : Settings) (c : Clock) (x : Float) → hasOffset (c .offset) �
 unfolding filledOf
 added-keeps s c x h = go (ltb (length (heldOf c ++ (x ∷ []))) (samplesToStoreOf s))
   where
-    go : (b : Bool) → hasOffset (cond {A = Clock} b (sampledOf c (c .offset) (heldOf c ++ (x ∷ []))) (sampledOf c (syncedOf (c .offset) (meanOf (samplesToDiscardOf s) (heldOf c ++ (x ∷ []))) (s .deviation)) (drop 1 (heldOf c ++ (x ∷ [])))) .offset) ≡ true
+    go : (b : Bool) → hasOffset (cond {A = Clock} b (sampledOf c (c .offset) (heldOf c ++ (x ∷ []))) (sampledOf c (offsetAfter (c .offset) (meanOf (samplesToDiscardOf s) (heldOf c ++ (x ∷ []))) (s .deviation)) (drop 1 (heldOf c ++ (x ∷ [])))) .offset) ≡ true
     go true = h
     go false = synced-keeps (c .offset) (meanOf (samplesToDiscardOf s) (heldOf c ++ (x ∷ []))) (s .deviation)
 
@@ -78,7 +78,7 @@ added-id : (s : Settings) (c : Clock) (x : Float) → addedOf s c x .id ≡ c .i
 unfolding filledOf
 added-id s c x = go (ltb (length (heldOf c ++ (x ∷ []))) (samplesToStoreOf s))
   where
-    go : (b : Bool) → cond {A = Clock} b (sampledOf c (c .offset) (heldOf c ++ (x ∷ []))) (sampledOf c (syncedOf (c .offset) (meanOf (samplesToDiscardOf s) (heldOf c ++ (x ∷ []))) (s .deviation)) (drop 1 (heldOf c ++ (x ∷ [])))) .id ≡ c .id
+    go : (b : Bool) → cond {A = Clock} b (sampledOf c (c .offset) (heldOf c ++ (x ∷ []))) (sampledOf c (offsetAfter (c .offset) (meanOf (samplesToDiscardOf s) (heldOf c ++ (x ∷ []))) (s .deviation)) (drop 1 (heldOf c ++ (x ∷ [])))) .id ≡ c .id
     go true = refl
     go false = refl
 

@@ -16,25 +16,25 @@ use Rattle.settings.specs.Settings.{samplesToDiscardOf, samplesToStoreOf}
 use Rattle.clocksync.specs.declared.Offset.{Offset}
 use Rattle.clocksync.specs.declared.ClientId.{ClientId}
 use Rattle.clocksync.specs.declared.Clock.{Clock}
-use Rattle.clocksync.specs.Mean.{nothing64, insertedOf, sortedOnto, sortedOf, sumFrom, innerOf, averageOf, meanOf}
-use Rattle.clocksync.specs.Clock.{laidOut, heldOf, syncedOf, sampledOf, filledOf, addedOf}
+use Rattle.clocksync.specs.Mean.{nothing64, sampleInserted, sortedOnto, sortedOf, sumFrom, innerOf, averageOf, meanOf}
+use Rattle.clocksync.specs.Clock.{laidOut, heldOf, offsetAfter, sampledOf, filledOf, addedOf}
 use Rattle.clocksync.proofs.Lists.{laid-push, take-laid}
 
 -- ---- lengths
 
-pub inserted-length : (x : Float) (ys : List Float) → length (insertedOf x ys) ≡ suc (length ys)
-unfolding insertedOf
+pub inserted-length : (x : Float) (ys : List Float) → length (sampleInserted x ys) ≡ suc (length ys)
+unfolding sampleInserted
 inserted-length x [] = refl
 inserted-length x (y ∷ ys) = go (lt x y) (inserted-length x ys)
   where
-    go : (b : Bool) → length (insertedOf x ys) ≡ suc (length ys) → length (cond b (x ∷ y ∷ ys) (y ∷ insertedOf x ys)) ≡ suc (suc (length ys))
+    go : (b : Bool) → length (sampleInserted x ys) ≡ suc (length ys) → length (cond b (x ∷ y ∷ ys) (y ∷ sampleInserted x ys)) ≡ suc (suc (length ys))
     go true h = refl
     go false h = ap suc h
 
 onto-length : (ys xs : List Float) → length (sortedOnto ys xs) ≡ length ys + length xs
 unfolding sortedOnto
 onto-length ys [] = omega arith
-onto-length ys (x ∷ xs) = onto-length (insertedOf x ys) xs ∙ omega (arith, inserted-length x ys)
+onto-length ys (x ∷ xs) = onto-length (sampleInserted x ys) xs ∙ omega (arith, inserted-length x ys)
 
 -- none is lost
 pub sorted-length : (xs : List Float) → length (sortedOf xs) ≡ length xs
@@ -106,20 +106,20 @@ module _ (s : Settings) (c : Clock) (x : Float) {n : ℕ} {laid : List Float} (f
       let xs = heldOf c ++ (x ∷ []) in
       let t : ltb (length (heldOf c ++ (x ∷ []))) (samplesToStoreOf s) ≡ true = lt-ltb (length (heldOf c ++ (x ∷ []))) (samplesToStoreOf s) (omega (arith, all-length, e)) in
       same-clock (c .timer) (c .id) refl all-is (sym all-length)
-      ∙ sym (ap (λ (b : Bool). cond b (sampledOf c (c .offset) xs) (sampledOf c (syncedOf (c .offset) (meanOf (samplesToDiscardOf s) xs) (s .deviation)) (drop 1 xs))) t)
+      ∙ sym (ap (λ (b : Bool). cond b (sampledOf c (c .offset) xs) (sampledOf c (offsetAfter (c .offset) (meanOf (samplesToDiscardOf s) xs) (s .deviation)) (drop 1 xs))) t)
 
   all-back : take (n + 1) (set laid n x) ≡ heldOf c ++ (x ∷ [])
   all-back = ap (take (n + 1)) all-is ∙ ap (λ (k : ℕ). take k (laidOut (heldOf c ++ (x ∷ [])))) (sym all-length) ∙ take-laid (heldOf c ++ (x ∷ []))
 
   -- as many as are stored
-  pub added-full : {store discard : ℕ} {mean : Float} {offset : Offset} {rest : List Float} → store ≡ samplesToStoreOf s → store ≤ n + 1 → discard ≡ samplesToDiscardOf s → mean ≡ meanOf discard (take (n + 1) (set laid n x)) → offset ≡ syncedOf (c .offset) mean (s .deviation) → rest ≡ laidOut (slice 1 (n + 1) (set laid n x)) → _≡_ {A = Clock} (record { offset = offset; samples = rest; len = n; timer = c .timer; id = c .id }) (addedOf s c x)
+  pub added-full : {store discard : ℕ} {mean : Float} {offset : Offset} {rest : List Float} → store ≡ samplesToStoreOf s → store ≤ n + 1 → discard ≡ samplesToDiscardOf s → mean ≡ meanOf discard (take (n + 1) (set laid n x)) → offset ≡ offsetAfter (c .offset) mean (s .deviation) → rest ≡ laidOut (slice 1 (n + 1) (set laid n x)) → _≡_ {A = Clock} (record { offset = offset; samples = rest; len = n; timer = c .timer; id = c .id }) (addedOf s c x)
   unfolding filledOf
   added-full {store} {discard} {mean} {offset} {rest} e h d m o r =
       let xs = heldOf c ++ (x ∷ []) in
       let t : ltb (length xs) (samplesToStoreOf s) ≡ false = le-ltb (length xs) (samplesToStoreOf s) (omega (arith, all-length, e)) in
       let M : mean ≡ meanOf (samplesToDiscardOf s) xs = m ∙ ap (meanOf discard) all-back ∙ ap (λ (k : ℕ). meanOf k xs) d in
-      let O : offset ≡ syncedOf (c .offset) (meanOf (samplesToDiscardOf s) xs) (s .deviation) = o ∙ ap (λ (y : Float). syncedOf (c .offset) y (s .deviation)) M in
+      let O : offset ≡ offsetAfter (c .offset) (meanOf (samplesToDiscardOf s) xs) (s .deviation) = o ∙ ap (λ (y : Float). offsetAfter (c .offset) y (s .deviation)) M in
       let R : rest ≡ laidOut (drop 1 xs) = r ∙ ap (λ (l : List Float). laidOut (drop 1 l)) all-back in
       let N : n ≡ length (drop 1 xs) = omega (arith, length-drop 1 xs, all-length) in
       same-clock (c .timer) (c .id) O R N
-      ∙ sym (ap (λ (b : Bool). cond b (sampledOf c (c .offset) xs) (sampledOf c (syncedOf (c .offset) (meanOf (samplesToDiscardOf s) xs) (s .deviation)) (drop 1 xs))) t)
+      ∙ sym (ap (λ (b : Bool). cond b (sampledOf c (c .offset) xs) (sampledOf c (offsetAfter (c .offset) (meanOf (samplesToDiscardOf s) xs) (s .deviation)) (drop 1 xs))) t)

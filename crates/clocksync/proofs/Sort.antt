@@ -12,7 +12,7 @@ use lib.Ieee.Scale.{finite}
 use Rattle.float_laws.specs.Fractions.{val, Same}
 use Rattle.float_laws.proofs.Value.{q-le-refl, le-of-val}
 use Rattle.float_laws.proofs.Order.{float-le-trans, float-le-of-lt, float-le-of-not-lt}
-use Rattle.clocksync.specs.Mean.{insertedOf, sortedOnto, sortedOf}
+use Rattle.clocksync.specs.Mean.{sampleInserted, sortedOnto, sortedOf}
 use Rattle.clocksync.specs.Order.{All, AllFinite, AtMost, Ordered, Permutes}
 
 -- ---- in order
@@ -22,37 +22,37 @@ lower : (x y : Float) (ys : List Float) → T (le x y) → AtMost y ys → AtMos
 lower x y [] h a = tt
 lower x y (z ∷ ys) h a = (float-le-trans x y z h (a .0), lower x y ys h (a .1))
 
-at-most-inserted : (y x : Float) (ys : List Float) → T (le y x) → AtMost y ys → AtMost y (insertedOf x ys)
-unfolding insertedOf
+at-most-inserted : (y x : Float) (ys : List Float) → T (le y x) → AtMost y ys → AtMost y (sampleInserted x ys)
+unfolding sampleInserted
 at-most-inserted y x [] h a = (h, tt)
 at-most-inserted y x (z ∷ ys) h a = go (lt x z) (at-most-inserted y x ys h (a .1))
   where
-    go : (b : Bool) → AtMost y (insertedOf x ys) → AtMost y (cond b (x ∷ z ∷ ys) (z ∷ insertedOf x ys))
+    go : (b : Bool) → AtMost y (sampleInserted x ys) → AtMost y (cond b (x ∷ z ∷ ys) (z ∷ sampleInserted x ys))
     go true r = (h, a)
     go false r = (a .0, r)
 
-inserted-ordered : (x : Float) (ys : List Float) → T (finite x) → AllFinite ys → Ordered ys → Ordered (insertedOf x ys)
-unfolding insertedOf
+inserted-ordered : (x : Float) (ys : List Float) → T (finite x) → AllFinite ys → Ordered ys → Ordered (sampleInserted x ys)
+unfolding sampleInserted
 inserted-ordered x [] f a o = (tt, tt)
 inserted-ordered x (y ∷ ys) f a o = go (lt x y) refl (inserted-ordered x ys f (a .1) (o .1))
   where
-    go : (b : Bool) → lt x y ≡ b → Ordered (insertedOf x ys) → Ordered (cond b (x ∷ y ∷ ys) (y ∷ insertedOf x ys))
+    go : (b : Bool) → lt x y ≡ b → Ordered (sampleInserted x ys) → Ordered (cond b (x ∷ y ∷ ys) (y ∷ sampleInserted x ys))
     go true e r = let h = float-le-of-lt x y f (a .0) (subst T (sym e) tt) in ((h, lower x y ys h (o .0)), o)
     go false e r = (at-most-inserted y x ys (float-le-of-not-lt x y f (a .0) (subst (λ (b : Bool). T (not b)) (sym e) tt)) (o .0), r)
 
-inserted-finite : (x : Float) (ys : List Float) → T (finite x) → AllFinite ys → AllFinite (insertedOf x ys)
-unfolding insertedOf
+inserted-finite : (x : Float) (ys : List Float) → T (finite x) → AllFinite ys → AllFinite (sampleInserted x ys)
+unfolding sampleInserted
 inserted-finite x [] f a = (f, tt)
 inserted-finite x (y ∷ ys) f a = go (lt x y) (inserted-finite x ys f (a .1))
   where
-    go : (b : Bool) → AllFinite (insertedOf x ys) → AllFinite (cond b (x ∷ y ∷ ys) (y ∷ insertedOf x ys))
+    go : (b : Bool) → AllFinite (sampleInserted x ys) → AllFinite (cond b (x ∷ y ∷ ys) (y ∷ sampleInserted x ys))
     go true r = (f, a)
     go false r = (a .0, r)
 
 onto-ordered : (ys xs : List Float) → AllFinite ys → AllFinite xs → Ordered ys → Ordered (sortedOnto ys xs)
 unfolding sortedOnto
 onto-ordered ys [] a b o = o
-onto-ordered ys (x ∷ xs) a b o = onto-ordered (insertedOf x ys) xs (inserted-finite x ys (b .0) a) (b .1) (inserted-ordered x ys (b .0) a o)
+onto-ordered ys (x ∷ xs) a b o = onto-ordered (sampleInserted x ys) xs (inserted-finite x ys (b .0) a) (b .1) (inserted-ordered x ys (b .0) a o)
 
 -- the sorted samples are in order
 pub sorted-ordered : (xs : List Float) → AllFinite xs → Ordered (sortedOf xs)
@@ -61,12 +61,12 @@ sorted-ordered xs a = onto-ordered [] xs tt a tt
 
 -- ---- the same samples
 
-inserted-permutes : (x : Float) (ys : List Float) → Permutes (x ∷ ys) (insertedOf x ys)
-unfolding insertedOf
+inserted-permutes : (x : Float) (ys : List Float) → Permutes (x ∷ ys) (sampleInserted x ys)
+unfolding sampleInserted
 inserted-permutes x [] = Permᴰ·refl (x ∷ [])
 inserted-permutes x (y ∷ ys) = go (lt x y) (inserted-permutes x ys)
   where
-    go : (b : Bool) → Permutes (x ∷ ys) (insertedOf x ys) → Permutes (x ∷ y ∷ ys) (cond b (x ∷ y ∷ ys) (y ∷ insertedOf x ys))
+    go : (b : Bool) → Permutes (x ∷ ys) (sampleInserted x ys) → Permutes (x ∷ y ∷ ys) (cond b (x ∷ y ∷ ys) (y ∷ sampleInserted x ys))
     go true r = Permᴰ·refl (x ∷ y ∷ ys)
     go false r = List·Permᴰ·trans (List·Permᴰ·swap refl refl) (List·Permᴰ·cons refl r)
 
@@ -75,7 +75,7 @@ unfolding sortedOnto
 onto-permutes ys [] = Permᴰ·refl ys
 onto-permutes ys (x ∷ xs) =
     List·Permᴰ·trans (Permᴰ·symm (Permᴰ·middle x xs ys))
-    (List·Permᴰ·trans (Permᴰ·append-left xs (inserted-permutes x ys)) (onto-permutes (insertedOf x ys) xs))
+    (List·Permᴰ·trans (Permᴰ·append-left xs (inserted-permutes x ys)) (onto-permutes (sampleInserted x ys) xs))
 
 -- the sorted samples are the samples
 pub sorted-permutes : (xs : List Float) → Permutes xs (sortedOf xs)

@@ -22,8 +22,8 @@ use Rattle.timestamp.proofs.Tests.{apart, both}
 use Rattle.settings.proofs.Limits.{Limited, period-within, discard-few, store-few, samples-pass}
 use Rattle.settings.proofs.Few.{needed-range}
 use Rattle.clocksync.specs.Offset.{offsetOf}
-use Rattle.clocksync.specs.Mean.{nothing64, insertedOf, sortedOnto, sortedOf, innerOf, sumFrom, averageOf, meanOf}
-use Rattle.clocksync.specs.Clock.{heldOf, newOf, timedOf, tickedOf, deviatesOf, syncedOf, sampledOf, filledOf, addedOf, namedOf, sampleOf, settledOf}
+use Rattle.clocksync.specs.Mean.{nothing64, sampleInserted, sortedOnto, sortedOf, innerOf, sumFrom, averageOf, meanOf}
+use Rattle.clocksync.specs.Clock.{heldOf, newOf, timedOf, tickedOf, deviatesOf, offsetAfter, sampledOf, filledOf, addedOf, namedOf, sampleOf, settledOf}
 use Rattle.clocksync.specs.Clock.{sampleOk, samplesOk, timerOk, offsetOk, soundClock}
 use Rattle.clocksync.specs.declared.Offset.{Offset}
 use Rattle.clocksync.specs.declared.Offset.the-variants.{NoOffset, Seconds}
@@ -78,19 +78,19 @@ within-drop n zero xs a = a
 within-drop n (suc k) [] a = tt
 within-drop n (suc k) (x ∷ xs) a = within-drop n k xs (a .1)
 
-within-inserted : (n : ℕ) (x : Float) (ys : List Float) → Within x n → AllWithin n ys → AllWithin n (insertedOf x ys)
-unfolding insertedOf
+within-inserted : (n : ℕ) (x : Float) (ys : List Float) → Within x n → AllWithin n ys → AllWithin n (sampleInserted x ys)
+unfolding sampleInserted
 within-inserted n x [] w a = (w, tt)
 within-inserted n x (y ∷ ys) w a = go (lt x y) (within-inserted n x ys w (a .1))
   where
-    go : (b : Bool) → AllWithin n (insertedOf x ys) → AllWithin n (cond b (x ∷ y ∷ ys) (y ∷ insertedOf x ys))
+    go : (b : Bool) → AllWithin n (sampleInserted x ys) → AllWithin n (cond b (x ∷ y ∷ ys) (y ∷ sampleInserted x ys))
     go true r = (w, (a .0, a .1))
     go false r = (a .0, r)
 
 within-onto : (n : ℕ) (ys xs : List Float) → AllWithin n ys → AllWithin n xs → AllWithin n (sortedOnto ys xs)
 unfolding sortedOnto
 within-onto n ys [] a b = a
-within-onto n ys (x ∷ xs) a b = within-onto n (insertedOf x ys) xs (within-inserted n x ys (b .0) a) (b .1)
+within-onto n ys (x ∷ xs) a b = within-onto n (sampleInserted x ys) xs (within-inserted n x ys (b .0) a) (b .1)
 
 -- sorting keeps the samples within
 pub within-sorted : (n : ℕ) (xs : List Float) → AllWithin n xs → AllWithin n (sortedOf xs)
@@ -118,7 +118,7 @@ mean-of-within d xs h k a =
 
 -- ---- the offset
 
-synced-ok : (o : Offset) (mean deviation : Float) → offsetOk o ≡ true → sampleOk mean ≡ true → offsetOk (syncedOf o mean deviation) ≡ true
+synced-ok : (o : Offset) (mean deviation : Float) → offsetOk o ≡ true → sampleOk mean ≡ true → offsetOk (offsetAfter o mean deviation) ≡ true
 synced-ok NoOffset mean deviation h k = k
 synced-ok (Seconds x) mean deviation h k = go (deviatesOf mean x deviation)
   where
@@ -245,9 +245,9 @@ module _ (s : Settings) (pass : passesOf s ≡ true) (c : Clock) (full : length 
           let n = needed-range (s .needed) (s .rate) (samples-pass s pass) in
           sample-passes (meanOf (samplesToDiscardOf s) all) (mean-of-within (samplesToDiscardOf s) all (omega (arith, h, n .0)) (omega (arith, all-length, p .held)) all-within)
 
-      go : (b : Bool) → (b ≡ true → length all < samplesToStoreOf s) → (b ≡ false → samplesToStoreOf s ≤ length all) → Parts s (cond b (sampledOf c (c .offset) all) (sampledOf c (syncedOf (c .offset) (meanOf (samplesToDiscardOf s) all) (s .deviation)) (drop 1 all)))
+      go : (b : Bool) → (b ≡ true → length all < samplesToStoreOf s) → (b ≡ false → samplesToStoreOf s ≤ length all) → Parts s (cond b (sampledOf c (c .offset) all) (sampledOf c (offsetAfter (c .offset) (meanOf (samplesToDiscardOf s) all) (s .deviation)) (drop 1 all)))
       go true f g = laid-parts (c .offset) all (f refl) (p .offset) all-within
-      go false f g = laid-parts (syncedOf (c .offset) (meanOf (samplesToDiscardOf s) all) (s .deviation)) (drop 1 all) (omega (arith, length-drop 1 all, all-length, p .fewer)) (synced-ok (c .offset) (meanOf (samplesToDiscardOf s) all) (s .deviation) (p .offset) (mean-ok (g refl))) (within-drop (2 ^ 33) 1 all all-within)
+      go false f g = laid-parts (offsetAfter (c .offset) (meanOf (samplesToDiscardOf s) all) (s .deviation)) (drop 1 all) (omega (arith, length-drop 1 all, all-length, p .fewer)) (synced-ok (c .offset) (meanOf (samplesToDiscardOf s) all) (s .deviation) (p .offset) (mean-ok (g refl))) (within-drop (2 ^ 33) 1 all all-within)
 
 named-parts : (s : Settings) (c : Clock) (h : Heard) → Parts s c → Parts s (namedOf c (h .id))
 named-parts s c h p = record { fewer = p .fewer; held = p .held; samples = p .samples; timer = p .timer; offset = p .offset }
@@ -265,7 +265,7 @@ filled-timer : (s : Settings) (c : Clock) (xs : List Float) → filledOf s c xs 
 unfolding filledOf
 filled-timer s c xs = go (ltb (length xs) (samplesToStoreOf s))
   where
-    go : (b : Bool) → cond {A = Clock} b (sampledOf c (c .offset) xs) (sampledOf c (syncedOf (c .offset) (meanOf (samplesToDiscardOf s) xs) (s .deviation)) (drop 1 xs)) .timer ≡ c .timer
+    go : (b : Bool) → cond {A = Clock} b (sampledOf c (c .offset) xs) (sampledOf c (offsetAfter (c .offset) (meanOf (samplesToDiscardOf s) xs) (s .deviation)) (drop 1 xs)) .timer ≡ c .timer
     go true = refl
     go false = refl
 

@@ -82,9 +82,9 @@ unfoldable pub deviatesOf : Float → Float → Float → Bool
 deviatesOf mean offset deviation = lt deviation (sizeOf (sub binary64 mean offset))
 
 -- the offset after a mean was taken: the mean at the initial sync and where it deviates, else the old one
-abbrev pub syncedOf : Offset → Float → Float → Offset
-syncedOf NoOffset mean deviation = Seconds mean
-syncedOf (Seconds x) mean deviation = cond (deviatesOf mean x deviation) (Seconds mean) (Seconds x)
+abbrev pub offsetAfter : Offset → Float → Float → Offset
+offsetAfter NoOffset mean deviation = Seconds mean
+offsetAfter (Seconds x) mean deviation = cond (deviatesOf mean x deviation) (Seconds mean) (Seconds x)
 
 -- the clock with the samples xs and an offset
 abbrev pub sampledOf : Clock → Offset → List Float → Clock
@@ -95,7 +95,7 @@ unfoldable pub filledOf : Settings → Clock → List Float → Clock
 filledOf s c xs =
     cond (ltb (length xs) (samplesToStoreOf s))
     (sampledOf c (c .offset) xs)
-    (sampledOf c (syncedOf (c .offset) (meanOf (samplesToDiscardOf s) xs) (s .deviation)) (drop 1 xs))
+    (sampledOf c (offsetAfter (c .offset) (meanOf (samplesToDiscardOf s) xs) (s .deviation)) (drop 1 xs))
 
 -- the clock after one sample more
 abbrev pub addedOf : Settings → Clock → Float → Clock

@@ -12,9 +12,9 @@ abbrev pub nothing64 : Float
 nothing64 = fin false 0 (pos 0)
 
 -- x in a sorted list: before the first that is greater, so after those that are equal to it, -0.0 and +0.0 among them
-unfoldable pub insertedOf : Float → List Float → List Float
-insertedOf x [] = x ∷ []
-insertedOf x (y ∷ ys) = cond (lt x y) (x ∷ y ∷ ys) (y ∷ insertedOf x ys)
+unfoldable pub sampleInserted : Float → List Float → List Float
+sampleInserted x [] = x ∷ []
+sampleInserted x (y ∷ ys) = cond (lt x y) (x ∷ y ∷ ys) (y ∷ sampleInserted x ys)
 
 -- where x goes in such a list: how many stand before the first that is greater
 unfoldable pub placeOf : Float → List Float → ℕ
@@ -24,7 +24,7 @@ placeOf x (y ∷ ys) = cond (lt x y) 0 (suc (placeOf x ys))
 -- the samples inserted one by one, in the order in which they came, into a list that is sorted already
 unfoldable pub sortedOnto : List Float → List Float → List Float
 sortedOnto ys [] = ys
-sortedOnto ys (x ∷ xs) = sortedOnto (insertedOf x ys) xs
+sortedOnto ys (x ∷ xs) = sortedOnto (sampleInserted x ys) xs
 
 -- the samples in order, the least first, and equal ones in the order in which they came
 unfoldable pub sortedOf : List Float → List Float

@@ -5,7 +5,7 @@ ghost use mathlib.Core.Bool.{_||_};
 ghost use Prim.Native.Nat.{_≤_};
 ghost use lib.ListN.{take, drop};
 ghost use Rattle.clocksync.specs.Offset.{offsetOf};
-ghost use Rattle.clocksync.specs.Clock.{laidOut, newOf, tickedOf, listenOf, heardOf, firstOf, otherOf, deviatesOf, syncedOf, addedOf, settledOf, serverSecondsOf, readyOf, sampleOk, timerOk, samplesOk, soundClock};
+ghost use Rattle.clocksync.specs.Clock.{laidOut, newOf, tickedOf, listenOf, heardOf, firstOf, otherOf, deviatesOf, offsetAfter, addedOf, settledOf, serverSecondsOf, readyOf, sampleOk, timerOk, samplesOk, soundClock};
 use settings::Settings;
 
 mod mean;
@@ -288,7 +288,7 @@ fn deviates(mean: f64, offset: f64, deviation: f64) -> bool
 
 // The offset after a mean was taken.
 fn synced(old: Offset, mean: f64, deviation: f64) -> Offset
-    ensures { λ r. ⌜ r ≡ syncedOf old mean deviation ⌝ }
+    ensures { λ r. ⌜ r ≡ offsetAfter old mean deviation ⌝ }
 {
     match old {
         Offset::NoOffset => Offset::Seconds(mean),

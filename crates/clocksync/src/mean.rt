@@ -2,7 +2,7 @@
 ghost use mathlib.Core.Path.{_≡_};
 ghost use Prim.Native.Nat.{_+_, _-_, _≤_, _<_, min};
 ghost use lib.ListN.{take, drop};
-ghost use Rattle.clocksync.specs.Mean.{insertedOf, placeOf, sortedOf, sumFrom, meanOf, nothing64};
+ghost use Rattle.clocksync.specs.Mean.{sampleInserted, placeOf, sortedOf, sumFrom, meanOf, nothing64};
 
 // The mean of the first `len` samples (of at most 64): sorted, `discard` of them left out at each end, summed upward from +0.0.
 pub fn mean_of(samples: [f64; 64], len: usize, discard: usize) -> f64
@@ -33,7 +33,7 @@ fn place(samples: [f64; 64], n: usize, x: f64) -> usize
 // x among the first n: those from its place on move up by one.
 fn insert(samples: [f64; 64], n: usize, x: f64) -> [f64; 64]
     requires { ⌜ n < 64 ⌝ }
-    ensures { λ r. ⌜ take (n + 1) r ≡ insertedOf x (take n samples) ⌝ }
+    ensures { λ r. ⌜ take (n + 1) r ≡ sampleInserted x (take n samples) ⌝ }
 {
     let mut out = samples;
     let mut moved = x;

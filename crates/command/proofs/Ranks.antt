@@ -14,7 +14,7 @@ use Rattle.timestamp.proofs.Basics.{split}
 use Rattle.timestamp.proofs.Signed.{signed-low, signed-high}
 use Rattle.command.specs.declared.Entry.{Entry}
 use Rattle.command.specs.Buffer.{inRangeOf, dueOf, laterThan}
-use Rattle.command.specs.Ranks.{rankOf, spanned, between}
+use Rattle.command.specs.Ranks.{rankOf, spanned, rankWithin}
 
 -- the rank of an entry around m
 abbrev pub rankIn : Timestamp → Entry → ℕ
@@ -88,7 +88,7 @@ below-next k n hi e = elim (split n k) [
 ]
 
 -- the accepted range
-pub span-in-range : (m : Timestamp) (lo hi : ℕ) → lo ≡ 16385 → hi ≡ 49151 → (e : Entry) → between m lo hi e ≡ inRangeOf m e
+pub span-in-range : (m : Timestamp) (lo hi : ℕ) → lo ≡ 16385 → hi ≡ 49151 → (e : Entry) → rankWithin m lo hi e ≡ inRangeOf m e
 unfolding spanned inRangeOf
 span-in-range m lo hi el eh e = rw (el, below-next (rankIn m e) 49150 hi eh) (sym (in-range-rank (m .0) (e .stamp .0)))
 
@@ -96,12 +96,12 @@ from-zero : (k lo : ℕ) → lo ≡ 0 → leb lo k ≡ true
 from-zero k lo e = le-leb lo k (omega arith)
 
 -- what a drain takes
-pub span-due : (s : Timestamp) (lo hi : ℕ) → lo ≡ 0 → hi ≡ 32769 → (e : Entry) → between s lo hi e ≡ dueOf s e
+pub span-due : (s : Timestamp) (lo hi : ℕ) → lo ≡ 0 → hi ≡ 32769 → (e : Entry) → rankWithin s lo hi e ≡ dueOf s e
 unfolding spanned
 span-due s lo hi el eh e = rw (from-zero (rankIn s e) lo el, below-next (rankIn s e) 32768 hi eh) (sym (due-rank s e))
 
 -- up to a rank, not later
-pub span-up-to : (m : Timestamp) (x : Entry) (lo hi : ℕ) → lo ≡ 0 → hi ≡ rankIn m x + 1 → (e : Entry) → between m lo hi e ≡ not (laterThan m x e)
+pub span-up-to : (m : Timestamp) (x : Entry) (lo hi : ℕ) → lo ≡ 0 → hi ≡ rankIn m x + 1 → (e : Entry) → rankWithin m lo hi e ≡ not (laterThan m x e)
 unfolding spanned
 span-up-to m x lo hi el eh e = rw (from-zero (rankIn m e) lo el, below-next (rankIn m e) (rankIn m x) hi eh, later-rank m x e) (not-not (leb (rankIn m e) (rankIn m x)))
   where
@@ -110,7 +110,7 @@ span-up-to m x lo hi el eh e = rw (from-zero (rankIn m e) lo el, below-next (ran
     not-not false = refl
 
 -- from a rank on is what is not below it
-pub span-from : (m : Timestamp) (lo hi : ℕ) → hi ≡ 65536 → (e : Entry) → between m lo hi e ≡ not (between m 0 lo e)
+pub span-from : (m : Timestamp) (lo hi : ℕ) → hi ≡ 65536 → (e : Entry) → rankWithin m lo hi e ≡ not (rankWithin m 0 lo e)
 unfolding spanned
 span-from m lo hi eh e =
     let k = rankIn m e in
@@ -121,6 +121,6 @@ span-from m lo hi eh e =
     ]
 
 -- every rank
-pub span-all : (m : Timestamp) (lo hi : ℕ) → lo ≡ 0 → hi ≡ 65536 → (e : Entry) → between m lo hi e ≡ true
+pub span-all : (m : Timestamp) (lo hi : ℕ) → lo ≡ 0 → hi ≡ 65536 → (e : Entry) → rankWithin m lo hi e ≡ true
 unfolding spanned
 span-all m lo hi el eh e = simp (from-zero (rankIn m e) lo el, lt-ltb (rankIn m e) hi (omega (arith, rank-lt (m .0) (e .stamp .0))))

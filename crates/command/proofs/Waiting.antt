@@ -14,7 +14,7 @@ use Rattle.command.specs.declared.Entry.{Entry}
 use Rattle.command.specs.declared.CommandBuffer.{CommandBuffer}
 use Rattle.command.specs.Lists.{filterB}
 use Rattle.command.specs.Buffer.{held, inRangeOf, dueOf, droppedOf, movedOf, takenOf}
-use Rattle.command.specs.Ranks.{spanned, between, waitsOf}
+use Rattle.command.specs.Ranks.{spanned, rankWithin, waitsOf}
 use Rattle.command.proofs.Lists.{filter-ext}
 use Rattle.command.proofs.Holding.{held-len}
 use Rattle.command.proofs.Ledger.{moved-ledger, taken-short}
@@ -30,7 +30,7 @@ waits-empty b t e =
     rw (eq-eqb _ _ taken, eq-eqb _ _ dropped) refl
 
 -- the ranks of what is not due and stays in range
-span-both : (t : Timestamp) (e : Entry) → between t 32769 49151 e ≡ between t 32769 65536 e && between t 16385 49151 e
+span-both : (t : Timestamp) (e : Entry) → rankWithin t 32769 49151 e ≡ rankWithin t 32769 65536 e && rankWithin t 16385 49151 e
 unfolding spanned
 span-both t e =
     let k = rankIn t e in
@@ -40,9 +40,9 @@ span-both t e =
       | inr l ↦ simp (le-leb 32769 k l, top, le-leb 16385 k (omega arith))
     ]
 
-pub span-waits : (t : Timestamp) (lo hi : ℕ) → lo ≡ 32769 → hi ≡ 49151 → (e : Entry) → between t lo hi e ≡ not (dueOf t e) && inRangeOf t e
+pub span-waits : (t : Timestamp) (lo hi : ℕ) → lo ≡ 32769 → hi ≡ 49151 → (e : Entry) → rankWithin t lo hi e ≡ not (dueOf t e) && inRangeOf t e
 span-waits t lo hi el eh e =
-    (λ i. between t (el i) (eh i) e) ∙ span-both t e ∙ (λ i. not-due t 32769 65536 refl refl e i && span-in-range t 16385 49151 refl refl e i)
+    (λ i. rankWithin t (el i) (eh i) e) ∙ span-both t e ∙ (λ i. not-due t 32769 65536 refl refl e i && span-in-range t 16385 49151 refl refl e i)
 
 and-false : (a : Bool) → false ≡ a && false
 and-false true = refl
@@ -66,9 +66,9 @@ none-fails p q [] = refl
 none-fails p q (x ∷ xs) = fails-by p q x xs (p x) (q x) refl refl (none-fails p q xs)
 
 -- the one count decides
-pub waits-counted : (b : CommandBuffer) (t : Timestamp) {lo hi n : ℕ} → lo ≡ 32769 → hi ≡ 49151 → n ≡ length (filterB (λ e. not (between t lo hi e)) (held b)) → eqb n 0 ≡ waitsOf b t
+pub waits-counted : (b : CommandBuffer) (t : Timestamp) {lo hi n : ℕ} → lo ≡ 32769 → hi ≡ 49151 → n ≡ length (filterB (λ e. not (rankWithin t lo hi e)) (held b)) → eqb n 0 ≡ waitsOf b t
 unfolding waitsOf takenOf movedOf droppedOf
 waits-counted b t {lo} {hi} el eh hn =
-    ap (λ (k : ℕ). eqb k 0) (hn ∙ ap length (filter-ext (λ e. not (between t lo hi e)) (λ e. not (not (dueOf t e) && inRangeOf t e)) (λ e. ap not (span-waits t lo hi el eh e)) (held b)))
+    ap (λ (k : ℕ). eqb k 0) (hn ∙ ap length (filter-ext (λ e. not (rankWithin t lo hi e)) (λ e. not (not (dueOf t e) && inRangeOf t e)) (λ e. ap not (span-waits t lo hi el eh e)) (held b)))
     ∙ none-fails (λ e. not (dueOf t e)) (inRangeOf t) (held b)
     ∙ ap (λ (l : List Entry). eqb (length l) 0 && eqb (length (filterB (λ e. not (inRangeOf t e)) (held b))) 0) (filter-ext (λ e. not (not (dueOf t e))) (dueOf t) (λ e. not-not (dueOf t e)) (held b))

@@ -23,19 +23,19 @@ unfoldable pub spanned : ℕ → ℕ → ℕ → ℕ → Bool
 spanned m lo hi s = leb lo (rankOf m s) && ltb (rankOf m s) hi
 
 -- the same of an entry's stamp
-abbrev pub between : Timestamp → ℕ → ℕ → Entry → Bool
-between m lo hi e = spanned (m .0) lo hi (e .stamp .0)
+abbrev pub rankWithin : Timestamp → ℕ → ℕ → Entry → Bool
+rankWithin m lo hi e = spanned (m .0) lo hi (e .stamp .0)
 
 -- a buffer that is laid out has room for the entries of another that are of such a rank
 pub record HasRoom (a b : CommandBuffer) (m : Timestamp) (lo hi : ℕ) : Type 0 where
   pub whole : a ≡ laid (held a) (a .timestamp)
-  pub room : length (held a) + length (filterB (between m lo hi) (held b)) ≤ bufferRoom
+  pub room : length (held a) + length (filterB (rankWithin m lo hi) (held b)) ≤ bufferRoom
 
 -- the buffer of which exactly the entries of such a rank stay, and how many go
 unfoldable pub siftedOf : CommandBuffer → Timestamp → ℕ → ℕ → Drained
 siftedOf b m lo hi =
-    let gone = filterB (λ e. not (between m lo hi e)) (held b) in
-    record { buffer = leaving gone (filterB (between m lo hi) (held b)) b; count = length gone }
+    let gone = filterB (λ e. not (rankWithin m lo hi e)) (held b) in
+    record { buffer = leaving gone (filterB (rankWithin m lo hi) (held b)) b; count = length gone }
 
 -- a buffer stays as it is at a step to the stamp t: nothing is due, and nothing leaves the range
 unfoldable pub waitsOf : CommandBuffer → Timestamp → Bool

@@ -14,7 +14,7 @@ ghost use Rattle.tape.specs.Tape.{Puts};
 ghost use Rattle.command.specs.Lists.{filterB};
 ghost use Rattle.command.specs.Buffer.{held, laid, insertedOf, movedOf, drainedOf, drainedAllOf, commandWords, Applies, AppliesAll};
 ghost use Rattle.command.specs.Soundness.{soundBuffer};
-ghost use Rattle.command.specs.Ranks.{rankOf, spanned, between, siftedOf, waitsOf, soundRank, HasRoom};
+ghost use Rattle.command.specs.Ranks.{rankOf, spanned, rankWithin, siftedOf, waitsOf, soundRank, HasRoom};
 
 // A command's handle, with the stamp of the frame that it is for.
 pub struct Entry {
@@ -267,7 +267,7 @@ fn push(b: CommandBuffer, e: Entry) -> CommandBuffer
 // The entries of b whose rank around m is lo or more and below hi, at the end of those of a.
 fn extend(a: CommandBuffer, b: CommandBuffer, m: Timestamp, lo: u32, hi: u32) -> CommandBuffer
     requires { ⌜ HasRoom a b m lo hi ⌝ }
-    ensures { λ r. ⌜ r ≡ laid (held a ++ filterB (between m lo hi) (held b)) (a .timestamp) ⌝ }
+    ensures { λ r. ⌜ r ≡ laid (held a ++ filterB (rankWithin m lo hi) (held b)) (a .timestamp) ⌝ }
 {
     let n = held_count(b);
     let t = a.timestamp;
@@ -291,7 +291,7 @@ fn extend(a: CommandBuffer, b: CommandBuffer, m: Timestamp, lo: u32, hi: u32) ->
 
 // How many entries have a rank around m below lo, or hi or more.
 fn count_outside(b: CommandBuffer, m: Timestamp, lo: u32, hi: u32) -> usize
-    ensures { λ r. ⌜ r ≡ length (filterB (λ e. not (between m lo hi e)) (held b)) ⌝ }
+    ensures { λ r. ⌜ r ≡ length (filterB (λ e. not (rankWithin m lo hi e)) (held b)) ⌝ }
 {
     let n = held_count(b);
     let mut k: usize = 0;
@@ -336,7 +336,7 @@ fn apply_between(
     at: usize,
 ) -> usize
     requires { ⌜ at < 4000000000 ⌝ }
-    ensures { λ r. ⌜ Puts (now (tape .entry)) at (commandWords side (filterB (between m lo hi) (held b))) r (now (tape .exit)) ⌝ }
+    ensures { λ r. ⌜ Puts (now (tape .entry)) at (commandWords side (filterB (rankWithin m lo hi) (held b))) r (now (tape .exit)) ⌝ }
 {
     let n = held_count(b);
     let mut p = at;

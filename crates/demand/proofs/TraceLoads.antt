@@ -25,7 +25,7 @@ use Rattle.client.specs.Sides.{newSideOf, oldSideOf, worldOf, oldStampOf, newSt
 use Rattle.client.specs.Status.{statusOf}
 use Rattle.client_publish.specs.Publish.{publishedNone, publishedSide, publishedMix, publishedOld, publishedBoth, publishedBlended, nearOne}
 use Rattle.client_frame.specs.declared.Rules.{Rules}
-use Rattle.client_frame.specs.Frame.{loadsOf, loadedAt, loadedOf, loadedQueued, resetNew, openedOf, steppedSide, caughtUpOf, steppedNew, unless, caughtOf, simulatedOf, blendedBy, publishedBy, shownOf, snapshotOf, openOf, frameOf}
+use Rattle.client_frame.specs.Frame.{loadsOf, loadedAt, loadedOf, loadedQueued, resetNew, openedOf, steppedSide, caughtUpOf, steppedNew, unless, caughtOf, simulatedOf, blendedBy, publishedBy, shownOf, snapshotOf, frameOpened, frameOf}
 use Rattle.client_skip.specs.Skip.{resetSide, resetAlong, resetBoth, skippedOf}
 use Rattle.fixed_timestepper.specs.TimeKeeper.{Event, FrameFrom, SkipFrom}
 use Rattle.demand.specs.Calls.{snapshotWords}
@@ -171,10 +171,10 @@ opened-once (Fastforwarding Obsolete) q p s o = loaded-once s q (newSideOf (s .w
 opened-once (Fastforwarding Overshot) q p s o = reset-new-quiet s
 
 frame-once : (r : Rules) (s : Scene) → snapshotWords (frameOf r s .words) ≡ countLoad (loadIn s)
-unfolding frameOf openOf snapshotOf
+unfolding frameOf frameOpened snapshotOf
 frame-once r s =
     let b : Bool = blendedBy (statusOf (s .worlds)) (snapshotOf s) in
-    omega (arith, loads-then (openOf r s) (shownOf (r .m) b), opened-once (statusOf (s .worlds)) (s .worlds .snapshots .queued) (r .progress) s (oldStampOf (s .worlds)), shown-quiet (r .m) b (openOf r s .scene))
+    omega (arith, loads-then (frameOpened r s) (shownOf (r .m) b), opened-once (statusOf (s .worlds)) (s .worlds .snapshots .queued) (r .progress) s (oldStampOf (s .worlds)), shown-quiet (r .m) b (frameOpened r s .scene))
 
 -- ---- the skip
 

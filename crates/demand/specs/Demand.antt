@@ -18,7 +18,7 @@ use Rattle.client.specs.declared.Queued.the-variants.{Nothing, Held}
 use Rattle.client.specs.declared.Scene.{Scene}
 use Rattle.client.specs.Sides.{oldSideOf, newSideOf, worldOf, oldStampOf, newStampOf}
 use Rattle.client_frame.specs.declared.Rules.{Rules}
-use Rattle.client_frame.specs.Frame.{frameOf, openOf, snapshotOf}
+use Rattle.client_frame.specs.Frame.{frameOf, frameOpened, snapshotOf}
 use Rattle.client_skip.specs.Skip.{skippedOf}
 use Rattle.fixed_timestepper.specs.TimeKeeper.{rulesOf, Event, FrameFrom, SkipFrom}
 use Rattle.session_state.specs.declared.Session.{Session}
@@ -30,7 +30,7 @@ use Rattle.demand.specs.Calls.{Call, Chain, endOf, traceOf, outcomeOf, h
 
 -- the scene once the frame is opened: its load, its swap or its reset is done, and no world has stepped yet
 abbrev pub openedFrom : Rules → Scene → Scene
-openedFrom r s = openOf r s .scene
+openedFrom r s = frameOpened r s .scene
 
 -- the side then old
 abbrev pub oldIn : Rules → Scene → ℕ

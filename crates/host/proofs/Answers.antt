@@ -13,7 +13,7 @@ use Rattle.clocksync.specs.Mean.{meanOf}
 use Rattle.clocksync.specs.Clock.{samplesOk}
 use Rattle.host.specs.declared.MeanAnswer.{MeanAnswer}
 use Rattle.host.specs.declared.MeanAnswer.the-variants.{Mean, SettingsRefused, SamplesRefused}
-use Rattle.host.specs.Mean.{floatsOf, meanOfStored, meanAnswerOf, numberOf, bufferOf, AnswersMean}
+use Rattle.host.specs.Mean.{floatsOf, meanOfStored, meanAnswerOf, meanNumberOf, bufferOf, AnswersMean}
 
 -- ---- the samples
 
@@ -90,5 +90,5 @@ module _ (needed : ℕ) (rate : Float) (s : List ℕ) (room : ℕ) where
       go false e = let z : _≡_ {A = ℕ} 0 1 = cc in absurd (omega arith)
 
   -- the answer, its number and its buffer
-  pub answers : {a : MeanAnswer} {buffer : List ℕ} → a ≡ meanAnswerOf needed rate s room → buffer ≡ bufferOf room a → AnswersMean needed rate s room (numberOf a) buffer
-  answers e b = record { number = ap numberOf e; bytes = b ∙ ap (bufferOf room) e }
+  pub answers : {a : MeanAnswer} {buffer : List ℕ} → a ≡ meanAnswerOf needed rate s room → buffer ≡ bufferOf room a → AnswersMean needed rate s room (meanNumberOf a) buffer
+  answers e b = record { number = ap meanNumberOf e; bytes = b ∙ ap (bufferOf room) e }

@@ -56,10 +56,10 @@ meanAnswerOf needed rate s room =
     cond (samplesPass needed rate) (meanOfStored (storeOf needed rate) (discardOf needed rate) s room) SettingsRefused
 
 -- document 01's number for each answer
-abbrev pub numberOf : MeanAnswer → ℕ
-numberOf (Mean x) = 0
-numberOf SettingsRefused = 1
-numberOf SamplesRefused = 8
+abbrev pub meanNumberOf : MeanAnswer → ℕ
+meanNumberOf (Mean x) = 0
+meanNumberOf SettingsRefused = 1
+meanNumberOf SamplesRefused = 8
 
 -- the answer buffer for each answer: the mean's 8 bytes, or as many zeros as it has bytes
 abbrev pub bufferOf : ℕ → MeanAnswer → List ℕ
@@ -70,6 +70,6 @@ bufferOf room SamplesRefused = replicate room 0
 -- the call returns the answer's number and leaves the answer's bytes in the buffer, of which there were `room` before
 pub record AnswersMean (needed : ℕ) (rate : Float) (s : List ℕ) (room r : ℕ) (buffer : List ℕ) : Type 0 where
   -- what it returns
-  pub number : r ≡ numberOf (meanAnswerOf needed rate s room)
+  pub number : r ≡ meanNumberOf (meanAnswerOf needed rate s room)
   -- every byte of the buffer
   pub bytes : buffer ≡ bufferOf room (meanAnswerOf needed rate s room)

@@ -18,7 +18,7 @@ use Rattle.inbox.specs.declared.Time.{Time}
 use Rattle.inbox.specs.declared.Time.the-variants.{At, OutOfRange}
 use Rattle.inbox.specs.declared.Message.{Message}
 use Rattle.inbox.specs.declared.Message.the-variants.{Command, Snapshot, Clock, BadTime, WrongWord, CutShort}
-use Rattle.inbox.specs.Inbox.{restOf, isWord, stampFrom, wordOf, headOf, bitsOf, timeOk, pickTime, timeOf, pickClock, clockOf, Front, frontWith}
+use Rattle.inbox.specs.Inbox.{lowBitsOf, isWord, stampFrom, dueWordOf, headOf, floatBitsOf, timeOk, pickTime, inboxTimeOf, pickClock, clockOf, Front, frontWith}
 use Rattle.inbox.specs.Inbox.{thenHandle, thenTime, byHead, frontOf, messagesAfter, messagesOf}
 use Rattle.inbox.proofs.Words.{word-room}
 use Rattle.inbox.proofs.Passes.{Each}
@@ -51,7 +51,7 @@ head-bounded : (w : ℕ) → BoundedHead (headOf w)
 head-bounded w = go (isWord 1 (2 ^ 16) w) (isWord 2 (2 ^ 16) w) (isWord 3 (2 ^ 28) w) (rest-room 1 (2 ^ 16) w) (rest-room 2 (2 ^ 16) w)
   where
     go : (a b c : Bool) → (a ≡ true → w % 268435456 < 2 ^ 16) → (b ≡ true → w % 268435456 < 2 ^ 16)
-        → BoundedHead (cond a (ForCommand (stampFrom (restOf w))) (cond b (ForSnapshot (stampFrom (restOf w))) (cond c (ForClock (restOf w)) NoHead)))
+        → BoundedHead (cond a (ForCommand (stampFrom (lowBitsOf w))) (cond b (ForSnapshot (stampFrom (lowBitsOf w))) (cond c (ForClock (lowBitsOf w)) NoHead)))
     go true b c f g = f refl
     go false true c f g = g refl
     go false false true f g = omega arith
@@ -72,13 +72,13 @@ picked : (t : Bool) (x y : Float) → pickTime t x ≡ At y → T t × (x ≡ y)
 picked true x y e = (tt, cc)
 picked false x y e = absurd (let z : _≡_ {A = ℕ} 0 1 = cc in omega arith)
 
-time-ok : (n : ℕ) (x : Float) → timeOf n ≡ At x → T (timeOk x)
-unfolding timeOf
+time-ok : (n : ℕ) (x : Float) → inboxTimeOf n ≡ At x → T (timeOk x)
+unfolding inboxTimeOf
 time-ok n x e = let p = picked (timeOk (ofBits binary64 n)) (ofBits binary64 n) x e in subst (λ (y : Float). T (timeOk y)) (p .1) (p .0)
 
 clock-bounded : (id s t : ℕ) → id < 2 ^ 28 → Bounded (clockOf id s t)
 unfolding clockOf
-clock-bounded id s t h = go (timeOf s) (timeOf t) (time-ok s) (time-ok t)
+clock-bounded id s t h = go (inboxTimeOf s) (inboxTimeOf t) (time-ok s) (time-ok t)
   where
     go : (x y : Time) → ((a : Float) → x ≡ At a → T (timeOk a)) → ((b : Float) → y ≡ At b → T (timeOk b)) → Bounded (pickClock id x y)
     go (At a) (At b) f g = (h, f a refl, g b refl)
@@ -86,11 +86,11 @@ clock-bounded id s t h = go (timeOf s) (timeOf t) (time-ok s) (time-ok t)
     go OutOfRange y f g = tt
 
 by-head : (d : Head) (ws : List ℕ) → BoundedHead d → Bounded (byHead d ws .message)
-by-head (ForCommand s) ws h = handle-bounded (wordOf 4 (2 ^ 24) (drop 1 ws)) (length ws) (λ (n : ℕ). Command s n) (λ v e. (h, word-room 4 (2 ^ 24) (drop 1 ws) v (sym e)))
-by-head (ForSnapshot s) ws h = handle-bounded (wordOf 4 (2 ^ 24) (drop 1 ws)) (length ws) (λ (n : ℕ). Snapshot s n) (λ v e. (h, word-room 4 (2 ^ 24) (drop 1 ws) v (sym e)))
+by-head (ForCommand s) ws h = handle-bounded (dueWordOf 4 (2 ^ 24) (drop 1 ws)) (length ws) (λ (n : ℕ). Command s n) (λ v e. (h, word-room 4 (2 ^ 24) (drop 1 ws) v (sym e)))
+by-head (ForSnapshot s) ws h = handle-bounded (dueWordOf 4 (2 ^ 24) (drop 1 ws)) (length ws) (λ (n : ℕ). Snapshot s n) (λ v e. (h, word-room 4 (2 ^ 24) (drop 1 ws) v (sym e)))
 by-head (ForClock id) ws h =
-    time-bounded (bitsOf (drop 1 ws)) (length ws) (λ (s : ℕ). thenTime (bitsOf (drop 4 ws)) (length ws) (λ (t : ℕ). frontWith (clockOf id s t) 7))
-    (λ s. time-bounded (bitsOf (drop 4 ws)) (length ws) (λ (t : ℕ). frontWith (clockOf id s t) 7) (λ t. clock-bounded id s t h))
+    time-bounded (floatBitsOf (drop 1 ws)) (length ws) (λ (s : ℕ). thenTime (floatBitsOf (drop 4 ws)) (length ws) (λ (t : ℕ). frontWith (clockOf id s t) 7))
+    (λ s. time-bounded (floatBitsOf (drop 4 ws)) (length ws) (λ (t : ℕ). frontWith (clockOf id s t) 7) (λ t. clock-bounded id s t h))
 by-head NoHead ws h = tt
 
 front-bounded : (w : ℕ) (ws : List ℕ) → Bounded (frontOf w ws .message)

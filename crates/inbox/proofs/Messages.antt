@@ -14,8 +14,8 @@ use Rattle.inbox.specs.declared.Bits.the-variants.{Are, BitsWrong, BitsC
 use Rattle.inbox.specs.declared.Message.{Message}
 use Rattle.inbox.specs.declared.Message.the-variants.{Command, Snapshot}
 use Rattle.inbox.specs.declared.Step.{Step}
-use Rattle.inbox.specs.Inbox.{wordOf, headOf, bitsOf, clockOf, Front, frontWith, thenHandle, thenTime, byHead, frontOf, messagesAfter, messagesOf, stepBy}
-use Rattle.inbox.specs.Inbox.{stepIn, stepOf}
+use Rattle.inbox.specs.Inbox.{dueWordOf, headOf, floatBitsOf, clockOf, Front, frontWith, thenHandle, thenTime, byHead, frontOf, messagesAfter, messagesOf, stepBy}
+use Rattle.inbox.specs.Inbox.{stepIn, readAt}
 
 -- ---- a message takes a word or more
 
@@ -30,12 +30,12 @@ time-size BitsWrong n f h g = h
 time-size BitsCut n f h g = h
 
 head-size : (d : Head) (w : ℕ) (ws : List ℕ) → 1 ≤ byHead d (w ∷ ws) .size
-head-size (ForCommand s) w ws = handle-size (wordOf 4 (2 ^ 24) ws) (length (w ∷ ws)) (λ (h : ℕ). Command s h) (omega arith)
-head-size (ForSnapshot s) w ws = handle-size (wordOf 4 (2 ^ 24) ws) (length (w ∷ ws)) (λ (h : ℕ). Snapshot s h) (omega arith)
+head-size (ForCommand s) w ws = handle-size (dueWordOf 4 (2 ^ 24) ws) (length (w ∷ ws)) (λ (h : ℕ). Command s h) (omega arith)
+head-size (ForSnapshot s) w ws = handle-size (dueWordOf 4 (2 ^ 24) ws) (length (w ∷ ws)) (λ (h : ℕ). Snapshot s h) (omega arith)
 head-size (ForClock id) w ws =
     let all = length (w ∷ ws) in
-    time-size (bitsOf (drop 1 (w ∷ ws))) all (λ (s : ℕ). thenTime (bitsOf (drop 4 (w ∷ ws))) all (λ (t : ℕ). frontWith (clockOf id s t) 7)) (omega arith)
-    (λ s. time-size (bitsOf (drop 4 (w ∷ ws))) all (λ (t : ℕ). frontWith (clockOf id s t) 7) (omega arith) (λ t. omega arith))
+    time-size (floatBitsOf (drop 1 (w ∷ ws))) all (λ (s : ℕ). thenTime (floatBitsOf (drop 4 (w ∷ ws))) all (λ (t : ℕ). frontWith (clockOf id s t) 7)) (omega arith)
+    (λ s. time-size (floatBitsOf (drop 4 (w ∷ ws))) all (λ (t : ℕ). frontWith (clockOf id s t) 7) (omega arith) (λ t. omega arith))
 head-size NoHead w ws = omega arith
 
 -- words that belong to the message before are passed over
@@ -53,8 +53,8 @@ module _ (l : List ℕ) (at : ℕ) (h : at < length l) where
   abbrev ws : List ℕ
   ws = drop (suc at) l
 
-  here : stepBy at (frontOf w ws) ≡ stepOf l at
-  unfolding stepOf
+  here : stepBy at (frontOf w ws) ≡ readAt l at
+  unfolding readAt
   here = sym (ap (stepIn at) (drop-cons l at 0 h))
 
   front-size : 1 ≤ frontOf w ws .size
@@ -62,15 +62,15 @@ module _ (l : List ℕ) (at : ℕ) (h : at < length l) where
   front-size = head-size (headOf w) w ws
 
   -- the place after a message is further on: the measure of a loop falls
-  pub next-after : at < stepOf l at .next
+  pub next-after : at < readAt l at .next
   next-after = omega (arith, ap (λ (s : Step). s .next) here, front-size)
 
   -- the messages from a place on are the message at it, and then those from the next place on
-  pub messages-next : messagesOf (drop at l) ≡ stepOf l at .message ∷ messagesOf (drop (stepOf l at .next) l)
+  pub messages-next : messagesOf (drop at l) ≡ readAt l at .message ∷ messagesOf (drop (readAt l at .next) l)
   unfolding messagesAfter
   messages-next =
-      let n : suc at + (frontOf w ws .size - 1) ≡ stepOf l at .next = omega (arith, ap (λ (s : Step). s .next) here, front-size) in
-      let e : messagesAfter (frontOf w ws .size - 1) ws ≡ messagesOf (drop (stepOf l at .next) l) =
+      let n : suc at + (frontOf w ws .size - 1) ≡ readAt l at .next = omega (arith, ap (λ (s : Step). s .next) here, front-size) in
+      let e : messagesAfter (frontOf w ws .size - 1) ws ≡ messagesOf (drop (readAt l at .next) l) =
       skipped (frontOf w ws .size - 1) ws ∙ ap messagesOf (drop-drop (frontOf w ws .size - 1) (suc at) l ∙ ap (λ (k : ℕ). drop k l) n) in
       ap messagesOf (drop-cons l at 0 h) ∙ (λ i. here i .message ∷ e i)
 
@@ -80,5 +80,5 @@ unfolding messagesAfter
 messages-end l at h = ap messagesOf (drop-of-length-le l h)
 
 -- what a loop that goes from message to message has left falls
-pub left-falls : (l : List ℕ) (at : ℕ) (s : Step) → at < length l → s ≡ stepOf l at → length l - s .next < length l - at
+pub left-falls : (l : List ℕ) (at : ℕ) (s : Step) → at < length l → s ≡ readAt l at → length l - s .next < length l - at
 left-falls l at s h e = omega (arith, next-after l at h, ap (λ (x : Step). x .next) e)

@@ -6,7 +6,7 @@ use Prim.Native.Nat.{ℕ, _<_, _≤_}
 use lib.ListN.{length, drop}
 use Rattle.inbox.specs.declared.Message.{Message}
 use Rattle.inbox.specs.declared.Step.{Step}
-use Rattle.inbox.specs.Inbox.{messagesOf, stepOf}
+use Rattle.inbox.specs.Inbox.{messagesOf, readAt}
 use Rattle.inbox.specs.Passes.{over}
 use Rattle.inbox.proofs.Messages.{messages-next, messages-end}
 
@@ -20,7 +20,7 @@ pass-start g a words = record { whole = refl }
 
 -- from a place to the next: the state takes the message that stands there
 pub pass-step : {A : Type 0} {g : A → Message → A} {start : A} {words : List ℕ} {at : ℕ} {a : A} (s : Step) (b : A)
-    → at < length words → s ≡ stepOf words at → b ≡ g a (s .message) → Passes g start words at a → Passes g start words (s .next) b
+    → at < length words → s ≡ readAt words at → b ≡ g a (s .message) → Passes g start words at a → Passes g start words (s .next) b
 pass-step {A} {g} {start} {words} {at} {a} s b h e p q =
     record {
       whole =

@@ -61,7 +61,7 @@ use denote.Exit.{yes, unchanged}
 use Rattle.inbox.specs.declared.Message.{Message}
 use Rattle.inbox.specs.declared.Step.{Step}
 use Rattle.inbox.specs.declared.reader.Reader.{Reader}
-use Rattle.inbox.specs.Inbox.{messagesOf, stepOf}
+use Rattle.inbox.specs.Inbox.{messagesOf, readAt}
 use Rattle.inbox.specs.Passes.{over}
 use Rattle.inbox.specs.Reader.{readerAt, moreOf, nextOf, movedTo}
 use Rattle.inbox.proofs.Messages.{left-falls}
@@ -232,8 +232,8 @@ module _ (R : RattleType) (g : R .Denot → Message → R .Denot) (κ : Lft) (s 
 
     -- after a turn
     module _ (h : Holds b) (f : Step) (ef : f ≡ nextOf (t .d)) where
-      read : f ≡ stepOf l (t .d .at)
-      read = ef ∙ ap (λ (x : RefT (List ℕ)). stepOf (now x) (t .d .at)) (t .same)
+      read : f ≡ readAt l (t .d .at)
+      read = ef ∙ ap (λ (x : RefT (List ℕ)). readAt (now x) (t .d .at)) (t .same)
 
       turned : (r : Reader) (v : Val) (m : R .Denot) (x : Val) → Is (B (κ, tt)) r (v ∷ []) → Is R m (x ∷ []) → m ≡ g (t .n) (f .message) → r ≡ movedTo (t .d) (f .next) → Head
       turned r v m x is′ isn′ em er = record {

@@ -10,7 +10,7 @@ use lib.Dec.{ltb}
 use borrow.Author.Tests.{lt-ltb, le-ltb, ltb-true, ltb-false, eq-eqb, ne-eqb}
 use Rattle.inbox.specs.declared.Message.{Message}
 use Rattle.inbox.specs.declared.Message.the-variants.{Command, Snapshot, Clock, BadTime, WrongWord, CutShort}
-use Rattle.inbox.specs.Inbox.{messagesOf, numberOf, lowestOf, isRefused, some, refusalIn, refusalOf}
+use Rattle.inbox.specs.Inbox.{messagesOf, messageNumberOf, lowestOf, isRefused, some, refusalIn, refusalOf}
 use Rattle.inbox.specs.Inner.{lowestWith, lowestIn}
 use Rattle.inbox.specs.Passes.{over}
 
@@ -59,7 +59,7 @@ lowest-three (suc a) (suc b) (suc c) =
     three = omega arith
 
 -- ---- the refusal of a list of messages is the lowest of the first's number and that of the others
-pub refusal-next : (m : Message) (ms : List Message) → refusalIn (m ∷ ms) ≡ lowestOf (numberOf m) (refusalIn ms)
+pub refusal-next : (m : Message) (ms : List Message) → refusalIn (m ∷ ms) ≡ lowestOf (messageNumberOf m) (refusalIn ms)
 unfolding refusalIn
 refusal-next (Command s h) ms = refl
 refusal-next (Snapshot s h) ms = refl
@@ -88,13 +88,13 @@ refusal-next CutShort ms = go (some (isRefused 4) ms) (some (isRefused 5) ms) (s
 
 -- ---- a pass over an inbox finds the lowest
 -- the lower of a refusal and a message's, by the message's number
-pub lowest-with : (found : ℕ) (m : Message) {n r : ℕ} → n ≡ numberOf m → r ≡ lowestOf found n → r ≡ lowestWith found m
+pub lowest-with : (found : ℕ) (m : Message) {n r : ℕ} → n ≡ messageNumberOf m → r ≡ lowestOf found n → r ≡ lowestWith found m
 lowest-with found m e f = f ∙ ap (lowestOf found) e
 
 lowest-over : (found : ℕ) (ms : List Message) → over lowestWith found ms ≡ lowestOf found (refusalIn ms)
 unfolding refusalIn
 lowest-over found [] = sym (lowest-none found)
-lowest-over found (m ∷ ms) = lowest-over (lowestWith found m) ms ∙ lowest-three found (numberOf m) (refusalIn ms) ∙ ap (lowestOf found) (sym (refusal-next m ms))
+lowest-over found (m ∷ ms) = lowest-over (lowestWith found m) ms ∙ lowest-three found (messageNumberOf m) (refusalIn ms) ∙ ap (lowestOf found) (sym (refusal-next m ms))
 
 pub lowest-folds : (words : List ℕ) (found : ℕ) → over lowestWith found (messagesOf words) ≡ lowestIn words found
 unfolding lowestIn

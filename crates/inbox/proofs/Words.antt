@@ -19,7 +19,7 @@ use Rattle.inbox.specs.declared.Time.{Time}
 use Rattle.inbox.specs.declared.Message.{Message}
 use Rattle.inbox.specs.declared.Message.the-variants.{Command, Snapshot, WrongWord, CutShort}
 use Rattle.inbox.specs.declared.Step.{Step}
-use Rattle.inbox.specs.Inbox.{restOf, isWord, stampFrom, wordOf, headOf, joinedOf, thenBits, bitsOf, timeOf, pickClock, clockOf, Front, frontWith, thenHandle, thenTime, byHead, frontOf, stepBy, stepIn, stepOf}
+use Rattle.inbox.specs.Inbox.{lowBitsOf, isWord, stampFrom, dueWordOf, headOf, joinedOf, thenBits, floatBitsOf, inboxTimeOf, pickClock, clockOf, Front, frontWith, thenHandle, thenTime, byHead, frontOf, stepBy, stepIn, readAt}
 
 -- ---- one word
 
@@ -41,26 +41,26 @@ spare-bits k room w h = ap (λ (t : Bool). eqb (w / 268435456) k && t) (le-ltb (
 
 module _ (k room : ℕ) (l : List ℕ) (at : ℕ) where
   -- past the end there is no word
-  pub word-none : length l ≤ at → Missing ≡ wordOf k room (drop at l)
-  word-none h = sym (ap (wordOf k room) (drop-of-length-le l h))
+  pub word-none : length l ≤ at → Missing ≡ dueWordOf k room (drop at l)
+  word-none h = sym (ap (dueWordOf k room) (drop-of-length-le l h))
 
-  word-there : (t : Bool) → at < length l → isWord k room (getD l at 0) ≡ t → cond t (Value (restOf (getD l at 0))) Wrong ≡ wordOf k room (drop at l)
-  word-there t h e = sym (ap (wordOf k room) (drop-cons l at 0 h) ∙ ap (λ (b : Bool). cond b (Value (restOf (getD l at 0))) Wrong) e)
+  word-there : (t : Bool) → at < length l → isWord k room (getD l at 0) ≡ t → cond t (Value (lowBitsOf (getD l at 0))) Wrong ≡ dueWordOf k room (drop at l)
+  word-there t h e = sym (ap (dueWordOf k room) (drop-cons l at 0 h) ∙ ap (λ (b : Bool). cond b (Value (lowBitsOf (getD l at 0))) Wrong) e)
 
   -- the word at a place has its value
-  pub word-value : at < length l → getD l at 0 / 268435456 ≡ k → getD l at 0 % 268435456 < room → Value (getD l at 0 % 268435456) ≡ wordOf k room (drop at l)
+  pub word-value : at < length l → getD l at 0 / 268435456 ≡ k → getD l at 0 % 268435456 < room → Value (getD l at 0 % 268435456) ≡ dueWordOf k room (drop at l)
   word-value h e g = word-there true h (is-word k room (getD l at 0) e g)
 
   -- the word at a place is wrong by its kind
-  pub word-kind : at < length l → (getD l at 0 / 268435456 ≡ k → ⊥) → Wrong ≡ wordOf k room (drop at l)
+  pub word-kind : at < length l → (getD l at 0 / 268435456 ≡ k → ⊥) → Wrong ≡ dueWordOf k room (drop at l)
   word-kind h e = word-there false h (other-kind k room (getD l at 0) e)
 
   -- the word at a place is wrong by a spare bit
-  pub word-spare : at < length l → room ≤ getD l at 0 % 268435456 → Wrong ≡ wordOf k room (drop at l)
+  pub word-spare : at < length l → room ≤ getD l at 0 % 268435456 → Wrong ≡ dueWordOf k room (drop at l)
   word-spare h e = word-there false h (spare-bits k room (getD l at 0) e)
 
 -- a value that a word of a kind says is below the kind's room
-pub word-room : (k room : ℕ) (l : List ℕ) (v : ℕ) → Value v ≡ wordOf k room l → v < room
+pub word-room : (k room : ℕ) (l : List ℕ) (v : ℕ) → Value v ≡ dueWordOf k room l → v < room
 word-room k room [] v e = absurd (let z : _≡_ {A = ℕ} 0 1 = cc in omega arith)
 word-room k room (w ∷ l) v e = go (eqb (w / 268435456) k) (ltb (w % 268435456) room) refl e
   where
@@ -74,8 +74,8 @@ word-room k room (w ∷ l) v e = go (eqb (w / 268435456) k) (ltb (w % 268435456)
 -- ---- the first word of a message, by its kind and its rest
 module _ (w : ℕ) where
   heads : (a b c : Bool) → isWord 1 (2 ^ 16) w ≡ a → isWord 2 (2 ^ 16) w ≡ b → isWord 3 (2 ^ 28) w ≡ c
-      → cond a (ForCommand (stampFrom (restOf w))) (cond b (ForSnapshot (stampFrom (restOf w))) (cond c (ForClock (restOf w)) NoHead)) ≡ headOf w
-  heads a b c p q r = sym (λ i. cond (p i) (ForCommand (stampFrom (restOf w))) (cond (q i) (ForSnapshot (stampFrom (restOf w))) (cond (r i) (ForClock (restOf w)) NoHead)))
+      → cond a (ForCommand (stampFrom (lowBitsOf w))) (cond b (ForSnapshot (stampFrom (lowBitsOf w))) (cond c (ForClock (lowBitsOf w)) NoHead)) ≡ headOf w
+  heads a b c p q r = sym (λ i. cond (p i) (ForCommand (stampFrom (lowBitsOf w))) (cond (q i) (ForSnapshot (stampFrom (lowBitsOf w))) (cond (r i) (ForClock (lowBitsOf w)) NoHead)))
 
   -- kind 1, and a rest of 16 bits
   pub head-command : w / 268435456 ≡ 1 → w % 268435456 < 65536 → ForCommand (stampFrom (w % 268435456)) ≡ headOf w
@@ -101,26 +101,26 @@ module _ (w : ℕ) where
 module _ (l : List ℕ) (at : ℕ) where
   -- the word of the high 8 bits
   abbrev pub first : Word
-  first = wordOf 5 (2 ^ 8) (drop at l)
+  first = dueWordOf 5 (2 ^ 8) (drop at l)
 
   -- the word of the middle 28 bits
   abbrev pub second : Word
-  second = wordOf 5 (2 ^ 28) (drop (at + 1) l)
+  second = dueWordOf 5 (2 ^ 28) (drop (at + 1) l)
 
   -- the word of the low 28 bits
   abbrev pub third : Word
-  third = wordOf 5 (2 ^ 28) (drop (at + 2) l)
+  third = dueWordOf 5 (2 ^ 28) (drop (at + 2) l)
 
   -- the three words that were read say the bits
-  pub three : (x y z : Word) → x ≡ first → y ≡ second → z ≡ third → thenBits x (λ a. thenBits y (λ b. thenBits z (λ c. Are (joinedOf a b c)))) ≡ bitsOf (drop at l)
-  unfolding bitsOf
+  pub three : (x y z : Word) → x ≡ first → y ≡ second → z ≡ third → thenBits x (λ a. thenBits y (λ b. thenBits z (λ c. Are (joinedOf a b c)))) ≡ floatBitsOf (drop at l)
+  unfolding floatBitsOf
   three x y z p q r =
-      let q′ : y ≡ wordOf 5 (2 ^ 28) (drop 1 (drop at l)) = q ∙ ap (wordOf 5 (2 ^ 28)) (sym (drop-drop 1 at l)) in
-      let r′ : z ≡ wordOf 5 (2 ^ 28) (drop 2 (drop at l)) = r ∙ ap (wordOf 5 (2 ^ 28)) (sym (drop-drop 2 at l)) in
+      let q′ : y ≡ dueWordOf 5 (2 ^ 28) (drop 1 (drop at l)) = q ∙ ap (dueWordOf 5 (2 ^ 28)) (sym (drop-drop 1 at l)) in
+      let r′ : z ≡ dueWordOf 5 (2 ^ 28) (drop 2 (drop at l)) = r ∙ ap (dueWordOf 5 (2 ^ 28)) (sym (drop-drop 2 at l)) in
       λ i. thenBits (p i) (λ a. thenBits (q′ i) (λ b. thenBits (r′ i) (λ c. Are (joinedOf a b c))))
 
 -- ---- a clock's two times
-pub clock-by : (id s t : ℕ) (x y : Time) → x ≡ timeOf s → y ≡ timeOf t → pickClock id x y ≡ clockOf id s t
+pub clock-by : (id s t : ℕ) (x y : Time) → x ≡ inboxTimeOf s → y ≡ inboxTimeOf t → pickClock id x y ≡ clockOf id s t
 unfolding clockOf
 clock-by id s t x y p q = λ i. pickClock id (p i) (q i)
 
@@ -131,8 +131,8 @@ module _ (l : List ℕ) (at : ℕ) where
   w = getD l at 0
 
   -- the step by the first word
-  pub step-at : at < length l → stepBy at (byHead (headOf w) (drop at l)) ≡ stepOf l at
-  unfolding stepOf frontOf
+  pub step-at : at < length l → stepBy at (byHead (headOf w) (drop at l)) ≡ readAt l at
+  unfolding readAt frontOf
   step-at h = let e = drop-cons l at 0 h in ap (λ (ws : List ℕ). stepBy at (byHead (headOf w) ws)) e ∙ sym (ap (stepIn at) e)
 
   whole : at < length l → at + length (drop at l) ≡ length l
@@ -154,23 +154,23 @@ module _ (l : List ℕ) (at : ℕ) where
 
   -- the word after the first, where a handle is due
   abbrev pub handle : Word
-  handle = wordOf 4 (2 ^ 24) (drop (at + 1) l)
+  handle = dueWordOf 4 (2 ^ 24) (drop (at + 1) l)
 
-  handle-is : handle ≡ wordOf 4 (2 ^ 24) (drop 1 (drop at l))
-  handle-is = ap (wordOf 4 (2 ^ 24)) (sym (drop-drop 1 at l))
+  handle-is : handle ≡ dueWordOf 4 (2 ^ 24) (drop 1 (drop at l))
+  handle-is = ap (dueWordOf 4 (2 ^ 24)) (sym (drop-drop 1 at l))
 
   -- a command, or what is wrong with its handle
-  pub step-command : at < length l → (s : Timestamp) (x : Word) → ForCommand s ≡ headOf w → x ≡ handle → handled x (λ (n : ℕ). Command s n) ≡ stepOf l at
+  pub step-command : at < length l → (s : Timestamp) (x : Word) → ForCommand s ≡ headOf w → x ≡ handle → handled x (λ (n : ℕ). Command s n) ≡ readAt l at
   step-command h s x e p =
       handled-is h x (λ (n : ℕ). Command s n) ∙ ap (λ (y : Word). stepBy at (thenHandle y (length (drop at l)) (λ (n : ℕ). Command s n))) (p ∙ handle-is) ∙ ap (λ (d : Head). stepBy at (byHead d (drop at l))) e ∙ step-at h
 
   -- a snapshot, or what is wrong with its handle
-  pub step-snapshot : at < length l → (s : Timestamp) (x : Word) → ForSnapshot s ≡ headOf w → x ≡ handle → handled x (λ (n : ℕ). Snapshot s n) ≡ stepOf l at
+  pub step-snapshot : at < length l → (s : Timestamp) (x : Word) → ForSnapshot s ≡ headOf w → x ≡ handle → handled x (λ (n : ℕ). Snapshot s n) ≡ readAt l at
   step-snapshot h s x e p =
       handled-is h x (λ (n : ℕ). Snapshot s n) ∙ ap (λ (y : Word). stepBy at (thenHandle y (length (drop at l)) (λ (n : ℕ). Snapshot s n))) (p ∙ handle-is) ∙ ap (λ (d : Head). stepBy at (byHead d (drop at l))) e ∙ step-at h
 
   -- no message begins with the word
-  pub step-wrong : at < length l → NoHead ≡ headOf w → ended WrongWord (length l) ≡ stepOf l at
+  pub step-wrong : at < length l → NoHead ≡ headOf w → ended WrongWord (length l) ≡ readAt l at
   step-wrong h e = sym (ap (ended WrongWord) (whole h)) ∙ ap (λ (d : Head). stepBy at (byHead d (drop at l))) e ∙ step-at h
 
   -- the answer by the two floats' bits
@@ -192,8 +192,8 @@ module _ (l : List ℕ) (at : ℕ) where
   timed-is h id BitsCut y = sym (ap (ended CutShort) (whole h))
 
   -- a clock message, or what is wrong with its words
-  pub step-clock : at < length l → (id : ℕ) (x y : Bits) → ForClock id ≡ headOf w → x ≡ bitsOf (drop (at + 1) l) → y ≡ bitsOf (drop (at + 4) l) → timed id x y ≡ stepOf l at
+  pub step-clock : at < length l → (id : ℕ) (x y : Bits) → ForClock id ≡ headOf w → x ≡ floatBitsOf (drop (at + 1) l) → y ≡ floatBitsOf (drop (at + 4) l) → timed id x y ≡ readAt l at
   step-clock h id x y e p q =
-      let p′ : x ≡ bitsOf (drop 1 (drop at l)) = p ∙ ap bitsOf (sym (drop-drop 1 at l)) in
-      let q′ : y ≡ bitsOf (drop 4 (drop at l)) = q ∙ ap bitsOf (sym (drop-drop 4 at l)) in
+      let p′ : x ≡ floatBitsOf (drop 1 (drop at l)) = p ∙ ap floatBitsOf (sym (drop-drop 1 at l)) in
+      let q′ : y ≡ floatBitsOf (drop 4 (drop at l)) = q ∙ ap floatBitsOf (sym (drop-drop 4 at l)) in
       timed-is h id x y ∙ (λ i. stepBy at (clocked id (p′ i) (q′ i))) ∙ ap (λ (d : Head). stepBy at (byHead d (drop at l))) e ∙ step-at h

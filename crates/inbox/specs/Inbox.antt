@@ -25,32 +25,32 @@ use Rattle.inbox.specs.declared.Step.{Step}
 -- ---- one word
 
 -- the kind of a word: its top 4 bits
-abbrev pub kindOf : ℕ → ℕ
-kindOf w = w / 2 ^ 28
+abbrev pub kindIn : ℕ → ℕ
+kindIn w = w / 2 ^ 28
 
 -- the other 28 bits of a word
-abbrev pub restOf : ℕ → ℕ
-restOf w = w % 2 ^ 28
+abbrev pub lowBitsOf : ℕ → ℕ
+lowBitsOf w = w % 2 ^ 28
 
 -- a word of the kind k whose value is below room = 2 ^ n: the value is in the low n bits, and the bits between it and the kind are 0
 abbrev pub isWord : ℕ → ℕ → ℕ → Bool
-isWord k room w = eqb (kindOf w) k && ltb (restOf w) room
+isWord k room w = eqb (kindIn w) k && ltb (lowBitsOf w) room
 
 -- the stamp of 16 bits
 abbrev pub stampFrom : ℕ → Timestamp
 stampFrom n = record { 0 = n }
 
 -- what a list of words starts with, where a word of the kind k is due: its value, a wrong word, or no word
-abbrev pub wordOf : ℕ → ℕ → List ℕ → Word
-wordOf k room [] = Missing
-wordOf k room (w ∷ ws) = cond (isWord k room w) (Value (restOf w)) Wrong
+abbrev pub dueWordOf : ℕ → ℕ → List ℕ → Word
+dueWordOf k room [] = Missing
+dueWordOf k room (w ∷ ws) = cond (isWord k room w) (Value (lowBitsOf w)) Wrong
 
 -- the first word of a message: 1 command and 2 snapshot, low 16 bits stamp; 3 clock, low 28 bits client id; any other is wrong there
 abbrev pub headOf : ℕ → Head
 headOf w =
-    cond (isWord 1 (2 ^ 16) w) (ForCommand (stampFrom (restOf w)))
-    (cond (isWord 2 (2 ^ 16) w) (ForSnapshot (stampFrom (restOf w)))
-    (cond (isWord 3 (2 ^ 28) w) (ForClock (restOf w)) NoHead))
+    cond (isWord 1 (2 ^ 16) w) (ForCommand (stampFrom (lowBitsOf w)))
+    (cond (isWord 2 (2 ^ 16) w) (ForSnapshot (stampFrom (lowBitsOf w)))
+    (cond (isWord 3 (2 ^ 28) w) (ForClock (lowBitsOf w)) NoHead))
 
 -- ---- a float of three words
 
@@ -65,9 +65,9 @@ thenBits Wrong k = BitsWrong
 thenBits Missing k = BitsCut
 
 -- the float that a list of words starts with, by its bits: three words of kind 5
-unfoldable pub bitsOf : List ℕ → Bits
-bitsOf ws =
-    thenBits (wordOf 5 (2 ^ 8) ws) (λ high. thenBits (wordOf 5 (2 ^ 28) (drop 1 ws)) (λ middle. thenBits (wordOf 5 (2 ^ 28) (drop 2 ws)) (λ low. Are (joinedOf high middle low))))
+unfoldable pub floatBitsOf : List ℕ → Bits
+floatBitsOf ws =
+    thenBits (dueWordOf 5 (2 ^ 8) ws) (λ high. thenBits (dueWordOf 5 (2 ^ 28) (drop 1 ws)) (λ middle. thenBits (dueWordOf 5 (2 ^ 28) (drop 2 ws)) (λ low. Are (joinedOf high middle low))))
 
 -- a time is finite and within 2 ^ 32 on both sides of 0; a NaN is not, since it compares as false
 abbrev pub timeOk : Float → Bool
@@ -79,8 +79,8 @@ pickTime true x = At x
 pickTime false x = OutOfRange
 
 -- the time that 64 bits say
-unfoldable pub timeOf : ℕ → Time
-timeOf n = pickTime (timeOk (ofBits binary64 n)) (ofBits binary64 n)
+unfoldable pub inboxTimeOf : ℕ → Time
+inboxTimeOf n = pickTime (timeOk (ofBits binary64 n)) (ofBits binary64 n)
 
 -- a clock message of two times
 abbrev pub pickClock : ℕ → Time → Time → Message
@@ -90,7 +90,7 @@ pickClock id OutOfRange t = BadTime
 
 -- a clock message of a client id and the bits of its send time and its server time
 unfoldable pub clockOf : ℕ → ℕ → ℕ → Message
-clockOf id send server = pickClock id (timeOf send) (timeOf server)
+clockOf id send server = pickClock id (inboxTimeOf send) (inboxTimeOf server)
 
 -- ---- the first message of a list of words
 
@@ -117,9 +117,9 @@ thenTime BitsCut all f = frontWith CutShort all
 
 -- the first message by its first word: a handle of 24 bits in a word of kind 4 after a command's or a snapshot's, two floats after a clock's
 abbrev pub byHead : Head → List ℕ → Front
-byHead (ForCommand s) ws = thenHandle (wordOf 4 handleRoom (drop 1 ws)) (length ws) (λ h. Command s h)
-byHead (ForSnapshot s) ws = thenHandle (wordOf 4 handleRoom (drop 1 ws)) (length ws) (λ h. Snapshot s h)
-byHead (ForClock id) ws = thenTime (bitsOf (drop 1 ws)) (length ws) (λ send. thenTime (bitsOf (drop 4 ws)) (length ws) (λ server. frontWith (clockOf id send server) 7))
+byHead (ForCommand s) ws = thenHandle (dueWordOf 4 handleRoom (drop 1 ws)) (length ws) (λ h. Command s h)
+byHead (ForSnapshot s) ws = thenHandle (dueWordOf 4 handleRoom (drop 1 ws)) (length ws) (λ h. Snapshot s h)
+byHead (ForClock id) ws = thenTime (floatBitsOf (drop 1 ws)) (length ws) (λ send. thenTime (floatBitsOf (drop 4 ws)) (length ws) (λ server. frontWith (clockOf id send server) 7))
 byHead NoHead ws = frontWith WrongWord (length ws)
 
 -- the first message of the words w ∷ ws
@@ -150,19 +150,19 @@ stepIn at [] = record { message = CutShort; next = at }
 stepIn at (w ∷ ws) = stepBy at (frontOf w ws)
 
 -- the message at a place of an inbox, and the place after it
-unfoldable pub stepOf : List ℕ → ℕ → Step
-stepOf ws at = stepIn at (drop at ws)
+unfoldable pub readAt : List ℕ → ℕ → Step
+readAt ws at = stepIn at (drop at ws)
 
 -- ---- refusals
 
 -- the number of 01 for each case: 4 a word of wrong kind, place or spare bits, 5 the inbox ends inside a message, 6 a clock time not finite or beyond 2 ^ 32, and 0 for a message
-abbrev pub numberOf : Message → ℕ
-numberOf (Command s h) = accepted
-numberOf (Snapshot s h) = accepted
-numberOf (Clock i s t) = accepted
-numberOf BadTime = clockTimeRefusal
-numberOf WrongWord = wordRefusal
-numberOf CutShort = cutRefusal
+abbrev pub messageNumberOf : Message → ℕ
+messageNumberOf (Command s h) = accepted
+messageNumberOf (Snapshot s h) = accepted
+messageNumberOf (Clock i s t) = accepted
+messageNumberOf BadTime = clockTimeRefusal
+messageNumberOf WrongWord = wordRefusal
+messageNumberOf CutShort = cutRefusal
 
 -- the lower of two refusals, where 0 is none
 abbrev pub lowestOf : ℕ → ℕ → ℕ
@@ -170,7 +170,7 @@ lowestOf a b = cond (eqb a 0) b (cond (eqb b 0) a (cond (ltb b a) b a))
 
 -- whether a message stands for the refusal n
 abbrev pub isRefused : ℕ → Message → Bool
-isRefused n m = eqb (numberOf m) n
+isRefused n m = eqb (messageNumberOf m) n
 
 -- whether some message of a list passes a test
 abbrev pub some : (Message → Bool) → List Message → Bool

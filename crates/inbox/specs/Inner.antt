@@ -3,11 +3,11 @@
 use Prim.Native.Nat.{ℕ}
 use mathlib.Core.List.{List}
 use Rattle.inbox.specs.declared.Message.{Message}
-use Rattle.inbox.specs.Inbox.{messagesOf, numberOf, lowestOf, refusalIn}
+use Rattle.inbox.specs.Inbox.{messagesOf, messageNumberOf, lowestOf, refusalIn}
 
 -- the lower of a refusal and the one that a message stands for
 abbrev pub lowestWith : ℕ → Message → ℕ
-lowestWith found m = lowestOf found (numberOf m)
+lowestWith found m = lowestOf found (messageNumberOf m)
 
 -- the lowest of a refusal and those of an inbox's messages
 unfoldable pub lowestIn : List ℕ → ℕ → ℕ

@@ -8,7 +8,7 @@ use lib.Dec.{ltb}
 use denote.Ref.{RefT, now}
 use Rattle.inbox.specs.declared.Step.{Step}
 use Rattle.inbox.specs.declared.reader.Reader.{Reader}
-use Rattle.inbox.specs.Inbox.{stepOf}
+use Rattle.inbox.specs.Inbox.{readAt}
 
 -- a reader of the words at a position
 abbrev pub readerAt : RefT (List ℕ) → ℕ → Reader
@@ -20,7 +20,7 @@ moreOf r = ltb (r .at) (length (now (r .words)))
 
 -- the message at the position, and the place after it
 abbrev pub nextOf : Reader → Step
-nextOf r = stepOf (now (r .words)) (r .at)
+nextOf r = readAt (now (r .words)) (r .at)
 
 -- the same words at another position
 abbrev pub movedTo : Reader → ℕ → Reader

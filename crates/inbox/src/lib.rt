@@ -4,7 +4,7 @@
 ghost use mathlib.Core.Path.{_≡_};
 ghost use Prim.Native.Nat.{_+_, _≤_, _<_};
 ghost use lib.ListN.{length, drop};
-ghost use Rattle.inbox.specs.Inbox.{wordOf, headOf, joinedOf, bitsOf, timeOf, clockOf, stepOf, numberOf, lowestOf, refusalOf};
+ghost use Rattle.inbox.specs.Inbox.{dueWordOf, headOf, joinedOf, floatBitsOf, inboxTimeOf, clockOf, readAt, messageNumberOf, lowestOf, refusalOf};
 ghost use Rattle.inbox.specs.Inner.{lowestWith, lowestIn};
 use timestamp::Timestamp;
 
@@ -91,7 +91,7 @@ fn lowest_with(found: u32, m: Message) -> u32
 // The message at a place, and the place after it.
 pub fn message_at(words: &[u32], at: usize) -> Step
     requires { ⌜ at < length (now words) ⌝ }
-    ensures { λ r. ⌜ r ≡ stepOf (now (words .entry)) at ⌝ }
+    ensures { λ r. ⌜ r ≡ readAt (now (words .entry)) at ⌝ }
 {
     let all = words.len();
     match head_of(words[at]) {
@@ -162,7 +162,7 @@ pub fn message_at(words: &[u32], at: usize) -> Step
 
 // The refusal that a message stands for, or 0.
 pub fn number_of(m: Message) -> u32
-    ensures { λ r. ⌜ r ≡ numberOf m ⌝ }
+    ensures { λ r. ⌜ r ≡ messageNumberOf m ⌝ }
 {
     match m {
         Message::Command {
@@ -223,7 +223,7 @@ fn head_of(w: u32) -> Head
 
 // The value of the word at a place, if it is of the kind and its value below room.
 fn word_at(words: &[u32], at: usize, kind: u32, room: u32) -> Word
-    ensures { λ r. ⌜ r ≡ wordOf kind room (drop at (now (words .entry))) ⌝ }
+    ensures { λ r. ⌜ r ≡ dueWordOf kind room (drop at (now (words .entry))) ⌝ }
 {
     if words.len() <= at {
         return Word::Missing;
@@ -243,7 +243,7 @@ fn word_at(words: &[u32], at: usize, kind: u32, room: u32) -> Word
 // The bits of a float that the three words at a place say.
 fn bits_at(words: &[u32], at: usize) -> Bits
     requires { ⌜ at + 2 ≤ 9223372036854775808 ⌝ }
-    ensures { λ r. ⌜ r ≡ bitsOf (drop at (now (words .entry))) ⌝ }
+    ensures { λ r. ⌜ r ≡ floatBitsOf (drop at (now (words .entry))) ⌝ }
 {
     match word_at(words, at, 5, 256) {
         Word::Value(high) => match word_at(words, at + 1, 5, 268435456) {
@@ -287,7 +287,7 @@ fn clock_of(id: u32, send: u64, server: u64) -> Message
 
 // The float of a pattern, if it is finite and within 2^32.
 fn time_of(bits: u64) -> Time
-    ensures { λ r. ⌜ r ≡ timeOf bits ⌝ }
+    ensures { λ r. ⌜ r ≡ inboxTimeOf bits ⌝ }
 {
     // no float is made of a NaN's pattern: but for the sign, one is above the infinity's
     let size = bits % 0x8000_0000_0000_0000;

@@ -32,7 +32,7 @@ use Rattle.clocksync.specs.declared.Ticked.{Ticked}
 use Rattle.clocksync.specs.declared.Offset.{Offset}
 use Rattle.clocksync.specs.declared.Offset.the-variants.{NoOffset, Seconds}
 use Rattle.clocksync.specs.Mean.{nothing64, meanOf}
-use Rattle.clocksync.specs.Clock.{laidOut, heldOf, timedOf, tickedOf, listenOf, heardOf, syncedOf, sampledOf, filledOf, namedOf, sampleOf, settledOf}
+use Rattle.clocksync.specs.Clock.{laidOut, heldOf, timedOf, tickedOf, listenOf, heardOf, offsetAfter, sampledOf, filledOf, namedOf, sampleOf, settledOf}
 use Rattle.clocksync.specs.Clock.{serverSecondsOf, readyOf, offsetOk, soundClock}
 use Rattle.clocksync.proofs.Sound.{sample-within, measured-ok, clock-sound, clock-timer-fits}
 use Rattle.clocksync.proofs.Ready.{hasOffset, hasId, ready-id, heard-id, ready-stays, first-offset-ready}
@@ -250,7 +250,7 @@ filled-slots : (s : Settings) (c : ClockState) (xs : List Float) → length xs �
 unfolding filledOf
 filled-slots s c xs h = go (ltb (length xs) (samplesToStoreOf s))
   where
-    go : (b : Bool) → length (cond {A = ClockState} b (sampledOf c (c .offset) xs) (sampledOf c (syncedOf (c .offset) (meanOf (samplesToDiscardOf s) xs) (s .deviation)) (drop 1 xs)) .samples) ≡ 64
+    go : (b : Bool) → length (cond {A = ClockState} b (sampledOf c (c .offset) xs) (sampledOf c (offsetAfter (c .offset) (meanOf (samplesToDiscardOf s) xs) (s .deviation)) (drop 1 xs)) .samples) ≡ 64
     go true = laid-slots xs h
     go false = laid-slots (drop 1 xs) (simp length-drop (omega arith))
 

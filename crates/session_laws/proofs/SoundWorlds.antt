@@ -21,7 +21,7 @@ use Rattle.client.specs.declared.Published.{Published}
 use Rattle.client.specs.declared.ClientWorldSimulations.{ClientWorldSimulations}
 use Rattle.client.specs.declared.Ledger.{Ledger}
 use Rattle.client.specs.declared.Scene.{Scene}
-use Rattle.client.specs.Sides.{newSideOf, oldSideOf, worldOf, withWorld, withBase, withSnapshots, withWeight, withPublished, withWorlds, withLedger, stampOf, oldStampOf, newStampOf, newWorldsOf, putOf, doneAt, withLeft, withRight, withLedgers}
+use Rattle.client.specs.Sides.{newSideOf, oldSideOf, worldOf, withWorld, withBase, withSnapshots, withWeight, withPublished, withWorlds, withLedger, worldStampOf, oldStampOf, newStampOf, newWorldsOf, putOf, doneAt, withLeft, withRight, withLedgers}
 use Rattle.client_frame.specs.Frame.{readiedWith, loadedAt, loadedOf}
 use Rattle.client_receive.specs.Receive.{offeredBase, offeredSide, receivedOf, fromFutureOf, freshOf, snapshotsBy, snapshotsOf, notesOf}
 
@@ -83,11 +83,11 @@ put-weight w side x = go (eqb side 0)
 
 module _ (w : ClientWorldSimulations) (x : Simulation) where
   -- the stamps after another world at the old side
-  pub old-at-old : oldStampOf (withWorld w (oldSideOf w) x) ≡ stampOf x
+  pub old-at-old : oldStampOf (withWorld w (oldSideOf w) x) ≡ worldStampOf x
   unfolding oldStampOf withWorld worldOf oldSideOf
   old-at-old = go (eqb (w .new) 0) refl
     where
-      go : (b : Bool) → eqb (w .new) 0 ≡ b → oldStampOf (cond (eqb (cond b 1 0) 0) (withLeft w x) (withRight w x)) ≡ stampOf x
+      go : (b : Bool) → eqb (w .new) 0 ≡ b → oldStampOf (cond (eqb (cond b 1 0) 0) (withLeft w x) (withRight w x)) ≡ worldStampOf x
       go true e = simp e
       go false e = simp e
 
@@ -100,11 +100,11 @@ module _ (w : ClientWorldSimulations) (x : Simulation) where
       go false e = simp e
 
   -- and at the new side
-  pub new-at-new : newStampOf (withWorld w (newSideOf w) x) ≡ stampOf x
+  pub new-at-new : newStampOf (withWorld w (newSideOf w) x) ≡ worldStampOf x
   unfolding newStampOf withWorld worldOf newSideOf
   new-at-new = go (eqb (w .new) 0) refl
     where
-      go : (b : Bool) → eqb (w .new) 0 ≡ b → newStampOf (cond (eqb (cond b 0 1) 0) (withLeft w x) (withRight w x)) ≡ stampOf x
+      go : (b : Bool) → eqb (w .new) 0 ≡ b → newStampOf (cond (eqb (cond b 0 1) 0) (withLeft w x) (withRight w x)) ≡ worldStampOf x
       go true e = simp e
       go false e = simp e
 
@@ -130,31 +130,31 @@ unfolding oldSideOf
 put-old-side w side x = ap (λ (n : ℕ). cond (eqb n 0) 1 0) (put-new w side x)
 
 -- a world of the same stamp at any side leaves both stamps
-module _ (w : ClientWorldSimulations) (side : ℕ) (x : Simulation) (e : stampOf x ≡ stampOf (worldOf w side)) where
-  same-at : (b : Bool) (other : ℕ) → stampOf x ≡ stampOf (cond b (w .left) (w .right)) → stampOf (worldOf (cond b (withLeft w x) (withRight w x)) other) ≡ stampOf (worldOf w other)
+module _ (w : ClientWorldSimulations) (side : ℕ) (x : Simulation) (e : worldStampOf x ≡ worldStampOf (worldOf w side)) where
+  same-at : (b : Bool) (other : ℕ) → worldStampOf x ≡ worldStampOf (cond b (w .left) (w .right)) → worldStampOf (worldOf (cond b (withLeft w x) (withRight w x)) other) ≡ worldStampOf (worldOf w other)
   unfolding worldOf
   same-at true other i = go (eqb other 0)
     where
-      go : (c : Bool) → stampOf (cond c x (w .right)) ≡ stampOf (cond c (w .left) (w .right))
+      go : (c : Bool) → worldStampOf (cond c x (w .right)) ≡ worldStampOf (cond c (w .left) (w .right))
       go true = i
       go false = refl
   same-at false other i = go (eqb other 0)
     where
-      go : (c : Bool) → stampOf (cond c (w .left) x) ≡ stampOf (cond c (w .left) (w .right))
+      go : (c : Bool) → worldStampOf (cond c (w .left) x) ≡ worldStampOf (cond c (w .left) (w .right))
       go true = refl
       go false = i
 
-  pub same-stamp : (other : ℕ) → stampOf (worldOf (withWorld w side x) other) ≡ stampOf (worldOf w other)
+  pub same-stamp : (other : ℕ) → worldStampOf (worldOf (withWorld w side x) other) ≡ worldStampOf (worldOf w other)
   unfolding withWorld worldOf
   same-stamp other = same-at (eqb side 0) other e
 
   pub same-old : oldStampOf (withWorld w side x) ≡ oldStampOf w
   unfolding oldStampOf oldSideOf
-  same-old = same-stamp (oldSideOf (withWorld w side x)) ∙ ap (λ (n : ℕ). stampOf (worldOf w (cond (eqb n 0) 1 0))) (put-new w side x)
+  same-old = same-stamp (oldSideOf (withWorld w side x)) ∙ ap (λ (n : ℕ). worldStampOf (worldOf w (cond (eqb n 0) 1 0))) (put-new w side x)
 
   pub same-new : newStampOf (withWorld w side x) ≡ newStampOf w
   unfolding newStampOf newSideOf
-  same-new = same-stamp (newSideOf (withWorld w side x)) ∙ ap (λ (n : ℕ). stampOf (worldOf w (cond (eqb n 0) 0 1))) (put-new w side x)
+  same-new = same-stamp (newSideOf (withWorld w side x)) ∙ ap (λ (n : ℕ). worldStampOf (worldOf w (cond (eqb n 0) 0 1))) (put-new w side x)
 
 -- ---- worlds that differ in what the weight does not depend on
 
@@ -229,7 +229,7 @@ unfolding stepOf
 step-sound w side h = moved-sound (restOf (w .commands) (nextStamp (w .commands .timestamp))) (nextStamp (w .commands .timestamp)) (rest-sound (w .commands) (nextStamp (w .commands .timestamp)) h)
 
 -- a step moves the stamp on
-pub step-stamp : (w : Simulation) (side : ℕ) → stampOf (stepOf w side .world) ≡ nextStamp (stampOf w)
+pub step-stamp : (w : Simulation) (side : ℕ) → worldStampOf (stepOf w side .world) ≡ nextStamp (worldStampOf w)
 unfolding stepOf
 step-stamp w side = moved-stamp (restOf (w .commands) (nextStamp (w .commands .timestamp))) (nextStamp (w .commands .timestamp))
 
@@ -251,11 +251,11 @@ module _ (w : Simulation) (t : Timestamp) (side : ℕ) where
       go false = moved-sound (w .commands) t h
 
   -- a reset sets the stamp
-  pub reset-stamp : stampOf (resetOf w t side .world) ≡ t
+  pub reset-stamp : worldStampOf (resetOf w t side .world) ≡ t
   unfolding resetOf
   reset-stamp = go (resetsBack t (w .commands .timestamp))
     where
-      go : (b : Bool) → stampOf (cond b (flushedOf w t side) (keptOf w t) .world) ≡ t
+      go : (b : Bool) → worldStampOf (cond b (flushedOf w t side) (keptOf w t) .world) ≡ t
       go true = emptied-stamp (movedOf (w .commands) t .buffer) ∙ moved-stamp (w .commands) t
       go false = moved-stamp (w .commands) t
 
@@ -267,7 +267,7 @@ pub scheduled-sound : (w : Simulation) (e : Entry) → e .handle < 2 ^ 24 → so
 unfolding scheduledOf
 scheduled-sound w e h k = inserted-sound (w .commands) e h k
 
-pub scheduled-stamp : (w : Simulation) (e : Entry) → stampOf (scheduledOf w e .world) ≡ stampOf w
+pub scheduled-stamp : (w : Simulation) (e : Entry) → worldStampOf (scheduledOf w e .world) ≡ worldStampOf w
 unfolding scheduledOf
 scheduled-stamp w e = inserted-stamp (w .commands) e
 

@@ -17,7 +17,7 @@ use Rattle.client.specs.declared.ClientWorldSimulations.{ClientWorldSimulations
 use Rattle.client.specs.declared.Ledger.{Ledger}
 use Rattle.client.specs.declared.Scene.{Scene}
 use Rattle.client.specs.Ledgers.{takes}
-use Rattle.client.specs.Sides.{newSideOf, oldSideOf, worldOf, withWorld, withWorlds, withLedger, ledgerOf, stampOf, oldStampOf, newStampOf, Played, still, andThen, doneAt}
+use Rattle.client.specs.Sides.{newSideOf, oldSideOf, worldOf, withWorld, withWorlds, withLedger, ledgerOf, worldStampOf, oldStampOf, newStampOf, Played, still, andThen, doneAt}
 use Rattle.client_receive.specs.Receive.{offeredBase, offeredSide, receivedOf, fromFutureOf, freshOf, snapshotsBy, snapshotsOf, notesOf}
 use Rattle.client_skip.specs.Skip.{resetSide, resetAlong, skipsBack, emptiedBase, resetBoth, skippedOf}
 use Rattle.client_publish.specs.Ending.{postUpdateOf}
@@ -48,7 +48,7 @@ alike-lag h = (λ i. lagOf (h .old i .0) (h .new i .0))
 -- ---- commands
 
 -- another world with the same stamp, at any side
-module _ (w : ClientWorldSimulations) (x : ℕ) (W : Simulation) (h : stampOf W ≡ stampOf (worldOf w x)) where
+module _ (w : ClientWorldSimulations) (x : ℕ) (W : Simulation) (h : worldStampOf W ≡ worldStampOf (worldOf w x)) where
   put-by : (a b : Bool) → eqb x 0 ≡ a → eqb (w .new) 0 ≡ b → Alike w (withWorld w x W)
   unfolding newSideOf oldSideOf worldOf withWorld oldStampOf newStampOf
   put-by true true ea eb = record { side = simp (ea, eb); old = simp (ea, eb); new = simp (ea, eb) (sym (simp ea at h)); weight = simp ea }
@@ -80,11 +80,11 @@ offers-base : (s : Scene) (e : Entry) → Offers s (offeredBase s e .scene)
 unfolding offeredBase newSideOf oldSideOf worldOf oldStampOf newStampOf
 offers-base s e = record { alike = record { side = refl; old = refl; new = refl; weight = refl }; snapshots = refl; steps = refl }
 
-scheduled-stamp : (w : Simulation) (e : Entry) → stampOf (scheduledOf w e .world) ≡ stampOf w
+scheduled-stamp : (w : Simulation) (e : Entry) → worldStampOf (scheduledOf w e .world) ≡ worldStampOf w
 unfolding scheduledOf
 scheduled-stamp w e = inserted-stamp (w .commands) e
 
-offers-put : (s : Scene) (x : ℕ) (W : Simulation) (l : Ledger) → stampOf W ≡ stampOf (worldOf (s .worlds) x) → Offers s (withLedger (withWorlds s (withWorld (s .worlds) x W)) x l)
+offers-put : (s : Scene) (x : ℕ) (W : Simulation) (l : Ledger) → worldStampOf W ≡ worldStampOf (worldOf (s .worlds) x) → Offers s (withLedger (withWorlds s (withWorld (s .worlds) x W)) x l)
 offers-put s x W l h =
     let k = ledger-keeps (withWorlds s (withWorld (s .worlds) x W)) x l in
     record { alike = rw (k .0) (put-alike (s .worlds) x W h); snapshots = rw (k .0) (put-snapshots-by (s .worlds) x W (eqb x 0) refl); steps = k .1 }
@@ -156,7 +156,7 @@ along-reset s t =
     let x : ℕ = newSideOf (s .worlds) in
     let d : Done = resetOf (worldOf (s .worlds) x) t x in
     let q : doneAt s x d .scene .worlds ≡ withWorld (s .worlds) x (d .world) = done-worlds s x d in
-    let m : Restamped (s .worlds) (withWorld (s .worlds) x (d .world)) (oldStampOf (s .worlds)) (stampOf (d .world)) = put-at-new (s .worlds) (d .world) in
+    let m : Restamped (s .worlds) (withWorld (s .worlds) x (d .world)) (oldStampOf (s .worlds)) (worldStampOf (d .world)) = put-at-new (s .worlds) (d .world) in
     record {
       oldside = ap oldSideOf q ∙ m .oldside;
       new = λ l h. rw (q, m .new, reset-stamp (worldOf (s .worlds) x) t x) l;
@@ -179,7 +179,7 @@ unfolding resetSide
 one-skip-old u x t e =
     let d : Done = resetOf (worldOf (u .worlds) x) t x in
     let q : doneAt u x d .scene .worlds ≡ withWorld (u .worlds) (oldSideOf (u .worlds)) (d .world) = done-worlds u x d ∙ ap (λ y. withWorld (u .worlds) y (d .world)) e in
-    let m : Restamped (u .worlds) (withWorld (u .worlds) (oldSideOf (u .worlds)) (d .world)) (stampOf (d .world)) (newStampOf (u .worlds)) = put-at-old (u .worlds) (d .world) in
+    let m : Restamped (u .worlds) (withWorld (u .worlds) (oldSideOf (u .worlds)) (d .world)) (worldStampOf (d .world)) (newStampOf (u .worlds)) = put-at-old (u .worlds) (d .world) in
     let o : oldStampOf (doneAt u x d .scene .worlds) ≡ t = ap oldStampOf q ∙ m .old ∙ reset-stamp (worldOf (u .worlds) x) t x in
     record {
       old = o;

@@ -23,10 +23,10 @@ use Rattle.client.specs.declared.Queued.{Queued}
 use Rattle.client.specs.declared.Queued.the-variants.{Nothing, Held}
 use Rattle.client.specs.declared.ClientWorldSimulations.{ClientWorldSimulations}
 use Rattle.client.specs.declared.Scene.{Scene}
-use Rattle.client.specs.Sides.{newSideOf, oldSideOf, worldOf, withWorld, withWorlds, stampOf, oldStampOf, newStampOf, Played, still, andThen, doneAt}
+use Rattle.client.specs.Sides.{newSideOf, oldSideOf, worldOf, withWorld, withWorlds, worldStampOf, oldStampOf, newStampOf, Played, still, andThen, doneAt}
 use Rattle.client.specs.Status.{statusBy, statusOf, overshotOf, newerOf}
 use Rattle.client_frame.specs.declared.Rules.{Rules}
-use Rattle.client_frame.specs.Frame.{loadsOf, readiedWith, loadedAt, loadedOf, loadedQueued, blendedOn, resetNew, openedOf, snapshotOf, openOf, shownOf, blendedBy, frameOf}
+use Rattle.client_frame.specs.Frame.{loadsOf, readiedWith, loadedAt, loadedOf, loadedQueued, blendedOn, resetNew, openedOf, snapshotOf, frameOpened, shownOf, blendedBy, frameOf}
 use Rattle.session_laws.proofs.SoundWorlds.{done-worlds, reset-stamp}
 use Rattle.session_laws.proofs.TraceStamps.{lagOf, nextOf, next-is, next-below, lag-far, later-tells, Restamped, put-at-new, ledger-keeps, done-steps, done-words, reset-marks}
 use Rattle.session_laws.proofs.TraceSteps.{lagIn, then-scene, then-marks, Simulates, shown}
@@ -104,13 +104,13 @@ opens-blended s p = record { old = refl; fitting = λ h k. record { old = h .old
 
 -- a world is put at a side, which is then new
 module _ (w : ClientWorldSimulations) (b : CommandBuffer) (W : Simulation) where
-  loaded-by : (x : ℕ) (c : Bool) → eqb x 0 ≡ c → newStampOf (withWorld (readiedWith w x b) x W) ≡ stampOf W
+  loaded-by : (x : ℕ) (c : Bool) → eqb x 0 ≡ c → newStampOf (withWorld (readiedWith w x b) x W) ≡ worldStampOf W
   unfolding newSideOf worldOf withWorld newStampOf readiedWith
   loaded-by x true e = simp e
   loaded-by x false e = simp e
 
   -- its stamp is the new one
-  pub loaded-new : (x : ℕ) → newStampOf (withWorld (readiedWith w x b) x W) ≡ stampOf W
+  pub loaded-new : (x : ℕ) → newStampOf (withWorld (readiedWith w x b) x W) ≡ worldStampOf W
   loaded-new x = loaded-by x (eqb x 0) refl
 
   queue-by : (x : ℕ) (c : Bool) → eqb x 0 ≡ c → withWorld (readiedWith w x b) x W .snapshots .queued ≡ Nothing
@@ -154,7 +154,7 @@ loaded-marks : (y : ℕ) (s : Scene) (x : ℕ) (t : Timestamp) (h : ℕ) → ste
 unfolding loadedOf loadedAt stepsOn
 loaded-marks y s x t h = steps-on-snapshot y [] x h
 
-load-stamp : (w : Simulation) (b : CommandBuffer) (t : Timestamp) → stampOf (loadOf w b t .world) ≡ t
+load-stamp : (w : Simulation) (b : CommandBuffer) (t : Timestamp) → worldStampOf (loadOf w b t .world) ≡ t
 unfolding loadOf
 load-stamp w b t = moved-stamp b t
 
@@ -201,7 +201,7 @@ unfolding resetNew
 opens-reset s far =
     let x : ℕ = newSideOf (s .worlds) in
     let d = resetOf (worldOf (s .worlds) x) (oldStampOf (s .worlds)) x in
-    let m : Restamped (s .worlds) (withWorld (s .worlds) x (d .world)) (oldStampOf (s .worlds)) (stampOf (d .world)) = put-at-new (s .worlds) (d .world) in
+    let m : Restamped (s .worlds) (withWorld (s .worlds) x (d .world)) (oldStampOf (s .worlds)) (worldStampOf (d .world)) = put-at-new (s .worlds) (d .world) in
     let q : doneAt s x d .scene .worlds ≡ withWorld (s .worlds) x (d .world) = done-worlds s x d in
     let eo : oldStampOf (doneAt s x d .scene .worlds) .0 ≡ oldStampOf (s .worlds) .0 = ap (λ (w : ClientWorldSimulations). oldStampOf w .0) q ∙ ap (λ (u : Timestamp). u .0) (m .old) in
     let en : newStampOf (doneAt s x d .scene .worlds) .0 ≡ oldStampOf (s .worlds) .0 = ap (λ (w : ClientWorldSimulations). newStampOf w .0) q ∙ ap (λ (u : Timestamp). u .0) (m .new ∙ reset-stamp (worldOf (s .worlds) x) (oldStampOf (s .worlds)) x) in
@@ -224,8 +224,8 @@ opens-by (Fastforwarding Obsolete) Nothing p s e = opens-still s
 opens-by (Fastforwarding Obsolete) (Held t h) p s e = opens-obsolete s t h
 opens-by (Fastforwarding Overshot) q p s e = opens-reset s (λ f. overshot-far (s .worlds) f e)
 
-pub opens : (rules : Rules) (s : Scene) → Opens (snapshotOf s) s (openOf rules s)
-unfolding openOf snapshotOf
+pub opens : (rules : Rules) (s : Scene) → Opens (snapshotOf s) s (frameOpened rules s)
+unfolding frameOpened snapshotOf
 opens rules s = opens-by (statusOf (s .worlds)) (s .worlds .snapshots .queued) (rules .progress) s refl
 
 loads-fit : (t : ReconciliationStatus) (q : Queued) → QueuedFits q → QueuedFits (loadsOf t q)
@@ -250,14 +250,14 @@ pub record OneFrame (rules : Rules) (s : Scene) (f : Played) : Type 0 where
   pub old : oldStampOf (f .scene .worlds) .0 ≡ nextOf (oldStampOf (s .worlds) .0)
   pub fitting : Fitting (s .worlds) → Fitting (f .scene .worlds)
   pub behind : 1 ≤ rules .m → Fitting (s .worlds) → gapOf s ≤ 32767 → lagIn (f .scene .worlds) ≡ gapOf s - (rules .m - 1)
-  pub one : stepsOn (oldSideOf (openOf rules s .scene .worlds)) (f .words) ≡ 1
-  pub few : stepsOn (newSideOf (openOf rules s .scene .worlds)) (f .words) ≤ rules .m
-  pub steps : s .steps + rules .m < 2 ^ 32 → f .scene .steps ≡ s .steps + stepsOn (newSideOf (openOf rules s .scene .worlds)) (f .words)
+  pub one : stepsOn (oldSideOf (frameOpened rules s .scene .worlds)) (f .words) ≡ 1
+  pub few : stepsOn (newSideOf (frameOpened rules s .scene .worlds)) (f .words) ≤ rules .m
+  pub steps : s .steps + rules .m < 2 ^ 32 → f .scene .steps ≡ s .steps + stepsOn (newSideOf (frameOpened rules s .scene .worlds)) (f .words)
 
-one-frame-then : (rules : Rules) (s : Scene) (g : Scene → Played) → Opens (snapshotOf s) s (openOf rules s) → Simulates (rules .m) (openOf rules s .scene) (g (openOf rules s .scene)) → OneFrame rules s (andThen (openOf rules s) g)
+one-frame-then : (rules : Rules) (s : Scene) (g : Scene → Played) → Opens (snapshotOf s) s (frameOpened rules s) → Simulates (rules .m) (frameOpened rules s .scene) (g (frameOpened rules s .scene)) → OneFrame rules s (andThen (frameOpened rules s) g)
 one-frame-then rules s g o i =
     let m : ℕ = rules .m in
-    let q : Played = openOf rules s in
+    let q : Played = frameOpened rules s in
     let t : Scene = q .scene in
     let f : Played = g t in
     let sc : andThen q g .scene ≡ f .scene = then-scene q g in
@@ -284,4 +284,4 @@ one-frame-then rules s g o i =
 pub one-frame : (rules : Rules) (s : Scene) → OneFrame rules s (frameOf rules s)
 unfolding frameOf
 one-frame rules s =
-    one-frame-then rules s (shownOf (rules .m) (blendedBy (statusOf (s .worlds)) (snapshotOf s))) (opens rules s) (shown (rules .m) (blendedBy (statusOf (s .worlds)) (snapshotOf s)) (openOf rules s .scene))
+    one-frame-then rules s (shownOf (rules .m) (blendedBy (statusOf (s .worlds)) (snapshotOf s))) (opens rules s) (shown (rules .m) (blendedBy (statusOf (s .worlds)) (snapshotOf s)) (frameOpened rules s .scene))

@@ -18,7 +18,7 @@ use Rattle.simulation.specs.World.{Done, nextStamp, stepOf, resetOf, resetsBack
 use Rattle.client.specs.declared.ClientWorldSimulations.{ClientWorldSimulations}
 use Rattle.client.specs.declared.Ledger.{Ledger}
 use Rattle.client.specs.declared.Scene.{Scene}
-use Rattle.client.specs.Sides.{newSideOf, oldSideOf, worldOf, withWorld, stampOf, oldStampOf, newStampOf, withLedger, withWorlds, putOf, doneAt}
+use Rattle.client.specs.Sides.{newSideOf, oldSideOf, worldOf, withWorld, worldStampOf, oldStampOf, newStampOf, withLedger, withWorlds, putOf, doneAt}
 use Rattle.client.specs.Status.{laterOf, isGreater}
 use Rattle.client_frame.specs.Frame.{caughtUpOf}
 
@@ -118,22 +118,22 @@ pub record Restamped (v w : ClientWorldSimulations) (o n : Timestamp) : Type 0 w
   pub weight : w .weight ≡ v .weight
 
 module _ (v : ClientWorldSimulations) (W : Simulation) where
-  old-by : (b : Bool) → eqb (v .new) 0 ≡ b → Restamped v (withWorld v (oldSideOf v) W) (stampOf W) (newStampOf v)
+  old-by : (b : Bool) → eqb (v .new) 0 ≡ b → Restamped v (withWorld v (oldSideOf v) W) (worldStampOf W) (newStampOf v)
   unfolding newSideOf oldSideOf worldOf withWorld oldStampOf newStampOf
   old-by true e = record { side = simp e; oldside = simp e; old = simp e; new = simp e; snapshots = simp e; weight = simp e }
   old-by false e = record { side = simp e; oldside = simp e; old = simp e; new = simp e; snapshots = simp e; weight = simp e }
 
-  new-by : (b : Bool) → eqb (v .new) 0 ≡ b → Restamped v (withWorld v (newSideOf v) W) (oldStampOf v) (stampOf W)
+  new-by : (b : Bool) → eqb (v .new) 0 ≡ b → Restamped v (withWorld v (newSideOf v) W) (oldStampOf v) (worldStampOf W)
   unfolding newSideOf oldSideOf worldOf withWorld oldStampOf newStampOf
   new-by true e = record { side = simp e; oldside = simp e; old = simp e; new = simp e; snapshots = simp e; weight = simp e }
   new-by false e = record { side = simp e; oldside = simp e; old = simp e; new = simp e; snapshots = simp e; weight = simp e }
 
   -- another world at the old side
-  pub put-at-old : Restamped v (withWorld v (oldSideOf v) W) (stampOf W) (newStampOf v)
+  pub put-at-old : Restamped v (withWorld v (oldSideOf v) W) (worldStampOf W) (newStampOf v)
   put-at-old = old-by (eqb (v .new) 0) refl
 
   -- another world at the new side
-  pub put-at-new : Restamped v (withWorld v (newSideOf v) W) (oldStampOf v) (stampOf W)
+  pub put-at-new : Restamped v (withWorld v (newSideOf v) W) (oldStampOf v) (worldStampOf W)
   put-at-new = new-by (eqb (v .new) 0) refl
 
 -- ---- scenes

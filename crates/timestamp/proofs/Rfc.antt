@@ -8,14 +8,14 @@ use lib.Dec.{leb}
 use borrow.Author.Tests.{eq-eqb, ne-eqb, lt-ltb, le-ltb, le-leb}
 use Rattle.timestamp.specs.declared.Ordering.{Ordering}
 use Rattle.timestamp.specs.declared.Ordering.the-variants.{Less, Equal, Greater}
-use Rattle.timestamp.specs.Rfc1982.{defined, undefinedSum, sum, Comparison, equal, less, greater, undefinedOrder, isLess, isGreater, compared}
+use Rattle.timestamp.specs.Rfc1982.{defined, undefinedSum, serialSum, Comparison, equal, less, greater, undefinedOrder, serialLess, serialGreater, compared}
 use Rattle.timestamp.specs.Timestamps.{sumOf, differenceOf, orderOf}
 use Rattle.timestamp.proofs.Basics.{split}
 use Rattle.timestamp.proofs.Order.{order-equal, order-greater, order-less}
 
 -- where section 3.1 defines a sum, ours is that sum
-pub sum-agrees : (s n r : ℕ) → sum s n ≡ defined r → sumOf s n ≡ r
-unfolding sum
+pub sum-agrees : (s n r : ℕ) → serialSum s n ≡ defined r → sumOf s n ≡ r
+unfolding serialSum
 sum-agrees s n r = go (leb n 32767)
   where
     go : (t : Bool) → cond t (defined ((s + n) % 65536)) undefinedSum ≡ defined r → (s + n) % 65536 ≡ r
@@ -23,8 +23,8 @@ sum-agrees s n r = go (leb n 32767)
     go false h = let z : _≡_ {A = ℕ} 0 1 = cc in absurd (omega arith)
 
 -- section 3.1 defines the sum with every number up to 32,767
-pub sum-defined : (s n : ℕ) → n < 32768 → sum s n ≡ defined (sumOf s n)
-unfolding sum
+pub sum-defined : (s n : ℕ) → n < 32768 → serialSum s n ≡ defined (sumOf s n)
+unfolding serialSum
 sum-defined s n h = simp (le-leb n 32767 (omega arith))
 
 -- our order by section 3.2's comparison: the pairs that it leaves undefined are read as Less
@@ -38,7 +38,7 @@ asOrder undefinedOrder = Less
 module _ {a b : ℕ} (A : a < 65536) (B : b < 65536) where
   -- section 3.2's less is a difference of 32,769 to 65,535
   pub compared-less : 32768 < differenceOf a b → compared a b ≡ less
-  unfolding compared isLess isGreater
+  unfolding compared serialLess serialGreater
   compared-less h = elim (split a b) [
     | inl l ↦ simp (ne-eqb a b (omega arith), lt-ltb a b l, lt-ltb (b - a) 32768 (omega arith))
     | inr g ↦ simp (ne-eqb a b (omega arith), le-ltb a b g, lt-ltb b a (omega arith), lt-ltb 32768 (a - b) (omega arith))
@@ -46,7 +46,7 @@ module _ {a b : ℕ} (A : a < 65536) (B : b < 65536) where
 
   -- section 3.2's greater is a difference of 1 to 32,767
   pub compared-greater : 0 < differenceOf a b → differenceOf a b < 32768 → compared a b ≡ greater
-  unfolding compared isLess isGreater
+  unfolding compared serialLess serialGreater
   compared-greater n h = elim (split a b) [
     | inl l ↦ simp (ne-eqb a b (omega arith), lt-ltb a b l, le-ltb (b - a) 32768 (omega arith), le-ltb b a (omega arith), lt-ltb 32768 (b - a) (omega arith))
     | inr g ↦ simp (ne-eqb a b (omega arith), le-ltb a b g, lt-ltb b a (omega arith), le-ltb 32768 (a - b) (omega arith), lt-ltb (a - b) 32768 (omega arith))
@@ -59,7 +59,7 @@ module _ {a b : ℕ} (A : a < 65536) (B : b < 65536) where
 
   -- section 3.2 leaves a difference of 32,768 undefined
   pub compared-undefined : differenceOf a b ≡ 32768 → compared a b ≡ undefinedOrder
-  unfolding compared isLess isGreater
+  unfolding compared serialLess serialGreater
   compared-undefined h = elim (split a b) [
     | inl l ↦ simp (ne-eqb a b (omega arith), lt-ltb a b l, le-ltb (b - a) 32768 (omega arith), le-ltb b a (omega arith), le-ltb 32768 (b - a) (omega arith))
     | inr g ↦ simp (ne-eqb a b (omega arith), le-ltb a b g, lt-ltb b a (omega arith), le-ltb 32768 (a - b) (omega arith), le-ltb (a - b) 32768 (omega arith))

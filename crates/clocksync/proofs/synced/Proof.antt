@@ -2,7 +2,7 @@
 use borrow.Author.Needs.{needs}
 use mathlib.Core.Path.{sym, ap, _∙_}
 use mathlib.Core.Bool.{Bool, cond}
-use Rattle.clocksync.specs.Clock.{syncedOf}
+use Rattle.clocksync.specs.Clock.{offsetAfter}
 use Rattle.clocksync.specs.declared.Offset.the-variants.{Seconds}
 use Rattle.clocksync.proofs.synced.Statement.{statement}
 use Rattle.clocksync.proofs.synced.Tie as tie
@@ -17,21 +17,21 @@ deviates-requires : tie.Need-deviates-requires
 deviates-requires c κs = search needs
 
 returns : tie.Need-returns
-returns c = sym (ap (λ o. syncedOf o (c .before .before .args .mean) (c .before .before .args .deviation)) (c .enum-told .given .1))
+returns c = sym (ap (λ o. offsetAfter o (c .before .before .args .mean) (c .before .before .args .deviation)) (c .enum-told .given .1))
 
 returns-2 : tie.Need-returns-2
 returns-2 c =
     let d = c .before in
     let o = d .before .before in
     let a = o .before .before .args in
-    sym (ap (λ y. syncedOf y (a .mean) (a .deviation)) (o .old .given .1) ∙ ap (λ (b : Bool). cond b (Seconds (a .mean)) (Seconds (o .old .given .0 .0))) (sym (d .deviates .ensures) ∙ c .if1 .taken))
+    sym (ap (λ y. offsetAfter y (a .mean) (a .deviation)) (o .old .given .1) ∙ ap (λ (b : Bool). cond b (Seconds (a .mean)) (Seconds (o .old .given .0 .0))) (sym (d .deviates .ensures) ∙ c .if1 .taken))
 
 returns-3 : tie.Need-returns-3
 returns-3 c =
     let d = c .before in
     let o = d .before .before in
     let a = o .before .before .args in
-    sym (ap (λ y. syncedOf y (a .mean) (a .deviation)) (o .old .given .1) ∙ ap (λ (b : Bool). cond b (Seconds (a .mean)) (Seconds (o .old .given .0 .0))) (sym (d .deviates .ensures) ∙ c .if1 .left))
+    sym (ap (λ y. offsetAfter y (a .mean) (a .deviation)) (o .old .given .1) ∙ ap (λ (b : Bool). cond b (Seconds (a .mean)) (Seconds (o .old .given .0 .0))) (sym (d .deviates .ensures) ∙ c .if1 .left))
 
 pub synced-spec : {M : Type 1} → statement M
 synced-spec =

@@ -5,7 +5,7 @@ use native.Mathlib.Omega.{arith}
 use borrow.Author.Needs.{needs}
 use lib.ListN.{length}
 use Rattle.command.specs.Buffer.{blank}
-use Rattle.command.specs.Ranks.{between}
+use Rattle.command.specs.Ranks.{rankWithin}
 use Rattle.command.proofs.Lists.{mapped-length}
 use Rattle.command.proofs.Holding.{held-long}
 use Rattle.command.proofs.Applying.{Applying, apply-none, apply-few, apply-length, apply-one, apply-skip, apply-held}
@@ -13,7 +13,7 @@ use Rattle.command.proofs.apply_between.Statement.{statement}
 use Rattle.command.proofs.apply_between.Tie as tie
 
 abbrev Inv-loop : tie.InvT-loop
-Inv-loop m lo hi side tape₀ at b n p₀ i₀ tape p i = (length (b .entries) ≡ 64) × Applying side (between m lo hi) (b .entries) n tape₀ at i p tape
+Inv-loop m lo hi side tape₀ at b n p₀ i₀ tape p i = (length (b .entries) ≡ 64) × Applying side (rankWithin m lo hi) (b .entries) n tape₀ at i p tape
 
 abbrev μ-loop : tie.MeasureT-loop
 μ-loop m lo hi side tape₀ at b n p₀ i₀ tape p i = n - i

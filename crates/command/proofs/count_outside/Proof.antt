@@ -6,14 +6,14 @@ use native.Mathlib.Omega.{arith}
 use borrow.Author.Needs.{needs}
 use lib.ListN.{length}
 use Rattle.command.specs.Buffer.{blank}
-use Rattle.command.specs.Ranks.{between}
+use Rattle.command.specs.Ranks.{rankWithin}
 use Rattle.command.proofs.Lists.{Counted, count-none, count-few, count-one, count-skip, mapped-length}
 use Rattle.command.proofs.Holding.{held-long, held-counted}
 use Rattle.command.proofs.count_outside.Statement.{statement}
 use Rattle.command.proofs.count_outside.Tie as tie
 
 abbrev Inv-loop : tie.InvT-loop
-Inv-loop m lo hi b n k₀ i₀ k i = (length (b .entries) ≡ 64) × Counted (λ e. not (between m lo hi e)) (b .entries) n i k
+Inv-loop m lo hi b n k₀ i₀ k i = (length (b .entries) ≡ 64) × Counted (λ e. not (rankWithin m lo hi e)) (b .entries) n i k
 
 abbrev μ-loop : tie.MeasureT-loop
 μ-loop m lo hi b n k₀ i₀ k i = n - i

@@ -5,14 +5,14 @@ use native.Mathlib.Omega.{arith}
 use borrow.Author.Needs.{needs}
 use lib.ListN.{length, take}
 use Rattle.command.specs.Buffer.{blank}
-use Rattle.command.specs.Ranks.{between}
+use Rattle.command.specs.Ranks.{rankWithin}
 use Rattle.command.proofs.Lists.{Sifted, sift-none, sift-push, sift-skip, sift-room, mapped-length}
 use Rattle.command.proofs.Holding.{held-take, held-long, as-laid, is-laid}
 use Rattle.command.proofs.extend.Statement.{statement}
 use Rattle.command.proofs.extend.Tie as tie
 
 abbrev Inv-loop : tie.InvT-loop
-Inv-loop m lo hi b n t out₀ k₀ i₀ out k i = (length (b .entries) ≡ 64) × Sifted (take k₀ out₀) (between m lo hi) (b .entries) n 64 blank i out k
+Inv-loop m lo hi b n t out₀ k₀ i₀ out k i = (length (b .entries) ≡ 64) × Sifted (take k₀ out₀) (rankWithin m lo hi) (b .entries) n 64 blank i out k
 
 abbrev μ-loop : tie.MeasureT-loop
 μ-loop m lo hi b n t out₀ k₀ i₀ out k i = n - i

@@ -2,7 +2,7 @@
 use borrow.Author.Needs.{needs}
 use mathlib.Core.Path.{refl, sym, _∙_}
 use Rattle.inbox.specs.declared.Time.the-variants.{At, OutOfRange}
-use Rattle.inbox.specs.Inbox.{timeOf}
+use Rattle.inbox.specs.Inbox.{inboxTimeOf}
 use Rattle.inbox.proofs.Words.{clock-by}
 use Rattle.inbox.proofs.clock_of.Statement.{statement}
 use Rattle.inbox.proofs.clock_of.Tie as tie
@@ -38,7 +38,7 @@ returns-2 c =
 returns-3 : tie.Need-returns-3
 returns-3 c =
     let a = c .before .before .before .args in
-    clock-by _ _ _ OutOfRange (timeOf (a .server)) (sym (c .enum-told2 .given .1) ∙ c .before .before .time-of .ensures) refl
+    clock-by _ _ _ OutOfRange (inboxTimeOf (a .server)) (sym (c .enum-told2 .given .1) ∙ c .before .before .time-of .ensures) refl
 
 pub clock-of-spec : {M : Type 1} → statement M
 clock-of-spec =

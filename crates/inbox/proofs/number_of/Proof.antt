@@ -1,7 +1,7 @@
 -- `number_of` meets its contract: each case has its number. Assumes nothing.
 use borrow.Author.Needs.{needs}
 use mathlib.Core.Path.{sym, ap}
-use Rattle.inbox.specs.Inbox.{numberOf}
+use Rattle.inbox.specs.Inbox.{messageNumberOf}
 use Rattle.inbox.proofs.number_of.Statement.{statement}
 use Rattle.inbox.proofs.number_of.Tie as tie
 
@@ -24,22 +24,22 @@ enum-told-6 : tie.Need-enum-told-6
 enum-told-6 c = search needs
 
 returns : tie.Need-returns
-returns c = sym (ap numberOf (c .enum-told .given .1))
+returns c = sym (ap messageNumberOf (c .enum-told .given .1))
 
 returns-2 : tie.Need-returns-2
-returns-2 c = sym (ap numberOf (c .enum-told2 .given .1))
+returns-2 c = sym (ap messageNumberOf (c .enum-told2 .given .1))
 
 returns-3 : tie.Need-returns-3
-returns-3 c = sym (ap numberOf (c .enum-told3 .given .1))
+returns-3 c = sym (ap messageNumberOf (c .enum-told3 .given .1))
 
 returns-4 : tie.Need-returns-4
-returns-4 c = sym (ap numberOf (c .enum-told4 .given .1))
+returns-4 c = sym (ap messageNumberOf (c .enum-told4 .given .1))
 
 returns-5 : tie.Need-returns-5
-returns-5 c = sym (ap numberOf (c .enum-told5 .given .1))
+returns-5 c = sym (ap messageNumberOf (c .enum-told5 .given .1))
 
 returns-6 : tie.Need-returns-6
-returns-6 c = sym (ap numberOf (c .enum-told6 .given .1))
+returns-6 c = sym (ap messageNumberOf (c .enum-told6 .given .1))
 
 pub number-of-spec : {M : Type 1} → statement M
 number-of-spec =

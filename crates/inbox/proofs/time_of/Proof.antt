@@ -4,7 +4,7 @@ use mathlib.Core.Logic.{⊎-elim}
 use mathlib.Core.Bool.{Bool, true, false, _&&_}
 use lib.IntN.{pos}
 use lib.Ieee.{Float, fin, binary64, le, ofBits, neg}
-use Rattle.inbox.specs.Inbox.{timeOk, pickTime, timeOf}
+use Rattle.inbox.specs.Inbox.{timeOk, pickTime, inboxTimeOf}
 use Rattle.timestamp.proofs.Patterns.{is-nan, no-nan}
 use Rattle.inbox.proofs.Times.{nan-out}
 use Rattle.inbox.proofs.time_of.Statement.{statement}
@@ -27,20 +27,20 @@ abbrev high : Float
 high = fin false 1 (pos 32)
 
 returns : tie.Need-returns
-unfolding timeOf
+unfolding inboxTimeOf
 returns c = picked (ofBits binary64 (c .before .args .bits)) false (ap timeOk (is-nan (c .before .args .bits) (c .if1 .taken)) ∙ nan-out)
 
 float-from-bits-x : tie.Need-float-from-bits-x
 float-from-bits-x c = no-nan (c .before .args .bits) (c .if1 .left)
 
 returns-2 : tie.Need-returns-2
-unfolding timeOf ofBits neg
+unfolding inboxTimeOf ofBits neg
 returns-2 c =
     let x = ofBits binary64 (c .before .before .before .args .bits) in
     picked x true (both (le low x) (le x high) true true (c .before .if2 .taken) (c .if3 .taken))
 
 returns-3 : tie.Need-returns-3
-unfolding timeOf ofBits neg
+unfolding inboxTimeOf ofBits neg
 returns-3 c =
     let x = ofBits binary64 (c .before .before .args .bits) in
     picked x false (⊎-elim (λ w. both (le low x) (le x high) true false (w .0 .taken) (w .1 .left)) (λ w. first (le low x) (le x high) (w .left)) (c .if2 .came))

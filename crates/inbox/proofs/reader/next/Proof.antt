@@ -42,7 +42,7 @@ use denote.Triple.Table.{entered, cited}
 use denote.Triple.Walked.{says, needs, Stays, stay-none, walkOf, goes-none, Walks, ends-at, walked, walk-meets}
 use denote.Exit.{yes}
 use denote.Triple.Clauses.{ensured, lasts}
-use Rattle.inbox.specs.Inbox.{stepOf}
+use Rattle.inbox.specs.Inbox.{readAt}
 use Rattle.inbox.specs.declared.reader.Reader.{Reader}
 use Rattle.inbox.specs.declared.Step.{Step}
 use Rattle.inbox.proofs.reader.Reader as T
@@ -79,7 +79,7 @@ module _ {M : Type 1} (𝓤 : URA M) (H : Heap 𝓤) (A : Atoms 𝓤) (W : Given
   v = sliceVal (d .words .ptr) (length (d .words .now))
 
   abbrev found : Step
-  found = stepOf (now (d .words)) (d .at)
+  found = readAt (now (d .words)) (d .at)
 
   abbrev Post : Val → SProp 𝓤
   Post = walkOf 𝓤 H A next.ended stayed (next.clauses 𝓤 H A mem run) .post (((κ, tt), (q, tt), tt, (d, tt), (mach ∷ [], tt)), tt)
