@@ -7,6 +7,7 @@ use mathlib.Core.List.{List, [], _∷_, _++_}
 use lib.IntN.{pos, negsuc}
 use lib.ListN.{replicate}
 use lib.Ieee.{Float, fin, binary64, ofInt, toBits}
+use Rattle.timestamp.specs.Floats.{zero64, one64}
 use Rattle.timestamp.specs.declared.Ordering.the-variants.{Less}
 use Rattle.timestamp.specs.Timestamps.{bitsOf, orderOf, inRange}
 use Rattle.timestamp.specs.FloatTimestamps.{fromUnwrapped, stampOf, ceilStampOf}
@@ -40,14 +41,6 @@ before-half = fin false 65535 (negsuc 0)
 abbrev pub minus-one-and-half : Float
 minus-one-and-half = fin true 3 (negsuc 0)
 
--- the float 0
-abbrev pub nought : Float
-nought = fin false 0 (pos 0)
-
--- the float 1
-abbrev pub one : Float
-one = fin false 1 (pos 0)
-
 -- the float 4
 abbrev pub four : Float
 four = fin false 1 (pos 2)
@@ -74,7 +67,7 @@ settingsWith m =
       skip = secondsOf 10;
       max = secondsOf 4;
       needed = 1;
-      rate = nought;
+      rate = zero64;
       m = m;
       method = Interpolated;
     }
@@ -190,9 +183,9 @@ pub record Marked : Type 0 where
   -- -1.5 gives -1 both ways
   pub toward-zero : (stampOf (fromUnwrapped minus-one-and-half) ≡ negsuc 0) × (ceilStampOf (fromUnwrapped minus-one-and-half) ≡ negsuc 0)
   -- needed 1, rate 0: three samples are stored, and the mean of 9, 1, 4 is 4
-  pub mean : (storeOf 1 nought ≡ 3) × (meanOf (discardOf 1 nought) (nine ∷ one ∷ four ∷ []) ≡ four)
+  pub mean : (storeOf 1 zero64 ≡ 3) × (meanOf (discardOf 1 zero64) (nine ∷ one64 ∷ four ∷ []) ≡ four)
   -- a tween weight of 0.5, shaped by rounding half away from zero, is 1
-  pub tween : shapedOf Nearest (fin false 1 (negsuc 0)) ≡ one
+  pub tween : shapedOf Nearest (fin false 1 (negsuc 0)) ≡ one64
   -- m = 3, g = 7: the first of four frames loads 7 behind, and the others load nothing
   pub loads : loadsIn caught ≡ Loaded 7 ∷ NoLoad ∷ NoLoad ∷ NoLoad ∷ []
   -- behind 5, 3, 1, 0 after them

@@ -1,12 +1,12 @@
 -- The two sides of a client, as document 01 has them under "src/old_new.rs", and the ledger of each, as under "src/client.rs". Side 0 is left and side 1 right.
 -- Definitions only. Assumes nothing.
 use Prim.Native.Nat.{ℕ}
-use mathlib.Core.Bool.{false, cond}
+use mathlib.Core.Bool.{cond}
 use mathlib.Core.List.{List, [], _++_}
 use mathlib.Core.Path.{_≡_}
 use lib.Dec.{eqb}
-use lib.IntN.{pos}
-use lib.Ieee.{Float, fin}
+use lib.Ieee.{Float}
+use Rattle.timestamp.specs.Floats.{one64}
 use Rattle.timestamp.specs.declared.Timestamp.{Timestamp}
 use Rattle.tape.specs.Tape.{Puts}
 use Rattle.command.specs.declared.CommandBuffer.{CommandBuffer}
@@ -94,7 +94,7 @@ startingWith l r b =
       new = 0;
       base = b;
       snapshots = record { queued = Nothing; lastqueued = Never; lastreceived = Never };
-      weight = fin false 1 (pos 0);
+      weight = one64;
       published = record { before = Never; after = Never; time = NotDisplayed };
     }
 

@@ -2,8 +2,8 @@
 -- Definitions only. Assumes nothing.
 use mathlib.Core.Bool.{Bool, true, false}
 use lib.Dec.{eqb}
-use lib.IntN.{pos}
-use lib.Ieee.{Float, fin, lt}
+use lib.Ieee.{Float, lt}
+use Rattle.timestamp.specs.Floats.{one64}
 use Rattle.timestamp.specs.declared.Timestamp.{Timestamp}
 use Rattle.timestamp.specs.declared.Ordering.{Ordering}
 use Rattle.timestamp.specs.declared.Ordering.the-variants.{Less, Equal, Greater}
@@ -46,4 +46,4 @@ statusBy false l false false t = Fastforwarding Healthy
 -- the status: equal stamps (Blending or Awaiting by the weight), Overshot, Obsolete, Healthy
 unfoldable pub statusOf : ClientWorldSimulations → ReconciliationStatus
 statusOf w =
-    statusBy (eqb (newStampOf w .0) (oldStampOf w .0)) (lt (w .weight) (fin false 1 (pos 0))) (overshotOf (newStampOf w) (oldStampOf w)) (newerOf (w .snapshots .queued) (newStampOf w)) (w .weight)
+    statusBy (eqb (newStampOf w .0) (oldStampOf w .0)) (lt (w .weight) one64) (overshotOf (newStampOf w) (oldStampOf w)) (newerOf (w .snapshots .queued) (newStampOf w)) (w .weight)

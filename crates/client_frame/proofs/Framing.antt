@@ -35,7 +35,8 @@ use Rattle.client_publish.specs.declared.Stated.{Stated}
 use Rattle.client_publish.specs.Publish.{withState, publishedOld, publishedBlended}
 use Rattle.client_publish.specs.Inner.{States}
 use Rattle.client_frame.specs.declared.Rules.{Rules}
-use Rattle.client_frame.specs.Frame.{loadsOf, readiedWith, loadedAt, loadedOf, loadedQueued, clamped, blendedOn, resetNew, openedOf, steppedSide, caughtUpOf, withStep, steppedNew, caughtOf, simulatedOf, blendedBy, publishedBy, shownOf, isObsolete, tooFarOf, stopsOf, snapshotOf, frameOpened, frameOf, frameStops, Frames}
+use Rattle.client_frame.specs.Frame.{loadsOf, readiedWith, loadedAt, loadedOf, loadedQueued, blendedOn, resetNew, openedOf, steppedSide, caughtUpOf, withStep, steppedNew, caughtOf, simulatedOf, blendedBy, publishedBy, shownOf, isObsolete, tooFarOf, stopsOf, snapshotOf, frameOpened, frameOf, frameStops, Frames}
+use Rattle.timestamp.specs.Floats.{clampedOf}
 use Rattle.client_frame.specs.Inner.{putBack}
 use Rattle.client.proofs.Happening.{plays-still, plays-as, plays-then, plays-done}
 
@@ -81,19 +82,19 @@ queued-held s q side e p = rw e p
 -- ---- the weight
 
 -- a number below 0
-pub clamp-low : (x : Float) → lt x (fin false 0 (pos 0)) ≡ true → fin false 0 (pos 0) ≡ clamped x
+pub clamp-low : (x : Float) → lt x (fin false 0 (pos 0)) ≡ true → fin false 0 (pos 0) ≡ clampedOf x
 clamp-low x h = rw h refl
 
 -- a number above 1
-pub clamp-high : (x : Float) → lt x (fin false 0 (pos 0)) ≡ false → lt (fin false 1 (pos 0)) x ≡ true → fin false 1 (pos 0) ≡ clamped x
+pub clamp-high : (x : Float) → lt x (fin false 0 (pos 0)) ≡ false → lt (fin false 1 (pos 0)) x ≡ true → fin false 1 (pos 0) ≡ clampedOf x
 clamp-high x h k = rw (h, k) refl
 
 -- a number from 0 to 1
-pub clamp-in : (x : Float) → lt x (fin false 0 (pos 0)) ≡ false → lt (fin false 1 (pos 0)) x ≡ false → x ≡ clamped x
+pub clamp-in : (x : Float) → lt x (fin false 0 (pos 0)) ≡ false → lt (fin false 1 (pos 0)) x ≡ false → x ≡ clampedOf x
 clamp-in x h k = rw (h, k) refl
 
 -- the weight a frame on
-pub blended-is : (s : Scene) (progress : Float) {t : Float} → t ≡ clamped (add binary64 (s .worlds .weight) progress) → withWorlds s (withWeight (s .worlds) t) ≡ blendedOn s progress
+pub blended-is : (s : Scene) (progress : Float) {t : Float} → t ≡ clampedOf (add binary64 (s .worlds .weight) progress) → withWorlds s (withWeight (s .worlds) t) ≡ blendedOn s progress
 unfolding blendedOn
 blended-is s progress e = ap (λ (t : Float). withWorlds s (withWeight (s .worlds) t)) e
 

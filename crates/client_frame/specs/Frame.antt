@@ -5,8 +5,8 @@ use mathlib.Core.Bool.{Bool, true, false, cond}
 use mathlib.Core.List.{List, [], _∷_}
 use mathlib.Core.Path.{_≡_}
 use lib.Dec.{eqb, ltb}
-use lib.IntN.{pos}
-use lib.Ieee.{Float, fin, binary64, add, lt}
+use lib.Ieee.{Float, binary64, add}
+use Rattle.timestamp.specs.Floats.{zero64, clampedOf}
 use Rattle.timestamp.specs.declared.Timestamp.{Timestamp}
 use Rattle.timestamp.specs.Timestamps.{orderOf, differenceOf}
 use Rattle.tape.specs.Tape.{Puts}
@@ -43,7 +43,7 @@ readiedWith w side b =
     (withNew
     (withWeight
     (withSnapshots w (record { queued = Nothing; lastqueued = w .snapshots .lastqueued; lastreceived = w .snapshots .lastreceived }))
-    (fin false 0 (pos 0)))
+    zero64)
     side)
     b
 
@@ -64,13 +64,9 @@ unfoldable pub loadedQueued : Scene → Queued → ℕ → Played
 loadedQueued s Nothing side = still s
 loadedQueued s (Held t h) side = loadedOf s side t h
 
--- a number brought into 0 to 1
-abbrev pub clamped : Float → Float
-clamped x = cond (lt x (fin false 0 (pos 0))) (fin false 0 (pos 0)) (cond (lt (fin false 1 (pos 0)) x) (fin false 1 (pos 0)) x)
-
 -- the weight a frame on
 unfoldable pub blendedOn : Scene → Float → Scene
-blendedOn s progress = withWorlds s (withWeight (s .worlds) (clamped (add binary64 (s .worlds .weight) progress)))
+blendedOn s progress = withWorlds s (withWeight (s .worlds) (clampedOf (add binary64 (s .worlds .weight) progress)))
 
 -- the new world is reset to the old stamp
 unfoldable pub resetNew : Scene → Played

@@ -4,7 +4,8 @@ ghost use mathlib.Core.Bool.{true};
 ghost use Prim.Native.Nat.{_<_, _≤_};
 ghost use Rattle.client.specs.Sides.{Plays, oldStampOf};
 ghost use Rattle.client_publish.specs.Inner.{States};
-ghost use Rattle.client_frame.specs.Frame.{loadsOf, readiedWith, loadedOf, clamped, blendedOn, resetNew, openedOf, steppedSide, caughtUpOf, caughtOf, simulatedOf, blendedBy, publishedBy, isObsolete, tooFarOf, stopsOf, shownOf, frameOf, frameStops, Frames};
+ghost use Rattle.client_frame.specs.Frame.{loadsOf, readiedWith, loadedOf, blendedOn, resetNew, openedOf, steppedSide, caughtUpOf, caughtOf, simulatedOf, blendedBy, publishedBy, isObsolete, tooFarOf, stopsOf, shownOf, frameOf, frameStops, Frames};
+ghost use Rattle.timestamp.specs.Floats.{clampedOf};
 ghost use Rattle.client_frame.specs.Inner.{putBack};
 use client::ClientWorldSimulations;
 use client::FastforwardingHealth;
@@ -106,7 +107,7 @@ pub fn load_snapshot(
 
 // A number brought into 0 to 1.
 pub fn clamp(x: f64) -> f64
-    ensures { λ r. ⌜ r ≡ clamped x ⌝ }
+    ensures { λ r. ⌜ r ≡ clampedOf x ⌝ }
 {
     if x < 0.0 {
         return 0.0;

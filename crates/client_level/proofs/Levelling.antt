@@ -34,7 +34,8 @@ use Rattle.client_publish.specs.Publish.{withState, publishedBlended}
 use Rattle.client_publish.proofs.Telling.{Telling, publishes, blended-by}
 use Rattle.client_publish.specs.Inner.{States}
 use Rattle.client_frame.specs.declared.Rules.{Rules}
-use Rattle.client_frame.specs.Frame.{loadsOf, loadedQueued, clamped, blendedOn, openedOf, steppedSide, caughtUpOf, withStep, steppedNew, caughtOf, simulatedOf, blendedBy, shownOf, stopsOf, snapshotOf, frameOpened, frameOf, frameStops}
+use Rattle.client_frame.specs.Frame.{loadsOf, loadedQueued, blendedOn, openedOf, steppedSide, caughtUpOf, withStep, steppedNew, caughtOf, simulatedOf, blendedBy, shownOf, stopsOf, snapshotOf, frameOpened, frameOf, frameStops}
+use Rattle.timestamp.specs.Floats.{clampedOf}
 use Rattle.command.specs.Ranks.{waitsOf}
 use Rattle.client_level.specs.Level.{worldWaits, levelBy, isLevel, levelWeight, levelWords}
 use Rattle.client_frame.proofs.Framing.{stated-plays}
@@ -125,7 +126,7 @@ module _ (w : ClientWorldSimulations) (m : ℕ) {t : ReconciliationStatus} {l : 
 -- ---- the weight and the words
 
 -- the weight of a status that blends moves on
-pub weight-on : (t : ReconciliationStatus) (weight progress : Float) {x r : Float} → t ≡ Blending x → r ≡ clamped (add binary64 x progress) → r ≡ levelWeight t weight progress
+pub weight-on : (t : ReconciliationStatus) (weight progress : Float) {x r : Float} → t ≡ Blending x → r ≡ clampedOf (add binary64 x progress) → r ≡ levelWeight t weight progress
 unfolding levelWeight
 weight-on t weight progress h hr = rw h hr
 
@@ -311,7 +312,7 @@ opens-by (Blending x) q rules s t e h =
     let w : s .worlds .weight ≡ x = sym (status-weight (s .worlds) t) in
     record {
       begins = (λ i. openedOf (t i) (snapshotOf s) p s)
-          ∙ (λ i. still (withWorlds s (withWeight (s .worlds) (clamped (add binary64 (w i) p)))))
+          ∙ (λ i. still (withWorlds s (withWeight (s .worlds) (clampedOf (add binary64 (w i) p)))))
           ∙ (λ i. still (withWorlds s (withWeight (s .worlds) (levelWeight (sym t i) (s .worlds .weight) p))));
       blended = (λ i. blendedBy (t i) (snapshotOf s));
       goes = λ y. (λ i. stopsOf (t i) (snapshotOf s) (s .worlds) y);

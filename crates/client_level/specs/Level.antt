@@ -15,7 +15,7 @@ use Rattle.client.specs.declared.Queued.the-variants.{Nothing, Held}
 use Rattle.client.specs.declared.ClientWorldSimulations.{ClientWorldSimulations}
 use Rattle.client.specs.Sides.{newSideOf, oldSideOf, worldStampOf}
 use Rattle.client.specs.Status.{statusOf}
-use Rattle.client_frame.specs.Frame.{clamped}
+use Rattle.timestamp.specs.Floats.{clampedOf}
 use Rattle.command.specs.Ranks.{waitsOf}
 
 -- a world's buffer stays as it is at its next step
@@ -36,7 +36,7 @@ isLevel w m = not (eqb m 0) && (levelBy (statusOf w) (w .snapshots .queued) && (
 -- the weight after a level frame of this status: the one it blends with moves on, any other stays
 unfoldable pub levelWeight : ReconciliationStatus → Float → Float → Float
 levelWeight AwaitingSnapshot weight progress = weight
-levelWeight (Blending t) weight progress = clamped (add binary64 t progress)
+levelWeight (Blending t) weight progress = clampedOf (add binary64 t progress)
 levelWeight (Fastforwarding h) weight progress = weight
 
 -- the words of a level frame's steps

@@ -1,9 +1,9 @@
 -- What every update ends with: document 01, "src/client.rs" and "src/world/display_state.rs", and refusal 27.
 -- Definitions only. Assumes nothing.
 use Prim.Native.Nat.{ℕ}
-use mathlib.Core.Bool.{Bool, false, cond, _&&_}
-use lib.IntN.{pos}
-use lib.Ieee.{Float, fin, binary64, add, sub, mul, div, le}
+use mathlib.Core.Bool.{Bool, cond, _&&_}
+use lib.Ieee.{Float, binary64, add, mul, le}
+use Rattle.timestamp.specs.Floats.{zero64, one64}
 use Rattle.timestamp.specs.declared.Timestamp.{Timestamp}
 use Rattle.timestamp.specs.Timestamps.{differenceOf, inRange}
 use Rattle.timestamp.specs.FloatTimestamps.{floatOf}
@@ -17,13 +17,9 @@ use Rattle.client.specs.declared.ClientWorldSimulations.{ClientWorldSimulations
 use Rattle.client.specs.Sides.{withBase, oldStampOf, withSnapshots, withPublished}
 use Rattle.client.specs.Status.{laterOf}
 
--- the tween weight before it is shaped: 1 - overshoot / timestep
-unfoldable pub tweenOf : Float → Float → Float
-tweenOf overshoot timestep = sub binary64 (fin false 1 (pos 0)) (div binary64 overshoot timestep)
-
 -- a tween weight is in 0 to 1; where it is not, refusal 27
 unfoldable pub weightOk : Float → Bool
-weightOk t = le (fin false 0 (pos 0)) t && le t (fin false 1 (pos 0))
+weightOk t = le zero64 t && le t one64
 
 -- the time between the stamps b and a at a weight, in frames, not wrapped
 unfoldable pub timeOf : Timestamp → Timestamp → Float → Float

@@ -3,8 +3,9 @@
 use Prim.Native.Nat.{ℕ}
 use mathlib.Core.Bool.{Bool, false, cond}
 use mathlib.Core.List.{[], _∷_}
-use lib.IntN.{pos, negsuc}
-use lib.Ieee.{Float, fin, binary64, sub, neg, lt, eq}
+use lib.IntN.{negsuc}
+use lib.Ieee.{Float, fin, binary64, sub, lt, eq}
+use Rattle.timestamp.specs.Floats.{zero64, one64, absOf}
 use Rattle.tape.specs.Words.{publishWord, mixWords, noneWord}
 use Rattle.client.specs.declared.LastStamp.{LastStamp}
 use Rattle.client.specs.declared.LastStamp.the-variants.{Never, Last}
@@ -31,18 +32,14 @@ publishedMix s t = record { scene = withState s (Last (oldStampOf (s .worlds)));
 unfoldable pub publishedOld : Scene → Played
 publishedOld s = cond (worldOf (s .worlds) (oldSideOf (s .worlds)) .init) (publishedSide s (oldSideOf (s .worlds))) (publishedNone s)
 
--- the size of a number
-abbrev pub sizeOf : Float → Float
-sizeOf x = cond (lt x (fin false 0 (pos 0))) (neg x) x
-
 -- a weight is less than 2 ^ -52 from 1
 unfoldable pub nearOne : Float → Bool
-nearOne t = lt (sizeOf (sub binary64 t (fin false 1 (pos 0)))) (fin false 1 (negsuc 51))
+nearOne t = lt (absOf (sub binary64 t one64)) (fin false 1 (negsuc 51))
 
 -- both worlds are initialised: weight 0 gives old, weight near 1 gives new, any other a mix
 unfoldable pub publishedBoth : Scene → Played
 publishedBoth s =
-    cond (eq (s .worlds .weight) (fin false 0 (pos 0)))
+    cond (eq (s .worlds .weight) zero64)
     (publishedSide s (oldSideOf (s .worlds)))
     (cond (nearOne (s .worlds .weight)) (publishedSide s (newSideOf (s .worlds))) (publishedMix s (s .worlds .weight)))
 

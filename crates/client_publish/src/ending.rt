@@ -1,7 +1,8 @@
 // What every update ends with: the tween weight, the time to display, the base's stamp and the last queued stamp (`post_update` of src/client.rs and
 // the display state's time in src/world/display_state.rs of crystalorb).
 ghost use mathlib.Core.Path.{_≡_};
-ghost use Rattle.client_publish.specs.Ending.{tweenOf, weightOk, timeOf, displayedOf, revisedOf, postUpdateOf};
+ghost use Rattle.client_publish.specs.Ending.{weightOk, timeOf, displayedOf, revisedOf, postUpdateOf};
+ghost use Rattle.timestamp.specs.Floats.{tweenOf};
 use client::ClientWorldSimulations;
 use client::DisplayTime;
 use client::LastStamp;

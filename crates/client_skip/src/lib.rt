@@ -1,6 +1,6 @@
 // A skip to another stamp (`reset_last_completed_timestamp` of src/client.rs of crystalorb).
 ghost use mathlib.Core.Path.{_≡_};
-ghost use Prim.Native.Nat.{_<_, _≤_};
+ghost use Prim.Native.Nat.{_<_};
 ghost use Rattle.client.specs.Sides.{Plays};
 ghost use Rattle.client_skip.specs.Skip.{resetSide, resetAlong, skipsBack, emptiedBase, skippedOf};
 use client::Scene;

@@ -9,7 +9,8 @@ use native.Mathlib.Omega.{arith}
 use lib.ListN.{length, take, drop, getD, set, replicate, length-append, length-take, length-drop, length-set, drop-of-length-le}
 use lib.Seq.{slice, slice-cons, take-suc, take-take, drop-append-le, take-suc-set, take-set-lt, drop-set-lt, take-append-seam}
 use lib.Ieee.{Float, nan, binary64, lt, add}
-use Rattle.clocksync.specs.Mean.{nothing64, sampleInserted, placeOf, sortedOnto, sortedOf, sumFrom}
+use Rattle.clocksync.specs.Mean.{sampleInserted, placeOf, sortedOnto, sortedOf, sumFrom}
+use Rattle.timestamp.specs.Floats.{zero64}
 use Rattle.clocksync.specs.Clock.{laidOut, samplesOk, sampleOk}
 
 -- ---- laid out in slots
@@ -31,7 +32,7 @@ module _ {A : Type 0} where
   slice-none i n xs h = drop-of-length-le (take n xs) {i = i} (simp length-take (omega arith))
 
 pub laid-push : (xs : List Float) (x : Float) → length xs < 64 → set (laidOut xs) (length xs) x ≡ laidOut (xs ++ (x ∷ []))
-laid-push xs x h = pad-push 64 nothing64 xs x h
+laid-push xs x h = pad-push 64 zero64 xs x h
 
 -- what a clock with these slots holds
 pub take-laid : (xs : List Float) → take (length xs) (laidOut xs) ≡ xs
@@ -46,7 +47,7 @@ pub record Laying (start end : ℕ) (xs out : List Float) (i k : ℕ) : Type 0 w
   pub few : end ≤ 64
   pub long : length xs ≡ 64
 
-pub laying-start : (start end : ℕ) (xs out : List Float) → out ≡ replicate 64 nothing64 → start ≤ end → end ≤ 64 → length xs ≡ 64 → Laying start end xs out start 0
+pub laying-start : (start end : ℕ) (xs out : List Float) → out ≡ replicate 64 zero64 → start ≤ end → end ≤ 64 → length xs ≡ 64 → Laying start end xs out start 0
 laying-start start end xs out e h f l =
     let n = slice-none start start xs (omega arith) in
     record { slots = e ∙ ap laidOut (sym n); count = ap length (sym n); low = omega arith; high = h; few = f; long = l }

@@ -8,7 +8,8 @@ use lib.ListN.{length, drop}
 use lib.Ieee.{Float, lt, binary64, add}
 use Rattle.settings.specs.declared.Settings.{Settings}
 use Rattle.settings.specs.Settings.{samplesToDiscardOf, samplesToStoreOf}
-use Rattle.clocksync.specs.Mean.{nothing64, meanOf}
+use Rattle.clocksync.specs.Mean.{meanOf}
+use Rattle.timestamp.specs.Floats.{zero64}
 use Rattle.clocksync.specs.Clock.{heldOf, timedOf, tickedOf, firstOf, heardOf, deviatesOf, offsetAfter, sampledOf, filledOf, addedOf, namedOf, sampleOf}
 use Rattle.clocksync.specs.Clock.{settledOf, bothOf, readyOf}
 use Rattle.clocksync.specs.declared.Offset.{Offset}
@@ -114,7 +115,7 @@ module _ (c : Clock) (period delta : Float) where
   unfolding tickedOf
   ticked-offset = go (lt period (add binary64 (c .timer) delta)) (add binary64 (c .timer) delta)
     where
-      go : (b : Bool) (t : Float) → cond {A = Ticked} b (record { clock = timedOf c nothing64; request = true }) (record { clock = timedOf c t; request = false }) .clock .offset ≡ c .offset
+      go : (b : Bool) (t : Float) → cond {A = Ticked} b (record { clock = timedOf c zero64; request = true }) (record { clock = timedOf c t; request = false }) .clock .offset ≡ c .offset
       go true t = refl
       go false t = refl
 

@@ -14,7 +14,8 @@ use Rattle.float_laws.proofs.Round.{rnd-same}
 use Rattle.float_laws.proofs.Operations.{divQ, add-is-rounded, sub-is-rounded, div-is-rounded}
 use Rattle.float_laws.proofs.Within.{add-within, sub-within, div-within}
 use Rattle.clocksync.specs.Rfc5905.{halfQ, thetaOf}
-use Rattle.clocksync.specs.Offset.{two64, offsetOf, offsetBy}
+use Rattle.clocksync.specs.Offset.{offsetOf, offsetBy}
+use Rattle.timestamp.specs.Floats.{two64}
 
 -- ---- without rounding
 

@@ -16,7 +16,8 @@ use Rattle.settings.specs.Settings.{samplesToDiscardOf, samplesToStoreOf}
 use Rattle.clocksync.specs.declared.Offset.{Offset}
 use Rattle.clocksync.specs.declared.ClientId.{ClientId}
 use Rattle.clocksync.specs.declared.Clock.{Clock}
-use Rattle.clocksync.specs.Mean.{nothing64, sampleInserted, sortedOnto, sortedOf, sumFrom, innerOf, averageOf, meanOf}
+use Rattle.clocksync.specs.Mean.{sampleInserted, sortedOnto, sortedOf, sumFrom, innerOf, averageOf, meanOf}
+use Rattle.timestamp.specs.Floats.{zero64}
 use Rattle.clocksync.specs.Clock.{laidOut, heldOf, offsetAfter, sampledOf, filledOf, addedOf}
 use Rattle.clocksync.proofs.Lists.{laid-push, take-laid}
 
@@ -70,11 +71,11 @@ module _ (xs ordered : List Float) (len d : ℕ) {n : ℕ} (full : length xs ≡
   inner-length e = length-drop d (take (length (sortedOf (take len xs)) - d) (sortedOf (take len xs))) ∙ ap (λ (k : ℕ). k - d) (length-take (length (sortedOf (take len xs)) - d) (sortedOf (take len xs))) ∙ omega (arith, many, e)
 
   -- the sum of those inside, over their number
-  pub mean-is : {end count : ℕ} {sum over : Float} → end ≡ n - d → sum ≡ sumFrom nothing64 (drop d (take end ordered)) → count ≡ end - d → over ≡ ofInt binary64 (pos count) → div binary64 sum over ≡ meanOf d (take len xs)
+  pub mean-is : {end count : ℕ} {sum over : Float} → end ≡ n - d → sum ≡ sumFrom zero64 (drop d (take end ordered)) → count ≡ end - d → over ≡ ofInt binary64 (pos count) → div binary64 sum over ≡ meanOf d (take len xs)
   unfolding meanOf averageOf
   mean-is {end} {count} {sum} {over} e s k o =
-      ap (λ (y : Float). div binary64 y over) (s ∙ ap (sumFrom nothing64) (inner-is e))
-      ∙ ap (λ (y : Float). div binary64 (sumFrom nothing64 (innerOf d (sortedOf (take len xs)))) y) (o ∙ ap (λ (m : ℕ). ofInt binary64 (pos m)) (k ∙ sym (inner-length e)))
+      ap (λ (y : Float). div binary64 y over) (s ∙ ap (sumFrom zero64) (inner-is e))
+      ∙ ap (λ (y : Float). div binary64 (sumFrom zero64 (innerOf d (sortedOf (take len xs)))) y) (o ∙ ap (λ (m : ℕ). ofInt binary64 (pos m)) (k ∙ sym (inner-length e)))
 
 -- ---- one sample more
 

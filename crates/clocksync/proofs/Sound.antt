@@ -22,7 +22,8 @@ use Rattle.timestamp.proofs.Tests.{apart, both}
 use Rattle.settings.proofs.Limits.{Limited, period-within, discard-few, store-few, samples-pass}
 use Rattle.settings.proofs.Few.{needed-range}
 use Rattle.clocksync.specs.Offset.{offsetOf}
-use Rattle.clocksync.specs.Mean.{nothing64, sampleInserted, sortedOnto, sortedOf, innerOf, sumFrom, averageOf, meanOf}
+use Rattle.clocksync.specs.Mean.{sampleInserted, sortedOnto, sortedOf, innerOf, sumFrom, averageOf, meanOf}
+use Rattle.timestamp.specs.Floats.{zero64}
 use Rattle.clocksync.specs.Clock.{heldOf, newOf, timedOf, tickedOf, deviatesOf, offsetAfter, sampledOf, filledOf, addedOf, namedOf, sampleOf, settledOf}
 use Rattle.clocksync.specs.Clock.{sampleOk, samplesOk, timerOk, offsetOk, soundClock}
 use Rattle.clocksync.specs.declared.Offset.{Offset}
@@ -106,7 +107,7 @@ sum-is sum (x ∷ xs) = sum-is (add binary64 sum x) xs
 
 average-within : (xs : List Float) → 0 < length xs → length xs ≤ 64 → AllWithin (2 ^ 33) xs → Within (averageOf xs) (2 ^ 33)
 unfolding averageOf
-average-within xs h k a = subst (λ (y : Float). Within (div binary64 y (ofInt binary64 (pos (length xs)))) (2 ^ 33)) (sym (sum-is nothing64 xs)) (mean-within xs h k a)
+average-within xs h k a = subst (λ (y : Float). Within (div binary64 y (ofInt binary64 (pos (length xs)))) (2 ^ 33)) (sym (sum-is zero64 xs)) (mean-within xs h k a)
 
 -- the mean of samples within 2^33 is within 2^33, where some are left between the extremes
 pub mean-of-within : (d : ℕ) (xs : List Float) → d + d < length xs → length xs ≤ 64 → AllWithin (2 ^ 33) xs → Within (meanOf d xs) (2 ^ 33)
@@ -171,7 +172,7 @@ timer-ticks s c delta pass f w h =
     let ft = add-finite (c .timer) delta f (is _ (a .0)) (within-widen delta 3600 (2 ^ 53) (lit≤ tt) w) in
     go t ft (lt (s .period) t) refl (period-within s pass)
   where
-    go : (t : Float) → T (finite t) → (b : Bool) → lt (s .period) t ≡ b → Limited nothing64 hour64 (s .period) → timerOk (cond {A = Ticked} b (record { clock = timedOf c nothing64; request = true }) (record { clock = timedOf c t; request = false }) .clock .timer) ≡ true
+    go : (t : Float) → T (finite t) → (b : Bool) → lt (s .period) t ≡ b → Limited zero64 hour64 (s .period) → timerOk (cond {A = Ticked} b (record { clock = timedOf c zero64; request = true }) (record { clock = timedOf c t; request = false }) .clock .timer) ≡ true
     go t ft true e p = refl
     go t ft false e p =
         both (is-true (finite t) ft)
@@ -182,7 +183,7 @@ pub timer-fits : (s : Settings) (c : Clock) (delta : Float) → T (fits binary64
 unfolding tickedOf fits
 timer-fits s c delta = go (lt (s .period) (add binary64 (c .timer) delta))
   where
-    go : (b : Bool) → T (fits binary64 (cond {A = Ticked} b (record { clock = timedOf c nothing64; request = true }) (record { clock = timedOf c (add binary64 (c .timer) delta); request = false }) .clock .timer))
+    go : (b : Bool) → T (fits binary64 (cond {A = Ticked} b (record { clock = timedOf c zero64; request = true }) (record { clock = timedOf c (add binary64 (c .timer) delta); request = false }) .clock .timer))
     go true = tt
     go false = add-fits binary64 (c .timer) delta
 
@@ -191,7 +192,7 @@ ticked-is : (c : Clock) (period delta : Float) → tickedOf c period delta .cloc
 unfolding tickedOf
 ticked-is c period delta = go (lt period (add binary64 (c .timer) delta)) (add binary64 (c .timer) delta)
   where
-    go : (b : Bool) (t : Float) → cond {A = Ticked} b (record { clock = timedOf c nothing64; request = true }) (record { clock = timedOf c t; request = false }) .clock ≡ timedOf c (cond {A = Ticked} b (record { clock = timedOf c nothing64; request = true }) (record { clock = timedOf c t; request = false }) .clock .timer)
+    go : (b : Bool) (t : Float) → cond {A = Ticked} b (record { clock = timedOf c zero64; request = true }) (record { clock = timedOf c t; request = false }) .clock ≡ timedOf c (cond {A = Ticked} b (record { clock = timedOf c zero64; request = true }) (record { clock = timedOf c t; request = false }) .clock .timer)
     go true t = refl
     go false t = refl
 

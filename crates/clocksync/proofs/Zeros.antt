@@ -20,7 +20,8 @@ use Rattle.float_laws.specs.Fractions.{Same, sgn, rnd}
 use Rattle.float_laws.proofs.Value.{le-to-val}
 use Rattle.float_laws.proofs.Round.{rnd-at-most}
 use Rattle.settings.proofs.Discard.{plus, round-plus}
-use Rattle.clocksync.specs.Mean.{nothing64, sortedOf, innerOf, sumFrom, averageOf, meanOf}
+use Rattle.clocksync.specs.Mean.{sortedOf, innerOf, sumFrom, averageOf, meanOf}
+use Rattle.timestamp.specs.Floats.{zero64}
 use Rattle.clocksync.specs.Order.{All, AllFinite, AllFit, Ordered, Permutes}
 use Rattle.clocksync.proofs.Sort.{AllSame, sorted-permutes, permuted-all, any-order}
 
@@ -377,8 +378,8 @@ inner-same d xs ys s =
 average-alike : (xs ys : List Float) → AllFit xs → AllFit ys → AllFinite xs → AllFinite ys → AllSame xs ys → averageOf xs ≡ averageOf ys
 unfolding averageOf fits
 average-alike xs ys a b c d s =
-    ap (λ (t : Float). div binary64 t (ofInt binary64 (pos (length xs)))) (sum-alike nothing64 xs ys tt tt a b c d s)
-    ∙ ap (λ (n : ℕ). div binary64 (sumFrom nothing64 ys) (ofInt binary64 (pos n))) (same-length xs ys s)
+    ap (λ (t : Float). div binary64 t (ofInt binary64 (pos (length xs)))) (sum-alike zero64 xs ys tt tt a b c d s)
+    ∙ ap (λ (n : ℕ). div binary64 (sumFrom zero64 ys) (ofInt binary64 (pos n))) (same-length xs ys s)
 
 -- the mean does not turn on how a sort leaves equal samples, -0.0 and +0.0 among them: any ordered permutation of the samples has it
 pub mean-of-any-order : (d : ℕ) (xs ys : List Float) → AllFit xs → AllFinite xs → Permutes xs ys → Ordered ys → averageOf (innerOf d ys) ≡ meanOf d xs

@@ -6,12 +6,13 @@ use mathlib.Core.List.{List, [], _∷_, _++_}
 use lib.Dec.{leb, ltb, eqb}
 use lib.IntN.{pos}
 use lib.ListN.{length, take, drop, replicate}
-use lib.Ieee.{Float, nan, inf, fin, binary64, lt, le, add, sub}
+use lib.Ieee.{Float, fin, binary64, lt, le, add, sub}
 use lib.Ieee.Scale.{finite}
 use Rattle.settings.specs.declared.Settings.{Settings}
 use Rattle.settings.specs.Settings.{between, hour64, samplesToDiscardOf, samplesToStoreOf}
 use Rattle.clocksync.specs.Offset.{offsetOf}
-use Rattle.clocksync.specs.Mean.{nothing64, meanOf}
+use Rattle.clocksync.specs.Mean.{meanOf}
+use Rattle.timestamp.specs.Floats.{zero64, absOf}
 use Rattle.clocksync.specs.declared.Offset.{Offset}
 use Rattle.clocksync.specs.declared.Offset.the-variants.{NoOffset, Seconds}
 use Rattle.clocksync.specs.declared.ClientId.{ClientId}
@@ -26,7 +27,7 @@ use Rattle.clocksync.specs.declared.Heard.{Heard}
 
 -- samples in the 64 slots of a clock, the slots after them at +0.0
 abbrev pub laidOut : List Float → List Float
-laidOut xs = xs ++ replicate (64 - length xs) nothing64
+laidOut xs = xs ++ replicate (64 - length xs) zero64
 
 -- the samples that a clock holds, oldest first; of a clock that is not sound no more than 63 count
 unfoldable pub heldOf : Clock → List Float
@@ -34,7 +35,7 @@ heldOf c = take (min (c .len) 63) (c .samples)
 
 -- a clock that has heard nothing
 unfoldable pub newOf : Clock
-newOf = record { offset = NoOffset; samples = laidOut []; len = 0; timer = nothing64; id = NoId }
+newOf = record { offset = NoOffset; samples = laidOut []; len = 0; timer = zero64; id = NoId }
 
 -- ---- the timer
 
@@ -46,7 +47,7 @@ timedOf c t = record { offset = c .offset; samples = c .samples; len = c .len; t
 unfoldable pub tickedOf : Clock → Float → Float → Ticked
 tickedOf c period delta =
     let t = add binary64 (c .timer) delta in
-    cond (lt period t) (record { clock = timedOf c nothing64; request = true }) (record { clock = timedOf c t; request = false })
+    cond (lt period t) (record { clock = timedOf c zero64; request = true }) (record { clock = timedOf c t; request = false })
 
 -- ---- clock messages
 
@@ -71,15 +72,9 @@ heardOf seconds h number send server =
 
 -- ---- one sample more
 
--- the size of a number, its sign left aside
-abbrev pub sizeOf : Float → Float
-sizeOf nan = nan
-sizeOf (inf s) = inf false
-sizeOf (fin s m e) = fin false m e
-
 -- the mean is further from the offset than the deviation
 unfoldable pub deviatesOf : Float → Float → Float → Bool
-deviatesOf mean offset deviation = lt deviation (sizeOf (sub binary64 mean offset))
+deviatesOf mean offset deviation = lt deviation (absOf (sub binary64 mean offset))
 
 -- the offset after a mean was taken: the mean at the initial sync and where it deviates, else the old one
 abbrev pub offsetAfter : Offset → Float → Float → Offset

@@ -1,15 +1,12 @@
 -- Document 01, "src/clocksync.rs": the mean of samples. It sorts, drops both extremes and sums upward from +0.0.
 -- Definitions only. Assumes nothing.
 use Prim.Native.Nat.{ℕ, suc, _-_}
-use mathlib.Core.Bool.{false, cond}
+use mathlib.Core.Bool.{cond}
 use mathlib.Core.List.{List, [], _∷_}
 use lib.IntN.{pos}
 use lib.ListN.{length, take, drop}
-use lib.Ieee.{Float, fin, binary64, lt, add, div, ofInt}
-
--- +0.0
-abbrev pub nothing64 : Float
-nothing64 = fin false 0 (pos 0)
+use lib.Ieee.{Float, binary64, lt, add, div, ofInt}
+use Rattle.timestamp.specs.Floats.{zero64}
 
 -- x in a sorted list: before the first that is greater, so after those that are equal to it, -0.0 and +0.0 among them
 unfoldable pub sampleInserted : Float → List Float → List Float
@@ -41,7 +38,7 @@ sumFrom sum (x ∷ xs) = sumFrom (add binary64 sum x) xs
 
 -- the sum from +0.0 upward over the number of samples; a NaN where none is left
 unfoldable pub averageOf : List Float → Float
-averageOf xs = div binary64 (sumFrom nothing64 xs) (ofInt binary64 (pos (length xs)))
+averageOf xs = div binary64 (sumFrom zero64 xs) (ofInt binary64 (pos (length xs)))
 
 -- the mean of the samples, d of them dropped at each extreme
 unfoldable pub meanOf : ℕ → List Float → Float

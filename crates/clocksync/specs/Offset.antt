@@ -1,14 +1,9 @@
 -- Document 01, "src/clocksync.rs": the offset that a clock message measures, each operation IEEE 754's in the Rust's order. Its exact value is RFC 5905's offset with T2 = T3, the server's time.
 -- Definitions only. Assumes nothing.
-use mathlib.Core.Bool.{false}
-use lib.IntN.{pos}
-use lib.Ieee.{Float, fin, binary64, add, sub, div}
+use lib.Ieee.{Float, binary64, add, sub, div}
+use Rattle.timestamp.specs.Floats.{two64}
 use Rattle.float_laws.specs.Fractions.{Q, addQ, subQ}
 use Rattle.clocksync.specs.Rfc5905.{halfQ}
-
--- 2
-abbrev pub two64 : Float
-two64 = fin false 1 (pos 1)
 
 -- the server's time, less half of the sum of the client's send time and its time of receipt
 unfoldable pub offsetOf : Float → Float → Float → Float

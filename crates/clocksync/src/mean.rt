@@ -2,7 +2,8 @@
 ghost use mathlib.Core.Path.{_≡_};
 ghost use Prim.Native.Nat.{_+_, _-_, _≤_, _<_, min};
 ghost use lib.ListN.{take, drop};
-ghost use Rattle.clocksync.specs.Mean.{sampleInserted, placeOf, sortedOf, sumFrom, meanOf, nothing64};
+ghost use Rattle.clocksync.specs.Mean.{sampleInserted, placeOf, sortedOf, sumFrom, meanOf};
+ghost use Rattle.timestamp.specs.Floats.{zero64};
 
 // The mean of the first `len` samples (of at most 64): sorted, `discard` of them left out at each end, summed upward from +0.0.
 pub fn mean_of(samples: [f64; 64], len: usize, discard: usize) -> f64
@@ -66,7 +67,7 @@ fn sorted(samples: [f64; 64], n: usize) -> [f64; 64]
 // The sum of those from `start` to before `end`, upward from +0.0.
 fn sum_between(samples: [f64; 64], start: usize, end: usize) -> f64
     requires { ⌜ end ≤ 64 ⌝ }
-    ensures { λ r. ⌜ r ≡ sumFrom nothing64 (drop start (take end samples)) ⌝ }
+    ensures { λ r. ⌜ r ≡ sumFrom zero64 (drop start (take end samples)) ⌝ }
 {
     let mut sum = 0.0;
     let mut i = start;

@@ -11,7 +11,8 @@ use Rattle.client.specs.Sides.{oldStampOf}
 use Rattle.client_frame.specs.Frame.{frameOf, frameStops}
 use Rattle.refusals.specs.declared.Stop.{Stop}
 use Rattle.refusals.specs.declared.Stop.the-variants.{Done, TooManyFrames, StatusStops}
-use Rattle.fixed_timestepper.specs.TimeKeeper.{skippedBy, unendedOf, nought, rulesOf, Event, FrameFrom, SkipFrom, Run, ended, framed, goesOn, whileBelow, runOf, compensatedOf, correctedOf, skipsOf, skipped, maybeSkipped, advancedOf, updatedOf}
+use Rattle.fixed_timestepper.specs.TimeKeeper.{skippedBy, unendedOf, rulesOf, Event, FrameFrom, SkipFrom, Run, ended, framed, goesOn, whileBelow, runOf, compensatedOf, correctedOf, skipsOf, skipped, maybeSkipped, advancedOf, updatedOf}
+use Rattle.timestamp.specs.Floats.{zero64}
 use Rattle.session_state.specs.declared.Session.{Session}
 use Rattle.refusals.specs.Limits.{mostFrames}
 use Rattle.timestamp.proofs.Basics.{not-true}
@@ -54,23 +55,23 @@ shaped-while false c s o r h = shaped-ended c Done s o
 
 shaped-run : (n : ℕ) (c : Settings) (s : Scene) (o : Float) → Shaped c s o (runOf n c s o)
 unfolding runOf
-shaped-run zero c s o = shaped-while (lt o nought) c s o (ended TooManyFrames s o) (shaped-ended c TooManyFrames s o)
+shaped-run zero c s o = shaped-while (lt o zero64) c s o (ended TooManyFrames s o) (shaped-ended c TooManyFrames s o)
 shaped-run (suc n) c s o =
     let t : Scene = frameOf (rulesOf c) s .scene in
     let x : Float = add binary64 o (c .timestep) in
     let b : Bool = frameStops (rulesOf c) s in
-    shaped-while (lt o nought) c s o (framed (rulesOf c) s (goesOn b t x (runOf n c t x)))
+    shaped-while (lt o zero64) c s o (framed (rulesOf c) s (goesOn b t x (runOf n c t x)))
     (shaped-framed c s o (goesOn b t x (runOf n c t x)) (shaped-goes b c t x (runOf n c t x) (shaped-run n c t x)))
 
 -- frames that ended by themselves are as many as the overshoot needs
 run-count : (n : ℕ) (c : Settings) (s : Scene) (o : Float) → runOf n c s o .stop ≡ Done → runOf n c s o .frames ≡ framesFor n (c .timestep) o
 unfolding runOf framed
-run-count zero c s o d = go (lt o nought)
+run-count zero c s o d = go (lt o zero64)
   where
     go : (b : Bool) → whileBelow b s o (ended TooManyFrames s o) .frames ≡ 0
     go true = refl
     go false = refl
-run-count (suc n) c s o d = go (lt o nought) (run-count n c t x) d
+run-count (suc n) c s o d = go (lt o zero64) (run-count n c t x) d
   where
     t : Scene
     t = frameOf (rulesOf c) s .scene

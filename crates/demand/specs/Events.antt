@@ -11,14 +11,15 @@ use Rattle.client.specs.declared.Scene.{Scene}
 use Rattle.client.specs.Sides.{oldStampOf}
 use Rattle.client_frame.specs.declared.Rules.{Rules}
 use Rattle.client_frame.specs.Frame.{frameOf}
-use Rattle.fixed_timestepper.specs.TimeKeeper.{nought, rulesOf, Event, FrameFrom, SkipFrom, compensatedOf, correctedOf, skipsOf}
+use Rattle.fixed_timestepper.specs.TimeKeeper.{rulesOf, Event, FrameFrom, SkipFrom, compensatedOf, correctedOf, skipsOf}
+use Rattle.timestamp.specs.Floats.{zero64}
 use Rattle.session_state.specs.declared.Session.{Session}
 use Rattle.session.specs.Calls.{laggedOf, clockAfter, sceneAfter}
 
 -- how many frames bring an overshoot to 0 or above, each adding the timestep: so many at most
 abbrev pub framesFor : ℕ → Float → Float → ℕ
 framesFor zero t o = 0
-framesFor (suc n) t o = cond (lt o nought) (suc (framesFor n t (add binary64 o t))) 0
+framesFor (suc n) t o = cond (lt o zero64) (suc (framesFor n t (add binary64 o t))) 0
 
 -- so many frames, each from the scene that the one before it leaves
 abbrev pub framesPlayed : ℕ → Rules → Scene → List Event

@@ -16,9 +16,10 @@ use Rattle.client.specs.declared.Shown.{Shown}
 use Rattle.client.specs.declared.ClientWorldSimulations.{ClientWorldSimulations}
 use Rattle.client.specs.Sides.{oldStampOf, andThen, Plays}
 use Rattle.client_skip.specs.Skip.{skippedOf}
-use Rattle.client_publish.specs.Ending.{tweenOf, postUpdateOf}
+use Rattle.client_publish.specs.Ending.{postUpdateOf}
+use Rattle.timestamp.specs.Floats.{tweenOf, absOf}
 use Rattle.fixed_timestepper.specs.declared.Advanced.{Advanced}
-use Rattle.fixed_timestepper.specs.TimeKeeper.{absOf, driftOf, correctedOf, correctedOvershoot, Run, skipsOf, skipped, maybeSkipped, endedOf}
+use Rattle.fixed_timestepper.specs.TimeKeeper.{driftOf, correctedOf, correctedOvershoot, Run, skipsOf, skipped, maybeSkipped, endedOf}
 use Rattle.fixed_timestepper.specs.Inner.{runBy, Skips}
 
 -- the test for a skip, by the calls that make it

@@ -15,10 +15,11 @@ use Rattle.client.specs.Sides.{newSideOf, oldSideOf, oldStampOf, newStampOf, wi
 use Rattle.client_frame.specs.Frame.{frameOf, frameStops}
 use Rattle.client_frame.proofs.Induction.{Law, Chains, quietly, quiet-by, still-by, either-by, new-below, old-below, frame-by, resetAt, Moves, parts-by}
 use Rattle.client_skip.specs.Skip.{resetSide, resetAlong, skipsBack, emptiedBase, resetBoth, skippedOf}
-use Rattle.client_publish.specs.Ending.{tweenOf, postUpdateOf}
+use Rattle.client_publish.specs.Ending.{postUpdateOf}
+use Rattle.timestamp.specs.Floats.{tweenOf, zero64}
 use Rattle.refusals.specs.declared.Stop.{Stop}
 use Rattle.refusals.specs.declared.Stop.the-variants.{Done, TooManyFrames, StatusStops}
-use Rattle.fixed_timestepper.specs.TimeKeeper.{nought, compensatedOf, rulesOf, Run, ended, framed, goesOn, whileBelow, runOf, correctedOf, skipsOf, skipped, maybeSkipped, endsWith, skippedBy, advancedOf, unendedOf, updatedOf}
+use Rattle.fixed_timestepper.specs.TimeKeeper.{compensatedOf, rulesOf, Run, ended, framed, goesOn, whileBelow, runOf, correctedOf, skipsOf, skipped, maybeSkipped, endsWith, skippedBy, advancedOf, unendedOf, updatedOf}
 
 -- the frame of a scene
 abbrev pub frame : Settings → Scene → Played
@@ -32,29 +33,29 @@ later c o = add binary64 o (c .timestep)
 
 -- a relation of at most n frames, the scene and the overshoot before them, and the run: of each way to end, and of a frame in front
 pub record Runs (c : Settings) (R : ℕ → Scene → Float → Run → Type 0) : Type 0 where
-  pub full : (s : Scene) (o : Float) → lt o nought ≡ true → R 0 s o (ended TooManyFrames s o)
-  pub done : (n : ℕ) (s : Scene) (o : Float) → lt o nought ≡ false → R n s o (ended Done s o)
-  pub stops : (n : ℕ) (s : Scene) (o : Float) → lt o nought ≡ true → R (suc n) s o (framed (rulesOf c) s (ended StatusStops (frame c s .scene) (later c o)))
-  pub goes : (n : ℕ) (s : Scene) (o : Float) (r : Run) → lt o nought ≡ true → R n (frame c s .scene) (later c o) r → R (suc n) s o (framed (rulesOf c) s r)
+  pub full : (s : Scene) (o : Float) → lt o zero64 ≡ true → R 0 s o (ended TooManyFrames s o)
+  pub done : (n : ℕ) (s : Scene) (o : Float) → lt o zero64 ≡ false → R n s o (ended Done s o)
+  pub stops : (n : ℕ) (s : Scene) (o : Float) → lt o zero64 ≡ true → R (suc n) s o (framed (rulesOf c) s (ended StatusStops (frame c s .scene) (later c o)))
+  pub goes : (n : ℕ) (s : Scene) (o : Float) (r : Run) → lt o zero64 ≡ true → R n (frame c s .scene) (later c o) r → R (suc n) s o (framed (rulesOf c) s r)
 
 module _ {c : Settings} {R : ℕ → Scene → Float → Run → Type 0} (h : Runs c R) where
-  below-by : (n : ℕ) (s : Scene) (o : Float) (r : Run) (b : Bool) → lt o nought ≡ b → (lt o nought ≡ true → R n s o r) → R n s o (whileBelow b s o r)
+  below-by : (n : ℕ) (s : Scene) (o : Float) (r : Run) (b : Bool) → lt o zero64 ≡ b → (lt o zero64 ≡ true → R n s o r) → R n s o (whileBelow b s o r)
   below-by n s o r true e k = k e
   below-by n s o r false e k = h .done n s o e
 
-  goes-by : (n : ℕ) (s : Scene) (o : Float) (r : Run) (b : Bool) → lt o nought ≡ true → R n (frame c s .scene) (later c o) r → R (suc n) s o (framed (rulesOf c) s (goesOn b (frame c s .scene) (later c o) r))
+  goes-by : (n : ℕ) (s : Scene) (o : Float) (r : Run) (b : Bool) → lt o zero64 ≡ true → R n (frame c s .scene) (later c o) r → R (suc n) s o (framed (rulesOf c) s (goesOn b (frame c s .scene) (later c o) r))
   goes-by n s o r true e k = h .stops n s o e
   goes-by n s o r false e k = h .goes n s o r e k
 
   -- so many frames at most
   pub run-by : (n : ℕ) (s : Scene) (o : Float) → R n s o (runOf n c s o)
   unfolding runOf
-  run-by zero s o = below-by 0 s o (ended TooManyFrames s o) (lt o nought) refl (h .full s o)
+  run-by zero s o = below-by 0 s o (ended TooManyFrames s o) (lt o zero64) refl (h .full s o)
   run-by (suc n) s o =
       let b : Bool = frameStops (rulesOf c) s in
       let q : Run = runOf n c (frame c s .scene) (later c o) in
       let i : R n (frame c s .scene) (later c o) q = run-by n (frame c s .scene) (later c o) in
-      below-by (suc n) s o (framed (rulesOf c) s (goesOn b (frame c s .scene) (later c o) q)) (lt o nought) refl (λ e. goes-by n s o q b e i)
+      below-by (suc n) s o (framed (rulesOf c) s (goesOn b (frame c s .scene) (later c o) q)) (lt o zero64) refl (λ e. goes-by n s o q b e i)
 
 -- ---- what comes after them
 

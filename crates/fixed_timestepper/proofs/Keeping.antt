@@ -6,7 +6,8 @@ use lib.Ieee.{Float, fin, binary64, sub, mul, lt}
 use Rattle.timestamp.specs.declared.Timestamp.{Timestamp}
 use Rattle.timestamp.specs.FloatTimestamps.{fromSeconds, floatDifferenceOf, asSeconds, floatOf}
 use Rattle.settings.specs.declared.Settings.{Settings}
-use Rattle.fixed_timestepper.specs.TimeKeeper.{nought, absOf, atLeastZero, logicalOf, driftOf, beyondDeadband, uncappedOf, compensatedOf}
+use Rattle.fixed_timestepper.specs.TimeKeeper.{atLeastZero, logicalOf, driftOf, beyondDeadband, uncappedOf, compensatedOf}
+use Rattle.timestamp.specs.Floats.{zero64, absOf}
 
 -- a pick whose test is true
 pub picked-true : {A : Type 0} {b : Bool} (x y : A) → b ≡ true → x ≡ cond b x y
@@ -27,12 +28,12 @@ unfolding driftOf
 drift-is stamp overshoot timestep server ha hb hd hr = hr ∙ ap (λ (x : Float). asSeconds x timestep) (hd ∙ (λ i. floatDifferenceOf (ha i) (hb i)))
 
 -- a drift in the dead band
-pub deadband-in : (drift timestep : Float) {a : Float} → a ≡ absOf drift → lt a (mul binary64 timestep (fin false 1 (negsuc 0))) ≡ true → nought ≡ beyondDeadband drift timestep
-deadband-in drift timestep ha h = picked-true nought drift (ap (λ (x : Float). lt x (mul binary64 timestep (fin false 1 (negsuc 0)))) (sym ha) ∙ h)
+pub deadband-in : (drift timestep : Float) {a : Float} → a ≡ absOf drift → lt a (mul binary64 timestep (fin false 1 (negsuc 0))) ≡ true → zero64 ≡ beyondDeadband drift timestep
+deadband-in drift timestep ha h = picked-true zero64 drift (ap (λ (x : Float). lt x (mul binary64 timestep (fin false 1 (negsuc 0)))) (sym ha) ∙ h)
 
 -- and one beyond it
 pub deadband-out : (drift timestep : Float) {a : Float} → a ≡ absOf drift → lt a (mul binary64 timestep (fin false 1 (negsuc 0))) ≡ false → drift ≡ beyondDeadband drift timestep
-deadband-out drift timestep ha h = picked-false nought drift (ap (λ (x : Float). lt x (mul binary64 timestep (fin false 1 (negsuc 0)))) (sym ha) ∙ h)
+deadband-out drift timestep ha h = picked-false zero64 drift (ap (λ (x : Float). lt x (mul binary64 timestep (fin false 1 (negsuc 0)))) (sym ha) ∙ h)
 
 -- the delta before it is capped
 pub uncapped-is : (stamp : Timestamp) (overshoot delta server timestep : Float) {d b u : Float} → d ≡ driftOf stamp overshoot timestep (sub binary64 server delta) → b ≡ beyondDeadband d timestep → u ≡ atLeastZero (sub binary64 delta b) → u ≡ uncappedOf stamp overshoot delta server timestep

@@ -18,7 +18,8 @@ use Rattle.client_level.specs.Level.{isLevel}
 use Rattle.client_level.proofs.Levelling.{level-stops, level-stamp}
 use Rattle.refusals.specs.declared.Stop.the-variants.{Done}
 use Rattle.fixed_timestepper.specs.declared.Advanced.{Advanced}
-use Rattle.fixed_timestepper.specs.TimeKeeper.{nought, rulesOf, Run, ended, framed, goesOn, runOf, skipsOf, Advances}
+use Rattle.fixed_timestepper.specs.TimeKeeper.{rulesOf, Run, ended, framed, goesOn, runOf, skipsOf, Advances}
+use Rattle.timestamp.specs.Floats.{zero64}
 use Rattle.fixed_timestepper.specs.Inner.{isSingle, levelRun, Skips}
 use Rattle.fixed_timestepper.proofs.Ending.{skip-none}
 use Rattle.fixed_timestepper.proofs.Induction.{frame}
@@ -27,17 +28,17 @@ use Rattle.fixed_timestepper.proofs.Running.{goes-at, done-at}
 -- ---- the tests
 
 -- one frame and no more
-pub single-more : (o t : Float) → lt o nought ≡ true → lt (add binary64 o t) nought ≡ true → false ≡ isSingle o t
+pub single-more : (o t : Float) → lt o zero64 ≡ true → lt (add binary64 o t) zero64 ≡ true → false ≡ isSingle o t
 unfolding isSingle
 single-more o t h k = λ i. cond (sym h i) (cond (sym k i) false true) false
 
-pub single-one : (o t : Float) → lt o nought ≡ true → lt (add binary64 o t) nought ≡ false → true ≡ isSingle o t
+pub single-one : (o t : Float) → lt o zero64 ≡ true → lt (add binary64 o t) zero64 ≡ false → true ≡ isSingle o t
 unfolding isSingle
 single-one o t h k = λ i. cond (sym h i) (cond (sym k i) false true) false
 
-pub single-none : (o t : Float) → lt o nought ≡ false → false ≡ isSingle o t
+pub single-none : (o t : Float) → lt o zero64 ≡ false → false ≡ isSingle o t
 unfolding isSingle
-single-none o t h = λ i. cond (sym h i) (cond (lt (add binary64 o t) nought) false true) false
+single-none o t h = λ i. cond (sym h i) (cond (lt (add binary64 o t) zero64) false true) false
 
 module _ (w : ClientWorldSimulations) (t : Timestamp) (o server : Float) (c : Settings) {p : Bool} (hp : p ≡ isSingle o (c .timestep)) where
   -- not one frame
@@ -78,9 +79,9 @@ single-by true false h = (refl, refl)
 single-by false y h = absurd (false≢true h)
 
 module _ (c : Settings) (s : Scene) (o : Float) (single : isSingle o (c .timestep) ≡ true) (level : isLevel (s .worlds) (c .m) ≡ true) where
-  bounds : (lt o nought ≡ true) × (lt (add binary64 o (c .timestep)) nought ≡ false)
+  bounds : (lt o zero64 ≡ true) × (lt (add binary64 o (c .timestep)) zero64 ≡ false)
   unfolding isSingle
-  bounds = single-by (lt o nought) (lt (add binary64 o (c .timestep)) nought) single
+  bounds = single-by (lt o zero64) (lt (add binary64 o (c .timestep)) zero64) single
 
   -- the run is the one frame
   single-run : runOf 65 c s o ≡ framed (rulesOf c) s (ended Done (frame c s .scene) (add binary64 o (c .timestep)))

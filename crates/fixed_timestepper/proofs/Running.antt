@@ -17,7 +17,8 @@ use Rattle.client_frame.specs.Frame.{frameOf, frameStops, Frames}
 use Rattle.client_frame.proofs.Bounds.{Few, frame-short}
 use Rattle.refusals.specs.declared.Stop.{Stop}
 use Rattle.refusals.specs.declared.Stop.the-variants.{Done, TooManyFrames, StatusStops}
-use Rattle.fixed_timestepper.specs.TimeKeeper.{nought, rulesOf, Run, ended, framed, goesOn, whileBelow, runOf, Advances}
+use Rattle.fixed_timestepper.specs.TimeKeeper.{rulesOf, Run, ended, framed, goesOn, whileBelow, runOf, Advances}
+use Rattle.timestamp.specs.Floats.{zero64}
 use Rattle.fixed_timestepper.proofs.Induction.{frame, Runs, run-by}
 
 -- n frames were played from the scene `from`; the run q is what is left, from the scene s and the place p on
@@ -54,21 +55,21 @@ abbrev onward : ℕ → Settings → Scene → Float → Run
 onward k c s o = framed (rulesOf c) s (goesOn (frameStops (rulesOf c) s) (frame c s .scene) (add binary64 o (c .timestep)) (runOf k c (frame c s .scene) (add binary64 o (c .timestep))))
 
 -- the overshoot is not negative
-pub done-at : (k : ℕ) (c : Settings) (s : Scene) (o : Float) → lt o nought ≡ false → runOf k c s o ≡ ended Done s o
+pub done-at : (k : ℕ) (c : Settings) (s : Scene) (o : Float) → lt o zero64 ≡ false → runOf k c s o ≡ ended Done s o
 unfolding runOf
 done-at zero c s o h = ap (λ (b : Bool). whileBelow b s o (ended TooManyFrames s o)) h
 done-at (suc k) c s o h = ap (λ (b : Bool). whileBelow b s o (onward k c s o)) h
 
-pub running-done : (c : Settings) (from : Scene) (start : Float) {was tape : List ℕ} {s : Scene} {o : Float} {p n : ℕ} → Running c from start was tape s o p n → lt o nought ≡ false
+pub running-done : (c : Settings) (from : Scene) (start : Float) {was tape : List ℕ} {s : Scene} {o : Float} {p n : ℕ} → Running c from start was tape s o p n → lt o zero64 ≡ false
     → Advances (runOf 65 c from start) was (record { scene = s; overshoot = o; frames = n; at = p; stop = Done }) tape
 running-done c from start {was} {tape} {s} {o} {p} {n} r h = over-with c from start Done r (done-at (65 - n) c s o h)
 
 -- a 66th frame
-full-at : (c : Settings) (s : Scene) (o : Float) → lt o nought ≡ true → runOf zero c s o ≡ ended TooManyFrames s o
+full-at : (c : Settings) (s : Scene) (o : Float) → lt o zero64 ≡ true → runOf zero c s o ≡ ended TooManyFrames s o
 unfolding runOf
 full-at c s o h = ap (λ (b : Bool). whileBelow b s o (ended TooManyFrames s o)) h
 
-pub running-full : (c : Settings) (from : Scene) (start : Float) {was tape : List ℕ} {s : Scene} {o : Float} {p n : ℕ} → Running c from start was tape s o p n → lt o nought ≡ true → n ≡ 65
+pub running-full : (c : Settings) (from : Scene) (start : Float) {was tape : List ℕ} {s : Scene} {o : Float} {p n : ℕ} → Running c from start was tape s o p n → lt o zero64 ≡ true → n ≡ 65
     → Advances (runOf 65 c from start) was (record { scene = s; overshoot = o; frames = n; at = p; stop = TooManyFrames }) tape
 running-full c from start {was} {tape} {s} {o} {p} {n} r h e =
     let z : 65 - n ≡ 0 = omega arith in
@@ -77,13 +78,13 @@ running-full c from start {was} {tape} {s} {o} {p} {n} r h e =
 -- ---- one frame more
 
 -- a run with a frame in front
-pub goes-at : (k : ℕ) (c : Settings) (s : Scene) (o : Float) → lt o nought ≡ true
+pub goes-at : (k : ℕ) (c : Settings) (s : Scene) (o : Float) → lt o zero64 ≡ true
     → runOf (suc k) c s o ≡ onward k c s o
 unfolding runOf
 goes-at k c s o h = ap (λ (b : Bool). whileBelow b s o (onward k c s o)) h
 
 module _ (c : Settings) (from : Scene) (start : Float) {was tape mid : List ℕ} {s : Scene} {o : Float} {p n : ℕ} {f : Framed}
-    (r : Running c from start was tape s o p n) (below : lt o nought ≡ true) (few : n < 65) (small : c .m ≤ 64)
+    (r : Running c from start was tape s o p n) (below : lt o zero64 ≡ true) (few : n < 65) (small : c .m ≤ 64)
     (h : Frames (frame c s) (frameStops (rulesOf c) s) tape p f mid) where
   -- what is left after the frame
   after : Bool → Run

@@ -12,7 +12,8 @@ use Rattle.client.specs.declared.ClientWorldSimulations.{ClientWorldSimulations
 use Rattle.simulation.specs.World.{nextStamp}
 use Rattle.client_level.specs.Level.{isLevel}
 use Rattle.fixed_timestepper.specs.declared.Advanced.{Advanced}
-use Rattle.fixed_timestepper.specs.TimeKeeper.{nought, Run, skipsOf, maybeSkipped}
+use Rattle.fixed_timestepper.specs.TimeKeeper.{Run, skipsOf, maybeSkipped}
+use Rattle.timestamp.specs.Floats.{zero64}
 
 -- the run that the code's answer stands for, its words being those and its trace left aside
 abbrev pub runBy : Advanced → List ℕ → Run
@@ -20,7 +21,7 @@ runBy a ws = record { played = record { scene = a .scene; words = ws }; overshoo
 
 -- an overshoot asks for one frame and no more
 unfoldable pub isSingle : Float → Float → Bool
-isSingle o timestep = cond (lt o nought) (cond (lt (add binary64 o timestep) nought) false true) false
+isSingle o timestep = cond (lt o zero64) (cond (lt (add binary64 o timestep) zero64) false true) false
 
 -- an update of worlds with the stamp t, from the overshoot o, plays one level frame, and there is no skip after it
 unfoldable pub levelRun : ClientWorldSimulations → Timestamp → Float → Float → Settings → Bool

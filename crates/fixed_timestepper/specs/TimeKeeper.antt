@@ -4,8 +4,8 @@ use Prim.Native.Nat.{ℕ, zero, suc, _+_}
 use mathlib.Core.Bool.{Bool, true, false, cond}
 use mathlib.Core.List.{List, [], _∷_, _++_}
 use mathlib.Core.Path.{_≡_}
-use lib.IntN.{pos, negsuc}
-use lib.Ieee.{Float, fin, binary64, add, sub, mul, neg, lt, le}
+use lib.IntN.{negsuc}
+use lib.Ieee.{Float, fin, binary64, add, sub, mul, lt, le}
 use Rattle.timestamp.specs.declared.Timestamp.{Timestamp}
 use Rattle.timestamp.specs.Timestamps.{bitsOf}
 use Rattle.timestamp.specs.FloatTimestamps.{fromSeconds, floatDifferenceOf, asSeconds, floatOf, ceilStampOf}
@@ -19,23 +19,16 @@ use Rattle.client.specs.Sides.{oldStampOf, withWorlds, Played, still, andThen}
 use Rattle.client_frame.specs.declared.Rules.{Rules}
 use Rattle.client_frame.specs.Frame.{frameOf, frameStops}
 use Rattle.client_skip.specs.Skip.{skippedOf}
-use Rattle.client_publish.specs.Ending.{tweenOf, postUpdateOf}
+use Rattle.client_publish.specs.Ending.{postUpdateOf}
+use Rattle.timestamp.specs.Floats.{tweenOf, zero64, absOf}
 use Rattle.refusals.specs.Limits.{mostFrames}
 use Rattle.refusals.specs.declared.Stop.{Stop}
 use Rattle.refusals.specs.declared.Stop.the-variants.{Done, TooManyFrames, StatusStops}
 use Rattle.fixed_timestepper.specs.declared.Advanced.{Advanced}
 
--- +0.0
-abbrev pub nought : Float
-nought = fin false 0 (pos 0)
-
--- the size of a number
-abbrev pub absOf : Float → Float
-absOf x = cond (lt x nought) (neg x) x
-
 -- a number, or +0.0 where it is not above 0
 abbrev pub atLeastZero : Float → Float
-atLeastZero x = cond (lt nought x) x nought
+atLeastZero x = cond (lt zero64 x) x zero64
 
 -- the logical timestamp: the old stamp less the overshoot in frames
 unfoldable pub logicalOf : Timestamp → Float → Float → Float
@@ -47,7 +40,7 @@ driftOf stamp overshoot timestep server = asSeconds (floatDifferenceOf (logicalO
 
 -- a drift below half a timestep is not compensated
 abbrev pub beyondDeadband : Float → Float → Float
-beyondDeadband drift timestep = cond (lt (absOf drift) (mul binary64 timestep (fin false 1 (negsuc 0)))) nought drift
+beyondDeadband drift timestep = cond (lt (absOf drift) (mul binary64 timestep (fin false 1 (negsuc 0)))) zero64 drift
 
 -- the delta less the drift before the update, not negative
 unfoldable pub uncappedOf : Timestamp → Float → Float → Float → Float → Float
@@ -104,9 +97,9 @@ whileBelow false s o r = ended Done s o
 
 -- frames while the overshoot is negative, with so many left before refusal 25: each adds the timestep, and a frame that the Rust stops in is the last
 unfoldable pub runOf : ℕ → Settings → Scene → Float → Run
-runOf zero c s o = whileBelow (lt o nought) s o (ended TooManyFrames s o)
+runOf zero c s o = whileBelow (lt o zero64) s o (ended TooManyFrames s o)
 runOf (suc n) c s o =
-    whileBelow (lt o nought) s o
+    whileBelow (lt o zero64) s o
     (framed (rulesOf c) s
     (goesOn (frameStops (rulesOf c) s) (frameOf (rulesOf c) s .scene) (add binary64 o (c .timestep))
     (runOf n c (frameOf (rulesOf c) s .scene) (add binary64 o (c .timestep)))))

@@ -13,7 +13,8 @@ use lib.Ieee.Fits.{round-fits, neg-fits, reach}
 use lib.Ieee.Positive.{positive}
 use lib.Ieee.Scale.{finite}
 use Rattle.float_laws.specs.Fractions.{Q, Le, Eqv, addQ, negQ, subQ, mulQ, val, Same, sgn, rnd}
-use Rattle.float_laws.specs.Bounds.{zeroF, oneF, Between}
+use Rattle.float_laws.specs.Bounds.{Between}
+use Rattle.timestamp.specs.Floats.{zero64, one64}
 use Rattle.float_laws.proofs.Value.{q-le-refl, q-le-trans, le-to-val, le-of-val}
 use Rattle.float_laws.proofs.Order.{float-le-trans, between-finite}
 use Rattle.float_laws.proofs.Round.{has-value-finite, has-value-eqv, rnd-at-least, rnd-at-most}
@@ -40,14 +41,14 @@ unfolding Held
 held-eqv f a b h e = (h .0, h .1, h .2, (q-le-trans (val (h .0)) a b (h .3 .0) (e .0), q-le-trans b a (val (h .0)) (e .1) (h .3 .1)))
 
 -- 0 is held.
-pub held-zero : Held binary64 (val zeroF)
+pub held-zero : Held binary64 (val zero64)
 unfolding fits
-held-zero = held-val binary64 zeroF tt tt
+held-zero = held-val binary64 zero64 tt tt
 
 -- 1 is held.
-pub held-one : Held binary64 (val oneF)
+pub held-one : Held binary64 (val one64)
 unfolding fits
-held-one = held-val binary64 oneF tt tt
+held-one = held-val binary64 one64 tt tt
 
 dyadic-small : (f : Format) (n k : ℕ) → k ≤ low f → n < 2 ^ prec f → n * 2 ^ (low f - k) < 2 ^ (low f + suc (emax f))
 dyadic-small f n k h s =

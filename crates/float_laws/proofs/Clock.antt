@@ -16,7 +16,8 @@ use lib.Ieee.Exact.{HasValue}
 use lib.Ieee.Positive.{den}
 use lib.Ieee.Scale.{finite}
 use Rattle.float_laws.specs.Fractions.{Q, addQ, pnum, nnum, val, sgn, rnd}
-use Rattle.float_laws.specs.Bounds.{zeroF, Within}
+use Rattle.float_laws.specs.Bounds.{Within}
+use Rattle.timestamp.specs.Floats.{zero64, two64}
 use Rattle.float_laws.proofs.Order.{float-le-trans, between-finite}
 use Rattle.float_laws.proofs.Round.{rnd-mono, fits-bounds}
 use Rattle.float_laws.proofs.Operations.{add-is-rounded}
@@ -48,23 +49,19 @@ unfolding ofInt
 of-int-val n h = round-whole binary64 false n h
 
 -- The mean of 1 to 64 samples that are each within 2 ^ 33 is within 2 ^ 33, each rounding included.
-pub mean-within : (xs : List Float) → 0 < length xs → length xs ≤ 64 → AllWithin (2 ^ 33) xs → Within (div binary64 (sumUp zeroF xs) (ofInt binary64 (pos (length xs)))) (2 ^ 33)
+pub mean-within : (xs : List Float) → 0 < length xs → length xs ≤ 64 → AllWithin (2 ^ 33) xs → Within (div binary64 (sumUp zero64 xs) (ofInt binary64 (pos (length xs)))) (2 ^ 33)
 mean-within xs h k a =
     let n = length xs in
-    div-within (sumUp zeroF xs) (ofInt binary64 (pos n)) n _ (lit< tt) h (of-int-val n (omega arith))
-    (within-widen (sumUp zeroF xs) ((0 + n) * 2 ^ 33) _ (omega arith) (sum-within (2 ^ 33) xs zeroF 0 (omega arith) (zero-within (0 * 2 ^ 33)) a))
+    div-within (sumUp zero64 xs) (ofInt binary64 (pos n)) n _ (lit< tt) h (of-int-val n (omega arith))
+    (within-widen (sumUp zero64 xs) ((0 + n) * 2 ^ 33) _ (omega arith) (sum-within (2 ^ 33) xs zero64 0 (omega arith) (zero-within (0 * 2 ^ 33)) a))
 
 -- ---- the offset of a clock message
 
--- The float 2.
-abbrev pub twoF : Float
-twoF = fin false 1 (pos 1)
-
 -- Of times within 2 ^ 32, the offset s - (a + b) / 2 is within 2 ^ 33, each rounding included.
-pub offset-within : (a b s : Float) → Within a (2 ^ 32) → Within b (2 ^ 32) → Within s (2 ^ 32) → Within (sub binary64 s (div binary64 (add binary64 a b) twoF)) (2 ^ 33)
+pub offset-within : (a b s : Float) → Within a (2 ^ 32) → Within b (2 ^ 32) → Within s (2 ^ 32) → Within (sub binary64 s (div binary64 (add binary64 a b) two64)) (2 ^ 33)
 offset-within a b s h k l =
-    sub-within s (div binary64 (add binary64 a b) twoF) (2 ^ 32) (2 ^ 32) (lit< tt) l
-    (div-within (add binary64 a b) twoF 2 (2 ^ 32) (lit< tt) (lit< tt) (refl, refl) (add-within a b (2 ^ 32) (2 ^ 32) (lit< tt) h k))
+    sub-within s (div binary64 (add binary64 a b) two64) (2 ^ 32) (2 ^ 32) (lit< tt) l
+    (div-within (add binary64 a b) two64 2 (2 ^ 32) (lit< tt) (lit< tt) (refl, refl) (add-within a b (2 ^ 32) (2 ^ 32) (lit< tt) h k))
 
 -- ---- the request timer
 

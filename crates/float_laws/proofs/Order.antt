@@ -10,7 +10,7 @@ use lib.Ieee.Fits.{up-pos}
 use lib.Ieee.Positive.{den, positive}
 use lib.Ieee.Scale.{finite}
 use Rattle.float_laws.specs.Fractions.{Q, Lt, Eqv, pnum, nnum, val, Same}
-use Rattle.float_laws.specs.Bounds.{zeroF}
+use Rattle.timestamp.specs.Floats.{zero64}
 use Rattle.float_laws.proofs.Value.{q-le-trans, le-to-val, le-of-val, lt-to-val, lt-of-val}
 
 -- The test `<=` is transitive on all floats.
@@ -98,7 +98,7 @@ float-le-of-not-lt x y p q h = le-of-val y x q p (go (pnum x) (nnum x) (den x) (
 -- ---- floats above zero
 
 -- A finite float that is greater than 0 is `positive`.
-pub positive-of-lt : (t : Float) → T (finite t) → T (lt zeroF t) → T (positive t)
+pub positive-of-lt : (t : Float) → T (finite t) → T (lt zero64 t) → T (positive t)
 unfolding lt
 positive-of-lt nan p h = absurd p
 positive-of-lt (inf s) p h = absurd p

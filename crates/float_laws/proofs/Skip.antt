@@ -13,8 +13,9 @@ use lib.Ieee.Fits.{down-pos}
 use lib.Ieee.Positive.{den, den-pos}
 use lib.Ieee.Scale.{finite}
 use Rattle.float_laws.specs.Fractions.{Le, Lt, pnum, nnum, val}
-use Rattle.float_laws.specs.Bounds.{zeroF, oneF, Between, wholeQ, InUnit}
-use Rattle.float_laws.specs.Laws.{Step, tweenWeight, halfCycle, wrap, lastStamp, firstStamp, SkipCycle}
+use Rattle.float_laws.specs.Bounds.{Between, wholeQ, InUnit}
+use Rattle.timestamp.specs.Floats.{zero64, one64, tweenOf}
+use Rattle.float_laws.specs.Laws.{Step, halfCycle, wrap, lastStamp, firstStamp, SkipCycle}
 use Rattle.float_laws.proofs.Value.{le-to-val, lt-to-val, lt-of-val}
 use Rattle.float_laws.proofs.Round.{fits-bounds}
 use Rattle.float_laws.proofs.Bounds.{held-eqv, diffQ, held-diff, sub-between, mul-between, div-between}
@@ -25,7 +26,7 @@ use Rattle.float_laws.proofs.Overshoot.{mul-unit}
 use Rattle.float_laws.proofs.Wrap.{wrap-near, wrap-unit, wrap-cycle}
 
 -- Where c - x is from 0 to 1, the overshoot is from 0 to the timestep.
-pub skip-in : (z t : Float) → Step t → InUnit z → Between (val zeroF) (mul binary64 (wrap z) t) (val t)
+pub skip-in : (z t : Float) → Step t → InUnit z → Between (val zero64) (mul binary64 (wrap z) t) (val t)
 skip-in z t s w = mul-unit (wrap z) t (s .fits-t) (s .finite-t) (step-nonneg t s) (wrap-unit z w)
 
 -- ---- a target above the last stamp
@@ -114,13 +115,13 @@ past-share o t s b =
         omega arith
 
 -- Where x is above 32,767 and c is 32,767, the tween weight of the overshoot is above 1.
-pub skip-out : (x t : Float) → T (fits binary64 x) → T (finite x) → T (lt lastStamp x) → T (le x halfCycle) → Step t → T (lt oneF (tweenWeight (mul binary64 (wrap (sub binary64 lastStamp x)) t) t))
+pub skip-out : (x t : Float) → T (fits binary64 x) → T (finite x) → T (lt lastStamp x) → T (le x halfCycle) → Step t → T (lt one64 (tweenOf (mul binary64 (wrap (sub binary64 lastStamp x)) t) t))
 skip-out x t f p h k s =
     let y = wrap (sub binary64 lastStamp x) in
     let o = mul binary64 y t in
     let q = div binary64 o t in
     let b = past-share o t s (past-seconds y t s (past x f p h k)) in
-    let w = sub-between binary64 (diffQ (2 ^ 39 + 1) 0 39) (wholeQ false 1025) oneF q (held-diff binary64 (2 ^ 39 + 1) 0 39 (lit≤ tt) (lit< tt) (lit< tt)) (held-whole false 1025 (lit< tt)) tt (b .0)
+    let w = sub-between binary64 (diffQ (2 ^ 39 + 1) 0 39) (wholeQ false 1025) one64 q (held-diff binary64 (2 ^ 39 + 1) 0 39 (lit≤ tt) (lit< tt) (lit< tt)) (held-whole false 1025 (lit< tt)) tt (b .0)
     (omega (arith, b .2)) (omega (arith, b .1)) in
-    let r = sub binary64 oneF q in
-    lt-of-val oneF r tt (w .0) (omega (arith, den-pos r, w .1))
+    let r = sub binary64 one64 q in
+    lt-of-val one64 r tt (w .0) (omega (arith, den-pos r, w .1))

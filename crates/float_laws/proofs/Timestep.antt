@@ -9,7 +9,8 @@ use lib.Ieee.{Float, le, binary64, div}
 use lib.Ieee.Positive.{den, den-pos, positive}
 use lib.Ieee.Scale.{finite}
 use Rattle.float_laws.specs.Fractions.{Le, mulQ, pnum, nnum, val}
-use Rattle.float_laws.specs.Bounds.{zeroF, oneF, wholeQ, Within}
+use Rattle.float_laws.specs.Bounds.{wholeQ, Within}
+use Rattle.timestamp.specs.Floats.{zero64, one64}
 use Rattle.float_laws.specs.Laws.{leastStep, Step}
 use Rattle.float_laws.proofs.Value.{le-to-val, lt-of-val}
 use Rattle.float_laws.proofs.Order.{float-le-trans, positive-of-lt, positive-nnum}
@@ -19,7 +20,7 @@ use Rattle.float_laws.proofs.Within.{held-whole, within-low, within-hig
 
 -- A float that is at least 1/1024 is positive.
 least-positive : (t : Float) → T (finite t) → T (le leastStep t) → T (positive t)
-least-positive t p h = positive-of-lt t p (lt-of-val zeroF t tt p (omega (arith, den-pos t, le-to-val leastStep t tt p h)))
+least-positive t p h = positive-of-lt t p (lt-of-val zero64 t tt p (omega (arith, den-pos t, le-to-val leastStep t tt p h)))
 
 -- A float that is at least 1/1024 has no numerator below 0.
 pub least-unsigned : (t : Float) → T (finite t) → T (le leastStep t) → nnum t ≡ 0
@@ -30,15 +31,15 @@ pub step-positive : (t : Float) → Step t → T (positive t)
 step-positive t s = least-positive t (s .finite-t) (s .least)
 
 -- A timestep is at least 0, as the test says it.
-pub step-nonneg : (t : Float) → Step t → T (le zeroF t)
+pub step-nonneg : (t : Float) → Step t → T (le zero64 t)
 unfolding le
-step-nonneg t s = float-le-trans zeroF leastStep t tt (s .least)
+step-nonneg t s = float-le-trans zero64 leastStep t tt (s .least)
 
 -- ---- frames to seconds and seconds to frames
 
 -- The lower bound -n of x is one of the exact product.
 pub mul-step-low : (x t : Float) (n : ℕ) → Step t → nnum x ≤ pnum x + n * den x → Le (wholeQ true n) (mulQ (val x) (val t))
-mul-step-low x t n s h = low-side (pnum x) (nnum x) (den x) (pnum t) (nnum t) (den t) (least-unsigned t (s .finite-t) (s .least)) (le-to-val t oneF (s .finite-t) tt (s .most)) h
+mul-step-low x t n s h = low-side (pnum x) (nnum x) (den x) (pnum t) (nnum t) (den t) (least-unsigned t (s .finite-t) (s .least)) (le-to-val t one64 (s .finite-t) tt (s .most)) h
   where
     low-at : (p m d q e : ℕ) → q ≤ e → m ≤ p + n * d → 0 * (d * e) + (p * 0 + m * q) * 1 ≤ (p * q + m * 0) * 1 + n * (d * e)
     low-at p m d q e h k = let u = mul-le-mul-right q k in let v = mul-le-mul-right (n * d) h in omega arith
@@ -88,7 +89,7 @@ units-least t s =
 pub units-most : (t : Float) → Step t → unitsOf t ≤ 2 ^ 17
 units-most t s =
     let z = least-unsigned t (s .finite-t) (s .least) in
-    le-of-suc-le-suc (div-lt-iff-lt-mul (den-pos t) .1 (omega (arith, z, den-pos t, le-to-val t oneF (s .finite-t) tt (s .most))))
+    le-of-suc-le-suc (div-lt-iff-lt-mul (den-pos t) .1 (omega (arith, z, den-pos t, le-to-val t one64 (s .finite-t) tt (s .most))))
 
 -- The units of t are at most t.
 pub units-under : (t : Float) → unitsOf t * den t ≤ pnum t * 2 ^ 17

@@ -11,7 +11,7 @@ use lib.Ieee.{Float, nan, inf, fin, up, down, lt, le}
 use lib.Ieee.Fits.{and-l, and-r, and-i, eq→eqb}
 use lib.Ieee.Scale.{finite}
 use Rattle.float_laws.specs.Fractions.{Q, Le, Lt, pnum, nnum, val}
-use Rattle.float_laws.specs.Bounds.{zeroF}
+use Rattle.timestamp.specs.Floats.{zero64}
 
 -- Each fraction is at most itself.
 pub q-le-refl : (a : Q) → Le a a
@@ -39,7 +39,7 @@ one-sided (fin true m e) = inl refl
 one-sided (fin false m e) = inr refl
 
 -- A fraction that is at least 0 has no more below than above.
-pub q-nonneg : (a : Q) → Le (val zeroF) a → a .n ≤ a .p
+pub q-nonneg : (a : Q) → Le (val zero64) a → a .n ≤ a .p
 q-nonneg a h = omega (arith, h)
 
 -- ---- the tests `le` and `lt` against the order of numbers

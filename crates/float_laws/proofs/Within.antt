@@ -11,7 +11,8 @@ use lib.Ieee.Exact.{HasValue}
 use lib.Ieee.Positive.{den, positive-of-value}
 use lib.Ieee.Scale.{finite}
 use Rattle.float_laws.specs.Fractions.{pnum, nnum, val}
-use Rattle.float_laws.specs.Bounds.{zeroF, wholeQ, Within}
+use Rattle.float_laws.specs.Bounds.{wholeQ, Within}
+use Rattle.timestamp.specs.Floats.{zero64}
 use Rattle.float_laws.proofs.Value.{q-le-trans, le-to-val, le-of-val}
 use Rattle.float_laws.proofs.Round.{has-value-finite, has-value-eqv}
 use Rattle.float_laws.proofs.Bounds.{Held, held-dyadic, between-widen, add-between, sub-between, div-between}
@@ -33,7 +34,7 @@ pub within-widen : (z : Float) (n k : ℕ) → n ≤ k → Within z n → Within
 within-widen z n k h w = between-widen (wholeQ true n) (wholeQ false n) (wholeQ true k) (wholeQ false k) z (omega arith) (omega arith) w
 
 -- 0 is within every bound.
-pub zero-within : (n : ℕ) → Within zeroF n
+pub zero-within : (n : ℕ) → Within zero64 n
 zero-within n = (tt, omega arith, omega arith)
 
 -- ---- against the tests of a program; lo and hi are any floats that are -n and n

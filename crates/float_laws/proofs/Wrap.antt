@@ -10,7 +10,8 @@ use lib.Ieee.Fits.{add-fits}
 use lib.Ieee.Positive.{den, den-pos}
 use lib.Ieee.Scale.{finite}
 use Rattle.float_laws.specs.Fractions.{pnum, nnum, val}
-use Rattle.float_laws.specs.Bounds.{zeroF, oneF, Between, wholeQ, Within, InUnit}
+use Rattle.float_laws.specs.Bounds.{Between, wholeQ, Within, InUnit}
+use Rattle.timestamp.specs.Floats.{zero64, one64}
 use Rattle.float_laws.specs.Laws.{halfCycle, cycle, upward, wrap}
 use Rattle.float_laws.proofs.Value.{le-to-val, le-of-val, lt-to-val, lt-of-val}
 use Rattle.float_laws.proofs.Order.{float-le-of-lt, float-le-of-not-lt}
@@ -24,13 +25,13 @@ fits-cycle = tt
 
 -- A remainder within a cycle is moved to 0 to a cycle.
 upward-in : (r : Float) → Within r (2 ^ 16) → Between (wholeQ false 0) (upward r) (wholeQ false (2 ^ 16))
-upward-in r w = go (lt r zeroF) (λ (t : T (lt r zeroF)). float-le-of-lt r zeroF (w .0) tt t) (λ (t : T (not (lt r zeroF))). float-le-of-not-lt r zeroF (w .0) tt t)
+upward-in r w = go (lt r zero64) (λ (t : T (lt r zero64)). float-le-of-lt r zero64 (w .0) tt t) (λ (t : T (not (lt r zero64))). float-le-of-not-lt r zero64 (w .0) tt t)
   where
-    go : (b : Bool) → (T b → T (le r zeroF)) → (T (not b) → T (le zeroF r)) → Between (wholeQ false 0) (cond b (add binary64 r cycle) r) (wholeQ false (2 ^ 16))
+    go : (b : Bool) → (T b → T (le r zero64)) → (T (not b) → T (le zero64 r)) → Between (wholeQ false 0) (cond b (add binary64 r cycle) r) (wholeQ false (2 ^ 16))
     go true h k =
         add-between binary64 (wholeQ false 0) (wholeQ false (2 ^ 16)) r cycle (held-whole false 0 (lit< tt)) (held-whole false (2 ^ 16) (lit< tt)) (w .0) tt
-        (omega (arith, w .1)) (omega (arith, le-to-val r zeroF (w .0) tt (h tt)))
-    go false h k = (w .0, omega (arith, le-to-val zeroF r tt (w .0) (k tt)), w .2)
+        (omega (arith, w .1)) (omega (arith, le-to-val r zero64 (w .0) tt (h tt)))
+    go false h k = (w .0, omega (arith, le-to-val zero64 r tt (w .0) (k tt)), w .2)
 
 -- A frame count within 2 ^ 52 is wrapped to one within 32,768.
 pub wrap-within : (x : Float) → Within x (2 ^ 52) → Within (wrap x) (2 ^ 15)
@@ -46,8 +47,8 @@ wrap-within x h =
 -- ---- what is near 0 stays where it is
 
 -- A remainder that is not below 0 stays as it is.
-upward-is : (r : Float) → T (finite r) → T (le zeroF r) → upward r ≡ r
-upward-is r p h = go (lt r zeroF) (λ (k : T (lt r zeroF)). omega (arith, le-to-val zeroF r tt p h, lt-to-val r zeroF p tt k))
+upward-is : (r : Float) → T (finite r) → T (le zero64 r) → upward r ≡ r
+upward-is r p h = go (lt r zero64) (λ (k : T (lt r zero64)). omega (arith, le-to-val zero64 r tt p h, lt-to-val r zero64 p tt k))
   where
     go : (b : Bool) → (T b → ⊥) → cond b (add binary64 r cycle) r ≡ r
     go true k = absurd (k tt)
@@ -64,7 +65,7 @@ wrap-near pl nl ph nh z L H L' H' a b w =
     let r = rem binary64 g cycle in
     let R = rem-keeps (diffQ (pl + 2 ^ 53) nl 38) (diffQ (ph + 2 ^ 53) nh 38) g cycle (add-fits binary64 z halfCycle) tt
     (g-above (pnum g) (nnum g) (den g) (den-pos g) (G .1)) (g-cycle (pnum g) (nnum g) (den g) (den-pos g) (G .2)) G in
-    subst (λ (y : Float). Between (diffQ pl nl 38) (sub binary64 y halfCycle) (diffQ ph nh 38)) (sym (upward-is r (R .0) (le-of-val zeroF r tt (R .0) (r-pos (pnum r) (nnum r) (den r) (R .1)))))
+    subst (λ (y : Float). Between (diffQ pl nl 38) (sub binary64 y halfCycle) (diffQ ph nh 38)) (sym (upward-is r (R .0) (le-of-val zero64 r tt (R .0) (r-pos (pnum r) (nnum r) (den r) (R .1)))))
     (sub-between binary64 (diffQ pl nl 38) (diffQ ph nh 38) r halfCycle L H (R .0) tt (omega (arith, R .1)) (omega (arith, R .2)))
   where
     r-pos : (p n d : ℕ) → (pl + 2 ^ 53) * d + n * 2 ^ 38 ≤ p * 2 ^ 38 + nl * d → 0 * 1 * d + n * 1 ≤ p * 1 + 0 * d
@@ -79,18 +80,18 @@ wrap-near pl nl ph nh z L H L' H' a b w =
 -- What is from 0 to 1 stays there.
 pub wrap-unit : (z : Float) → InUnit z → InUnit (wrap z)
 wrap-unit z w =
-    between-widen (diffQ 0 0 38) (diffQ (2 ^ 38) 0 38) (val zeroF) (val oneF) (wrap z) (lit≤ tt) (lit≤ tt)
+    between-widen (diffQ 0 0 38) (diffQ (2 ^ 38) 0 38) (val zero64) (val one64) (wrap z) (lit≤ tt) (lit≤ tt)
     (wrap-near 0 0 (2 ^ 38) 0 z (held-diff binary64 0 0 38 (lit≤ tt) (lit< tt) (lit< tt)) (held-diff binary64 (2 ^ 38) 0 38 (lit≤ tt) (lit< tt) (lit< tt))
     (held-eqv binary64 (wholeQ false (2 ^ 15)) (diffQ (0 + 2 ^ 53) 0 38) (held-whole false (2 ^ 15) (lit< tt)) (lit≤ tt, lit≤ tt))
     (held-eqv binary64 (wholeQ false (2 ^ 15 + 1)) (diffQ (2 ^ 38 + 2 ^ 53) 0 38) (held-whole false (2 ^ 15 + 1) (lit< tt)) (lit≤ tt, lit≤ tt))
     (lit≤ tt) (lit< tt)
-    (between-widen (val zeroF) (val oneF) (diffQ 0 0 38) (diffQ (2 ^ 38) 0 38) z (lit≤ tt) (lit≤ tt) w))
+    (between-widen (val zero64) (val one64) (diffQ 0 0 38) (diffQ (2 ^ 38) 0 38) z (lit≤ tt) (lit≤ tt) w))
 
 -- ---- what is a cycle below 0 to 1
 
 -- A remainder below 0 has a cycle added.
-upward-neg : (r : Float) → T (lt r zeroF) → upward r ≡ add binary64 r cycle
-upward-neg r h = go (lt r zeroF) h
+upward-neg : (r : Float) → T (lt r zero64) → upward r ≡ add binary64 r cycle
+upward-neg r h = go (lt r zero64) h
   where
     go : (b : Bool) → T b → cond b (add binary64 r cycle) r ≡ add binary64 r cycle
     go true k = refl
@@ -105,7 +106,7 @@ wrap-cycle z w =
     let r = rem binary64 g cycle in
     let R = rem-keeps (wholeQ true (2 ^ 15)) (wholeQ true (2 ^ 15 - 1)) g cycle (add-fits binary64 z halfCycle) tt
     (omega (arith, den-pos g, G .1)) (omega (arith, den-pos g, G .2)) G in
-    let r0 = lt-of-val r zeroF (R .0) tt (omega (arith, den-pos r, R .2)) in
+    let r0 = lt-of-val r zero64 (R .0) tt (omega (arith, den-pos r, R .2)) in
     let u = add binary64 r cycle in
     let U = add-between binary64 (wholeQ false (2 ^ 15)) (wholeQ false (2 ^ 15 + 1)) r cycle (held-whole false (2 ^ 15) (lit< tt)) (held-whole false (2 ^ 15 + 1) (lit< tt)) (R .0) tt
     (omega (arith, R .1)) (omega (arith, R .2)) in

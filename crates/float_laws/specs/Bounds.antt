@@ -2,20 +2,12 @@
 -- Definitions only. Assumes nothing.
 use Prim.Native.Nat.{ℕ, _^_}
 use mathlib.Core.Bool.{Bool, true, false}
-use lib.IntN.{pos}
 use lib.Dec.{T}
 use lib.Pow.{pow-pos}
-use lib.Ieee.{Float, fin}
+use lib.Ieee.{Float}
 use lib.Ieee.Scale.{finite}
+use Rattle.timestamp.specs.Floats.{zero64, one64}
 use Rattle.float_laws.specs.Fractions.{Q, Le, val, sgn}
-
--- The float +0.
-abbrev pub zeroF : Float
-zeroF = fin false 0 (pos 0)
-
--- The float 1.
-abbrev pub oneF : Float
-oneF = fin false 1 (pos 0)
 
 -- The whole number n, or -n where the sign is `true`.
 abbrev pub wholeQ : Bool → ℕ → Q
@@ -31,4 +23,4 @@ Within z n = Between (wholeQ true n) z (wholeQ false n)
 
 -- z is finite, at least 0 and at most 1.
 abbrev pub InUnit : Float → Type 0
-InUnit z = Between (val zeroF) z (val oneF)
+InUnit z = Between (val zero64) z (val one64)

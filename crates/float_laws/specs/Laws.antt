@@ -5,11 +5,12 @@ use Prim.Native.Nat.{ℕ, zero, suc}
 use mathlib.Core.Bool.{true, false, cond}
 use lib.IntN.{pos, negsuc}
 use lib.Dec.{T}
-use lib.Ieee.{Float, fin, lt, le, binary64, fits, add, sub, mul, div, rem}
+use lib.Ieee.{Float, fin, lt, le, binary64, fits, add, sub, mul, rem}
 use lib.Ieee.Positive.{positive}
 use lib.Ieee.Scale.{finite}
 use Rattle.float_laws.specs.Fractions.{val}
-use Rattle.float_laws.specs.Bounds.{zeroF, oneF, Between}
+use Rattle.float_laws.specs.Bounds.{Between}
+use Rattle.timestamp.specs.Floats.{zero64, one64, tweenOf}
 
 -- ---- a timestep
 
@@ -22,7 +23,7 @@ pub record Step (t : Float) : Type 0 where
   pub fits-t : T (fits binary64 t)
   pub finite-t : T (finite t)
   pub least : T (le leastStep t)
-  pub most : T (le t oneF)
+  pub most : T (le t one64)
 
 -- ---- the frames of an update: for request 13 of document 02
 
@@ -33,7 +34,7 @@ sixtyFour = fin false 1 (pos 6)
 -- At most n additions of t to x, which end where the value is not below 0.
 abbrev pub catchUp : ℕ → Float → Float → Float
 catchUp zero x t = x
-catchUp (suc n) x t = cond (lt x zeroF) (catchUp n (add binary64 x t) t) x
+catchUp (suc n) x t = cond (lt x zero64) (catchUp n (add binary64 x t) t) x
 
 -- So many additions suffice.
 abbrev pub enough : ℕ
@@ -42,20 +43,16 @@ enough = 65
 -- An update starts from o - d with 0 ≤ o ≤ t and 0 ≤ d ≤ 64 t, and adds t while the value is below 0: after at most 65 additions the value is from 0 to t.
 unfoldable pub SixtyFiveSuffice : Type 0
 SixtyFiveSuffice =
-    (o d t : Float) → Step t → T (finite o) → T (finite d) → T (le zeroF o) → T (le o t) → T (le zeroF d) → T (le d (mul binary64 sixtyFour t)) →
-    T (le zeroF (catchUp enough (sub binary64 o d) t)) × T (le (catchUp enough (sub binary64 o d) t) t)
+    (o d t : Float) → Step t → T (finite o) → T (finite d) → T (le zero64 o) → T (le o t) → T (le zero64 d) → T (le d (mul binary64 sixtyFour t)) →
+    T (le zero64 (catchUp enough (sub binary64 o d) t)) × T (le (catchUp enough (sub binary64 o d) t) t)
 
 -- ---- the tween weight: for request 2 of document 02, by which refusal 27 goes
-
--- The tween weight of an overshoot o and a timestep t, before it is shaped: 1 - o / t.
-abbrev pub tweenWeight : Float → Float → Float
-tweenWeight o t = sub binary64 oneF (div binary64 o t)
 
 -- Where 0 ≤ o ≤ t and t is positive, the tween weight is finite and from 0 to 1.
 unfoldable pub TweenUnit : Type 0
 TweenUnit =
-    (o t : Float) → T (finite o) → T (positive t) → T (le zeroF o) → T (le o t) →
-    T (finite (tweenWeight o t)) × T (le zeroF (tweenWeight o t)) × T (le (tweenWeight o t) oneF)
+    (o t : Float) → T (finite o) → T (positive t) → T (le zero64 o) → T (le o t) →
+    T (finite (tweenOf o t)) × T (le zero64 (tweenOf o t)) × T (le (tweenOf o t) one64)
 
 -- ---- a skip past the last stamp of a cycle: for request 2 of document 02
 
@@ -69,7 +66,7 @@ cycle = fin false 1 (pos 16)
 
 -- A cycle is added to a remainder below 0.
 abbrev pub upward : Float → Float
-upward r = cond (lt r zeroF) (add binary64 r cycle) r
+upward r = cond (lt r zero64) (add binary64 r cycle) r
 
 -- The frame count x wrapped: (x + 32,768) rem 65,536 - 32,768, the remainder never negative.
 abbrev pub wrap : Float → Float
@@ -87,4 +84,4 @@ firstStamp = fin true 1 (pos 15)
 unfoldable pub SkipCycle : Type 0
 SkipCycle =
     (x t : Float) → T (finite x) → T (lt lastStamp x) → T (le x halfCycle) → Step t →
-    Between (val zeroF) (mul binary64 (wrap (sub binary64 firstStamp x)) t) (val t)
+    Between (val zero64) (mul binary64 (wrap (sub binary64 firstStamp x)) t) (val t)

@@ -4,7 +4,8 @@ use mathlib.Core.Bool.{Bool, true, false, cond}
 use lib.IntN.{ℤ, pos}
 use lib.Ieee.{Float, fin}
 use Rattle.timestamp.specs.FloatTimestamps.{fromSeconds, stampOf}
-use Rattle.settings.specs.Settings.{between, least64, one64}
+use Rattle.settings.specs.Settings.{between, least64}
+use Rattle.timestamp.specs.Floats.{one64}
 
 -- a timestep is in the settings' range, 1/1024 to 1 second
 abbrev pub timestepOk : Float → Bool

@@ -7,6 +7,7 @@ use mathlib.Core.List.{List, [], _∷_, _++_}
 use lib.Dec.{eqb}
 use lib.ListN.{length, getD, replicate}
 use lib.Ieee.{Float, binary64, ofBits, toBits}
+use Rattle.refusals.specs.Refusals.{accepted, settingsRefusal, samplesRefusal}
 use Rattle.settings.specs.Settings.{samplesPass, storeOf, discardOf}
 use Rattle.clocksync.specs.Mean.{meanOf}
 use Rattle.clocksync.specs.Clock.{samplesOk}
@@ -57,9 +58,9 @@ meanAnswerOf needed rate s room =
 
 -- document 01's number for each answer
 abbrev pub meanNumberOf : MeanAnswer → ℕ
-meanNumberOf (Mean x) = 0
-meanNumberOf SettingsRefused = 1
-meanNumberOf SamplesRefused = 8
+meanNumberOf (Mean x) = accepted
+meanNumberOf SettingsRefused = settingsRefusal
+meanNumberOf SamplesRefused = samplesRefusal
 
 -- the answer buffer for each answer: the mean's 8 bytes, or as many zeros as it has bytes
 abbrev pub bufferOf : ℕ → MeanAnswer → List ℕ

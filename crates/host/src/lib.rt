@@ -63,15 +63,15 @@ pub extern "C" fn kadwunge_mean_of_samples(
     match mean_of_bytes(needed, rate, samples, answer.len()) {
         MeanAnswer::Mean(x) => {
             put(answer, tape::bits_of(x));
-            0
+            refusals::ACCEPTED
         }
         MeanAnswer::SettingsRefused => {
             clear(answer);
-            1
+            refusals::SETTINGS
         }
         MeanAnswer::SamplesRefused => {
             clear(answer);
-            8
+            refusals::SAMPLES
         }
     }
 }

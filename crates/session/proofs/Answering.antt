@@ -12,7 +12,6 @@ use borrow.Author.Tests.{leb-true, eqb-true, eq-eqb, ne-eqb}
 use Rattle.timestamp.proofs.Tests.{apart}
 use Rattle.refusals.specs.Limits.{mostSteps}
 use Rattle.refusals.specs.Refusals.{accepted, onceRefusalBy, syncingRefusalBy, arrivalRefusalBy, endRefusalBy, reportRefusalBy}
-use Rattle.refusals.specs.declared.Stop.{Stop}
 use Rattle.refusals.proofs.Accepted.{once-accepted, end-accepted}
 use Rattle.settings.specs.Settings.{passesOf}
 use Rattle.settings.proofs.Limits.{steps-few}
@@ -28,7 +27,8 @@ use Rattle.client.specs.declared.Received.{Received}
 use Rattle.client.specs.declared.Scene.{Scene}
 use Rattle.client.specs.Sides.{withWorlds}
 use Rattle.client_receive.specs.Receive.{noneReceived}
-use Rattle.client_publish.specs.Ending.{tweenOf, weightOk}
+use Rattle.client_publish.specs.Ending.{weightOk}
+use Rattle.timestamp.specs.Floats.{tweenOf}
 use Rattle.fixed_timestepper.specs.declared.Advanced.{Advanced}
 use Rattle.fixed_timestepper.specs.TimeKeeper.{Run, endedOf, finishedOf, unendedOf, updatedOf, Advances}
 use Rattle.session_state.specs.declared.Session.{Session}
@@ -39,7 +39,7 @@ use Rattle.session_answers.specs.declared.UpdateAnswer.{UpdateAnswer}
 use Rattle.session_answers.specs.declared.ReportAnswer.{ReportAnswer}
 use Rattle.session_answers.specs.Answers.{Reply, Answer, unplayedOf, refusedWith, unlessRefused, syncedOf, sceneOf, closedOf, stageAfter, acceptedOf, Updates, unreported, reportedOf}
 use Rattle.session_answers.specs.Inner.{acceptedBy}
-use Rattle.session.specs.Calls.{timesOk, refusedAtOnce, heardOther, clockAfter, requestOf, clockMovedOf, clockUpdateOf, concludedOf, serverTimeBy, laggedOf, unreceived, sceneWith, sceneAfter, playedOf, worldsUpdateOf, updateBy, updateOf, reportRefusalOf, reportOf}
+use Rattle.session.specs.Calls.{timesOk, refusedAtOnce, heardOther, clockAfter, requestOf, clockMovedOf, clockUpdateOf, concludedOf, serverTimeBy, laggedOf, unreceived, sceneAfter, playedOf, worldsUpdateOf, updateBy, updateOf, reportRefusalOf, reportOf}
 use Rattle.session.specs.Inner.{endRefusalOf, concludedBy, unendedWith}
 
 -- ---- refused or not

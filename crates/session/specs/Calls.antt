@@ -19,7 +19,8 @@ use Rattle.client.specs.declared.Scene.{Scene}
 use Rattle.client.specs.declared.Received.{Received}
 use Rattle.client.specs.Sides.{newWorldsOf, withWorlds}
 use Rattle.client_receive.specs.Receive.{noneReceived}
-use Rattle.client_publish.specs.Ending.{tweenOf, weightOk}
+use Rattle.client_publish.specs.Ending.{weightOk}
+use Rattle.timestamp.specs.Floats.{tweenOf}
 use Rattle.fixed_timestepper.specs.TimeKeeper.{Run, updatedOf}
 use Rattle.session_state.specs.declared.Session.{Session}
 use Rattle.session_state.specs.Session.{hasWorlds, startingOf}
@@ -27,7 +28,7 @@ use Rattle.session_state.specs.Sound.{soundOf}
 use Rattle.inbox_passes.specs.Passes.{hasForWorlds, heardIn, receivedIn, notedIn}
 use Rattle.session_answers.specs.declared.OpenAnswer.{OpenAnswer}
 use Rattle.session_answers.specs.declared.ReportAnswer.{ReportAnswer}
-use Rattle.session_answers.specs.Answers.{Answer, unplayedOf, refusedWith, unlessRefused, syncedOf, sceneOf, acceptedOf, unreported, reportedOf}
+use Rattle.session_answers.specs.Answers.{Answer, unplayedOf, unlessRefused, syncedOf, sceneOf, acceptedOf, unreported, reportedOf}
 
 -- ---- open
 

@@ -9,7 +9,8 @@ use lib.Ieee.{Float}
 use Rattle.refusals.specs.Refusals.{accepted, endRefusalBy}
 use Rattle.clocksync.specs.declared.Clock.{Clock}
 use Rattle.client.specs.declared.Received.{Received}
-use Rattle.client_publish.specs.Ending.{tweenOf, weightOk}
+use Rattle.client_publish.specs.Ending.{weightOk}
+use Rattle.timestamp.specs.Floats.{tweenOf}
 use Rattle.fixed_timestepper.specs.declared.Advanced.{Advanced}
 use Rattle.fixed_timestepper.specs.TimeKeeper.{Run, unendedOf}
 use Rattle.session_state.specs.declared.Session.{Session}

@@ -6,8 +6,8 @@ use mathlib.Core.List.{List, [], _++_}
 use mathlib.Core.Path.{_≡_}
 use lib.Dec.{eqb}
 use lib.ListN.{length, replicate}
-use lib.IntN.{pos}
-use lib.Ieee.{Float, fin}
+use lib.Ieee.{Float}
+use Rattle.timestamp.specs.Floats.{zero64}
 use Rattle.refusals.specs.Refusals.{accepted}
 use Rattle.timestamp.specs.declared.Timestamp.{Timestamp}
 use Rattle.timestamp.specs.Timestamps.{bitsOf}
@@ -83,7 +83,7 @@ unlessRefused n s len a = cond (eqb n accepted) a (refusedWith n s len)
 -- the session that starts its worlds at a server time: the first stamp uses it without lag, cut toward zero
 abbrev pub startedAt : Session → Clock → ServerTime → Session
 startedAt s c NoTime = s
-startedAt s c (At t) = sessionWith s SyncingInitialState c (newWorldsOf (record { 0 = bitsOf (stampOf (fromSeconds t (s .settings .timestep))) })) (fin false 0 (pos 0))
+startedAt s c (At t) = sessionWith s SyncingInitialState c (newWorldsOf (record { 0 = bitsOf (stampOf (fromSeconds t (s .settings .timestep))) })) zero64
 
 -- a session after an update in the first stage: worlds are made where the clock is ready
 unfoldable pub syncedOf : Session → Clock → Float → Session

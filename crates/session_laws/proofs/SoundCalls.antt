@@ -6,7 +6,7 @@ use Prim.Native.Nat.{ℕ, _<_}
 use lib.Dec.{T}
 use lib.ListN.{length}
 use lib.Ieee.{Float, binary64, fits, add, le}
-use Rattle.float_laws.specs.Bounds.{zeroF}
+use Rattle.timestamp.specs.Floats.{zero64, tweenOf}
 use Rattle.float_laws.proofs.Order.{float-le-trans}
 use Rattle.timestamp.specs.declared.Timestamp.{Timestamp}
 use Rattle.timestamp.specs.Timestamps.{bitsOf}
@@ -17,7 +17,7 @@ use Rattle.settings.specs.Settings.{passesOf, least64}
 use Rattle.settings.proofs.Limits.{timestep-within}
 use Rattle.refusals.specs.Limits.{handleRoom}
 use Rattle.refusals.proofs.Accepted.{open-accepted, open-refused}
-use Rattle.client_publish.specs.Ending.{tweenOf, weightOk}
+use Rattle.client_publish.specs.Ending.{weightOk}
 use Rattle.clocksync.specs.declared.Clock.{Clock}
 use Rattle.clocksync.specs.declared.Offset.{Offset}
 use Rattle.clocksync.specs.declared.Offset.the-variants.{NoOffset, Seconds}
@@ -48,12 +48,12 @@ use Rattle.session_laws.proofs.SoundParts.{clock-after-ready, clock-aft
 -- ---- open
 
 -- a timestep is at least 0
-step-low : (c : Settings) → passesOf c ≡ true → T (le zeroF (c .timestep))
+step-low : (c : Settings) → passesOf c ≡ true → T (le zero64 (c .timestep))
 unfolding le
-step-low c pass = let w = timestep-within c pass in float-le-trans zeroF least64 (c .timestep) tt (w .low)
+step-low c pass = let w = timestep-within c pass in float-le-trans zero64 least64 (c .timestep) tt (w .low)
 
 -- an overshoot of 0
-nought-in : (c : Settings) → passesOf c ≡ true → InStep (c .timestep) zeroF
+nought-in : (c : Settings) → passesOf c ≡ true → InStep (c .timestep) zero64
 unfolding le
 nought-in c pass = record { number = tt; low = tt; high = step-low c pass }
 

@@ -8,7 +8,8 @@ use lib.IntN.{pos}
 use lib.Ieee.{Float, nan, inf, fin, up, down, binary64, add, lt, eq, le}
 use lib.Ieee.Fits.{and-l}
 use borrow.Author.Tests.{eqb-true, eq-eqb}
-use Rattle.float_laws.specs.Bounds.{zeroF, oneF, Within}
+use Rattle.float_laws.specs.Bounds.{Within}
+use Rattle.timestamp.specs.Floats.{zero64, one64, clampedOf}
 use Rattle.float_laws.proofs.Value.{le-of-val}
 use Rattle.float_laws.proofs.Order.{between-finite, float-le-trans}
 use Rattle.float_laws.proofs.Within.{within-of-tests, add-within}
@@ -28,7 +29,7 @@ use Rattle.client.specs.declared.ClientWorldSimulations.{ClientWorldSimulations
 use Rattle.client.specs.declared.Scene.{Scene}
 use Rattle.client.specs.Sides.{newSideOf, oldSideOf, worldOf, oldStampOf, newStampOf, Played, still, andThen, doneAt}
 use Rattle.client.specs.Status.{statusBy, statusOf, overshotOf, newerOf}
-use Rattle.client_frame.specs.Frame.{clamped, blendedOn, resetNew, steppedSide, caughtUpOf, steppedNew, unless, caughtOf, simulatedOf}
+use Rattle.client_frame.specs.Frame.{blendedOn, resetNew, steppedSide, caughtUpOf, steppedNew, unless, caughtOf, simulatedOf}
 use Rattle.client_frame.proofs.Induction.{Keeps, keeps-chains, Same, same-chains, Parts, frame-by, resetAt, Steps, simulated-by}
 use Rattle.fixed_timestepper.specs.TimeKeeper.{rulesOf}
 use Rattle.fixed_timestepper.proofs.Induction.{Updates, both-by, AllMoves}
@@ -160,9 +161,9 @@ weight-steps = record { chains = same-chains (λ (w : ClientWorldSimulations). w
 
 simulated-weighed : (m : ℕ) (s : Scene) → 1 ≤ m → Weighed (s .worlds) → Weighed (simulatedOf m s .scene .worlds)
 simulated-weighed zero s l h = absurd (omega arith)
-simulated-weighed (suc m) s l (is-nought h) = is-nought (subst (λ (t : Float). T (eq t zeroF)) (sym (simulated-by weight-steps (suc m) s)) h)
+simulated-weighed (suc m) s l (is-nought h) = is-nought (subst (λ (t : Float). T (eq t zero64)) (sym (simulated-by weight-steps (suc m) s)) h)
 simulated-weighed (suc m) s l (is-even e a b) =
-    is-even (simulated-even m s e) (subst (λ (t : Float). T (le zeroF t)) (sym (simulated-by weight-steps (suc m) s)) a) (subst (λ (t : Float). T (le t oneF)) (sym (simulated-by weight-steps (suc m) s)) b)
+    is-even (simulated-even m s e) (subst (λ (t : Float). T (le zero64 t)) (sym (simulated-by weight-steps (suc m) s)) a) (subst (λ (t : Float). T (le t one64)) (sym (simulated-by weight-steps (suc m) s)) b)
 
 -- in Blending the stamps are equal
 blending-by : (a l v q : Bool) (t u : Float) → statusBy a l v q t ≡ Blending u → a ≡ true
@@ -174,32 +175,32 @@ blending-by false l false false t u e = absurd (let z : _≡_ {A = ℕ} 0 1 = cc
 blending-even : (w : ClientWorldSimulations) (u : Float) → statusOf w ≡ Blending u → oldStampOf w .0 ≡ newStampOf w .0
 unfolding statusOf
 blending-even w u e =
-    sym (eqb-true (newStampOf w .0) (oldStampOf w .0) (blending-by (eqb (newStampOf w .0) (oldStampOf w .0)) (lt (w .weight) oneF) (overshotOf (newStampOf w) (oldStampOf w)) (newerOf (w .snapshots .queued) (newStampOf w)) (w .weight) u e))
+    sym (eqb-true (newStampOf w .0) (oldStampOf w .0) (blending-by (eqb (newStampOf w .0) (oldStampOf w .0)) (lt (w .weight) one64) (overshotOf (newStampOf w) (oldStampOf w)) (newerOf (w .snapshots .queued) (newStampOf w)) (w .weight) u e))
 
 -- a weight is from 0 to 1
-nought-low : (x : Float) → T (eq x zeroF) → T (le zeroF x) × T (le x oneF)
+nought-low : (x : Float) → T (eq x zero64) → T (le zero64 x) × T (le x one64)
 unfolding eq le lt
 nought-low nan h = absurd h
 nought-low (inf s) h = absurd h
 nought-low (fin false m e) h =
     let k : m * up e * 1 ≡ 0 * 1 * down e = eqb→eq (m * up e * 1) (0 * 1 * down e) (and-l (eqb (m * up e * 1) (0 * 1 * down e)) true h) in
-    (le-of-val zeroF (fin false m e) tt tt (omega arith), le-of-val (fin false m e) oneF tt tt (omega arith))
+    (le-of-val zero64 (fin false m e) tt tt (omega arith), le-of-val (fin false m e) one64 tt tt (omega arith))
 nought-low (fin true m e) h =
     let k : m * up e * 1 ≡ 0 * 1 * down e = eqb→eq (m * up e * 1) (0 * 1 * down e) (and-l (eqb (m * up e * 1) (0 * 1 * down e)) (eqb (m * up e * 1) 0) h) in
-    (le-of-val zeroF (fin true m e) tt tt (omega arith), le-of-val (fin true m e) oneF tt tt (omega arith))
+    (le-of-val zero64 (fin true m e) tt tt (omega arith), le-of-val (fin true m e) one64 tt tt (omega arith))
 
-pub weighed-unit : (w : ClientWorldSimulations) → Weighed w → T (le zeroF (w .weight)) × T (le (w .weight) oneF)
+pub weighed-unit : (w : ClientWorldSimulations) → Weighed w → T (le zero64 (w .weight)) × T (le (w .weight) one64)
 weighed-unit w (is-nought h) = nought-low (w .weight) h
 weighed-unit w (is-even e a b) = (a, b)
 
 -- and within 1
-unit-within : (x : Float) → T (le zeroF x) → T (le x oneF) → Within x 1
+unit-within : (x : Float) → T (le zero64 x) → T (le x one64) → Within x 1
 unfolding le
 unit-within x a b =
-    within-of-tests x (fin true 1 (pos 0)) oneF 1 (between-finite zeroF x oneF tt tt a b) (refl, refl) (refl, refl) (float-le-trans (fin true 1 (pos 0)) zeroF x tt a) b
+    within-of-tests x (fin true 1 (pos 0)) one64 1 (between-finite zero64 x one64 tt tt a b) (refl, refl) (refl, refl) (float-le-trans (fin true 1 (pos 0)) zero64 x tt a) b
 
 -- moved on by a progress within 1,024 it is from 0 to 1
-clamped-unit : (x p : Float) → T (le zeroF x) → T (le x oneF) → Within p 1024 → T (le zeroF (clamped (add binary64 x p))) × T (le (clamped (add binary64 x p)) oneF)
+clamped-unit : (x p : Float) → T (le zero64 x) → T (le x one64) → Within p 1024 → T (le zero64 (clampedOf (add binary64 x p))) × T (le (clampedOf (add binary64 x p)) one64)
 clamped-unit x p a b h = clamp-unit (add binary64 x p) (add-within x p 1 1024 (lit< tt) (unit-within x a b) h .0)
 
 -- a reset of the new world to the old stamp
@@ -208,13 +209,13 @@ unfolding resetNew
 reset-new-weighed s h = go h
   where
     go : Weighed (s .worlds) → Weighed (doneAt s (newSideOf (s .worlds)) (resetOf (worldOf (s .worlds) (newSideOf (s .worlds))) (oldStampOf (s .worlds)) (newSideOf (s .worlds))) .scene .worlds)
-    go (is-nought z) = is-nought (subst (λ (t : Float). T (eq t zeroF)) (sym (done-weight s _ _)) z)
+    go (is-nought z) = is-nought (subst (λ (t : Float). T (eq t zero64)) (sym (done-weight s _ _)) z)
     go (is-even e a b) =
         let side = newSideOf (s .worlds) in
         let d = resetOf (worldOf (s .worlds) side) (oldStampOf (s .worlds)) side in
         let o = ap oldStampOf (done-worlds s side d) ∙ old-at-new (s .worlds) (d .world) in
         let n = ap newStampOf (done-worlds s side d) ∙ new-at-new (s .worlds) (d .world) ∙ reset-stamp (worldOf (s .worlds) side) (oldStampOf (s .worlds)) side in
-        is-even (ap (λ (x : Timestamp). x .0) (o ∙ sym n)) (subst (λ (t : Float). T (le zeroF t)) (sym (done-weight s side d)) a) (subst (λ (t : Float). T (le t oneF)) (sym (done-weight s side d)) b)
+        is-even (ap (λ (x : Timestamp). x .0) (o ∙ sym n)) (subst (λ (t : Float). T (le zero64 t)) (sym (done-weight s side d)) a) (subst (λ (t : Float). T (le t one64)) (sym (done-weight s side d)) b)
 
 -- a weight that moves on
 blended-weighed : (s : Scene) (p t : Float) → Within p 1024 → statusOf (s .worlds) ≡ Blending t → Weighed (s .worlds) → Weighed (blendedOn s p .worlds)
@@ -222,7 +223,7 @@ unfolding blendedOn
 blended-weighed s p t i e h =
     let u = weighed-unit (s .worlds) h in
     let c = clamped-unit (s .worlds .weight) p (u .0) (u .1) i in
-    weight-weighed (s .worlds) (clamped (add binary64 (s .worlds .weight) p)) (blending-even (s .worlds) t e) (c .0) (c .1)
+    weight-weighed (s .worlds) (clampedOf (add binary64 (s .worlds .weight) p)) (blending-even (s .worlds) t e) (c .0) (c .1)
 
 -- the parts of a frame of at least one catch-up step
 weighed-parts : (rules : Rules) → 1 ≤ rules .m → Within (rules .progress) 1024 → Parts (Keeps Weighed) rules 0 0 0
@@ -265,9 +266,9 @@ both-even s t e =
     ap (λ (v : Scene). oldStampOf (v .worlds)) c ∙ y ∙ sym z ∙ sym (ap (λ (v : Scene). newStampOf (v .worlds)) c)
 
 both-weighed : (s : Scene) (t : Timestamp) → Weighed (s .worlds) → Weighed (resetBoth s t .scene .worlds)
-both-weighed s t (is-nought h) = is-nought (subst (λ (x : Float). T (eq x zeroF)) (sym (both-weight s t)) h)
+both-weighed s t (is-nought h) = is-nought (subst (λ (x : Float). T (eq x zero64)) (sym (both-weight s t)) h)
 both-weighed s t (is-even e a b) =
-    is-even (ap (λ (x : Timestamp). x .0) (both-even s t e)) (subst (λ (x : Float). T (le zeroF x)) (sym (both-weight s t)) a) (subst (λ (x : Float). T (le x oneF)) (sym (both-weight s t)) b)
+    is-even (ap (λ (x : Timestamp). x .0) (both-even s t e)) (subst (λ (x : Float). T (le zero64 x)) (sym (both-weight s t)) a) (subst (λ (x : Float). T (le x one64)) (sym (both-weight s t)) b)
 
 emptied-base-weighed : (b : Bool) (s : Scene) → Weighed (s .worlds) → Weighed (emptiedBase b s .worlds)
 emptied-base-weighed true s k = base-weighed (s .worlds) (emptiedOf (s .worlds .base)) k

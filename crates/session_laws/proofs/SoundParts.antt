@@ -11,7 +11,8 @@ use lib.Ieee.{Float, fin, binary64, fits, add, lt, le, eq}
 use lib.Ieee.Bits.{is-true}
 use lib.Ieee.Fits.{and-l, and-r}
 use borrow.Author.Tests.{lt-ltb, ltb-true, eqb-true, eq-eqb}
-use Rattle.float_laws.specs.Bounds.{zeroF, oneF, Within}
+use Rattle.float_laws.specs.Bounds.{Within}
+use Rattle.timestamp.specs.Floats.{zero64, one64}
 use Rattle.float_laws.proofs.Order.{between-finite, float-le-trans}
 use Rattle.float_laws.proofs.Within.{within-widen, within-of-tests, add-within}
 use Rattle.timestamp.proofs.Basics.{holds-true, not-true}
@@ -31,7 +32,7 @@ use Rattle.clocksync.specs.declared.Heard.{Heard}
 use Rattle.clocksync.specs.declared.Ticked.{Ticked}
 use Rattle.clocksync.specs.declared.Offset.{Offset}
 use Rattle.clocksync.specs.declared.Offset.the-variants.{NoOffset, Seconds}
-use Rattle.clocksync.specs.Mean.{nothing64, meanOf}
+use Rattle.clocksync.specs.Mean.{meanOf}
 use Rattle.clocksync.specs.Clock.{laidOut, heldOf, timedOf, tickedOf, listenOf, heardOf, offsetAfter, sampledOf, filledOf, namedOf, sampleOf, settledOf}
 use Rattle.clocksync.specs.Clock.{serverSecondsOf, readyOf, offsetOk, soundClock}
 use Rattle.clocksync.proofs.Sound.{sample-within, measured-ok, clock-sound, clock-timer-fits}
@@ -66,24 +67,24 @@ weight-tells : (w : ClientWorldSimulations) → weightSound w ≡ true → Weigh
 unfolding weightSound
 weight-tells w h = go (eqb (oldStampOf w .0) (newStampOf w .0)) (eqb-true (oldStampOf w .0) (newStampOf w .0)) h
   where
-    go : (b : Bool) → (b ≡ true → oldStampOf w .0 ≡ newStampOf w .0) → cond b (between zeroF oneF (w .weight)) (eq (w .weight) zeroF) ≡ true → Weighed w
-    go true e i = let a = apart (le zeroF (w .weight)) (le (w .weight) oneF) i in is-even (e refl) (holds-true (le zeroF (w .weight)) (a .0)) (holds-true (le (w .weight) oneF) (a .1))
-    go false e i = is-nought (holds-true (eq (w .weight) zeroF) i)
+    go : (b : Bool) → (b ≡ true → oldStampOf w .0 ≡ newStampOf w .0) → cond b (between zero64 one64 (w .weight)) (eq (w .weight) zero64) ≡ true → Weighed w
+    go true e i = let a = apart (le zero64 (w .weight)) (le (w .weight) one64) i in is-even (e refl) (holds-true (le zero64 (w .weight)) (a .0)) (holds-true (le (w .weight) one64) (a .1))
+    go false e i = is-nought (holds-true (eq (w .weight) zero64) i)
 
 weight-holds : (w : ClientWorldSimulations) → Weighed w → weightSound w ≡ true
 unfolding weightSound
 weight-holds w h = by h
   where
-    unit : between zeroF oneF (w .weight) ≡ true
-    unit = let u = weighed-unit w h in both (is-true (le zeroF (w .weight)) (u .0)) (is-true (le (w .weight) oneF) (u .1))
+    unit : between zero64 one64 (w .weight) ≡ true
+    unit = let u = weighed-unit w h in both (is-true (le zero64 (w .weight)) (u .0)) (is-true (le (w .weight) one64) (u .1))
 
-    go : (b : Bool) → T (eq (w .weight) zeroF) → cond b (between zeroF oneF (w .weight)) (eq (w .weight) zeroF) ≡ true
+    go : (b : Bool) → T (eq (w .weight) zero64) → cond b (between zero64 one64 (w .weight)) (eq (w .weight) zero64) ≡ true
     go true i = unit
-    go false i = is-true (eq (w .weight) zeroF) i
+    go false i = is-true (eq (w .weight) zero64) i
 
-    by : Weighed w → cond (eqb (oldStampOf w .0) (newStampOf w .0)) (between zeroF oneF (w .weight)) (eq (w .weight) zeroF) ≡ true
+    by : Weighed w → cond (eqb (oldStampOf w .0) (newStampOf w .0)) (between zero64 one64 (w .weight)) (eq (w .weight) zero64) ≡ true
     by (is-nought i) = go (eqb (oldStampOf w .0) (newStampOf w .0)) i
-    by (is-even e a b) = ap (λ (x : Bool). cond x (between zeroF oneF (w .weight)) (eq (w .weight) zeroF)) (eq-eqb (oldStampOf w .0) (newStampOf w .0) e) ∙ unit
+    by (is-even e a b) = ap (λ (x : Bool). cond x (between zero64 one64 (w .weight)) (eq (w .weight) zero64)) (eq-eqb (oldStampOf w .0) (newStampOf w .0) e) ∙ unit
 
 implied : (a b : Bool) → cond a b true ≡ true → a ≡ true → b ≡ true
 implied true b h e = h
@@ -154,8 +155,8 @@ sound-facts s h =
     let d = apart n (w && x) (b .1) in
     let e = apart w x (d .1) in
     let v = worlds-tell (s .worlds) (e .0) in
-    let o = apart (le zeroF (s .overshoot)) (le (s .overshoot) (s .settings .timestep)) (e .1) in
-    let lo = holds-true (le zeroF (s .overshoot)) (o .0) in
+    let o = apart (le zero64 (s .overshoot)) (le (s .overshoot) (s .settings .timestep)) (e .1) in
+    let lo = holds-true (le zero64 (s .overshoot)) (o .0) in
     let hi = holds-true (le (s .overshoot) (s .settings .timestep)) (o .1) in
     record {
       settings = a .0;
@@ -163,7 +164,7 @@ sound-facts s h =
       connected = d .0;
       kept = v .0;
       weighed = v .1;
-      overshoot = record { number = between-finite zeroF (s .overshoot) (s .settings .timestep) tt (timestep-within (s .settings) (a .0) .number) lo hi; low = lo; high = hi };
+      overshoot = record { number = between-finite zero64 (s .overshoot) (s .settings .timestep) tt (timestep-within (s .settings) (a .0) .number) lo hi; low = lo; high = hi };
     }
 
 pub facts-sound : (s : Session) → SoundFacts s → soundOf s ≡ true
@@ -173,7 +174,7 @@ facts-sound s f =
     (both (f .clock)
     (both (f .connected)
     (both (worlds-hold (s .worlds) (f .kept) (f .weighed))
-    (both (is-true (le zeroF (s .overshoot)) (f .overshoot .low)) (is-true (le (s .overshoot) (s .settings .timestep)) (f .overshoot .high))))))
+    (both (is-true (le zero64 (s .overshoot)) (f .overshoot .low)) (is-true (le (s .overshoot) (s .settings .timestep)) (f .overshoot .high))))))
 
 -- ---- times
 
@@ -235,12 +236,12 @@ ticked-samples : (c : ClockState) (period delta : Float) → tickedOf c period d
 unfolding tickedOf
 ticked-samples c period delta = go (lt period (add binary64 (c .timer) delta)) (add binary64 (c .timer) delta)
   where
-    go : (b : Bool) (t : Float) → cond {A = Ticked} b (record { clock = timedOf c nothing64; request = true }) (record { clock = timedOf c t; request = false }) .clock .samples ≡ c .samples
+    go : (b : Bool) (t : Float) → cond {A = Ticked} b (record { clock = timedOf c zero64; request = true }) (record { clock = timedOf c t; request = false }) .clock .samples ≡ c .samples
     go true t = refl
     go false t = refl
 
 laid-slots : (xs : List Float) → length xs ≤ 64 → length (laidOut xs) ≡ 64
-laid-slots xs h = length-append xs (replicate (64 - length xs) nothing64) ∙ omega (arith, length-replicate (64 - length xs) nothing64)
+laid-slots xs h = length-append xs (replicate (64 - length xs) zero64) ∙ omega (arith, length-replicate (64 - length xs) zero64)
 
 held-short : (c : ClockState) → length (heldOf c) ≤ 63
 unfolding heldOf
@@ -304,7 +305,7 @@ server-within c o seconds pass w ok = go o ok
     lag : Within (c .lag) 60
     lag =
         let l = lag-within c pass in
-        within-of-tests (c .lag) (fin true 15 (pos 2)) (fin false 15 (pos 2)) 60 (l .number) (refl, refl) (refl, refl) (float-le-trans (fin true 15 (pos 2)) zeroF (c .lag) tt (l .low)) (l .high)
+        within-of-tests (c .lag) (fin true 15 (pos 2)) (fin false 15 (pos 2)) 60 (l .number) (refl, refl) (refl, refl) (float-le-trans (fin true 15 (pos 2)) zero64 (c .lag) tt (l .low)) (l .high)
 
     go : (o : Offset) → offsetOk o ≡ true → Within (add binary64 (serverTimeBy (serverSecondsOf o seconds) seconds) (c .lag)) (2 ^ 34)
     go NoOffset k = within-widen (add binary64 seconds (c .lag)) (2 ^ 32 + 60) (2 ^ 34) (lit≤ tt) (add-within seconds (c .lag) (2 ^ 32) 60 (lit< tt) w lag)

@@ -9,7 +9,8 @@ use lib.IntN.{pos}
 use lib.Ieee.{Float, nan, inf, fin, binary64, fits, sub, mul, lt, le}
 use lib.Ieee.Scale.{finite}
 use Rattle.float_laws.specs.Fractions.{val}
-use Rattle.float_laws.specs.Bounds.{oneF, Within}
+use Rattle.float_laws.specs.Bounds.{Within}
+use Rattle.timestamp.specs.Floats.{one64, tweenOf, zero64}
 use Rattle.float_laws.specs.Laws.{Step}
 use Rattle.float_laws.proofs.Value.{q-le-refl, le-of-val}
 use Rattle.float_laws.proofs.Order.{between-finite, float-le-trans, float-le-of-lt, float-le-of-not-lt}
@@ -23,12 +24,12 @@ use Rattle.settings.specs.Settings.{passesOf, blendProgressOf, least64, sixtyFo
 use Rattle.settings.proofs.Limits.{timestep-within, blend-within, max-tests, steps-few, sixty-four-exact}
 use Rattle.client.specs.declared.Scene.{Scene}
 use Rattle.client.specs.Sides.{oldStampOf}
-use Rattle.client_publish.specs.Ending.{tweenOf, weightOk}
+use Rattle.client_publish.specs.Ending.{weightOk}
 use Rattle.session_laws.proofs.SoundWorlds.{Kept, Weighed}
 use Rattle.session_laws.proofs.SoundFrames.{kept-moves, weighed-updates}
 use Rattle.refusals.specs.declared.Stop.{Stop}
 use Rattle.refusals.specs.declared.Stop.the-variants.{Done, TooManyFrames, StatusStops}
-use Rattle.fixed_timestepper.specs.TimeKeeper.{nought, atLeastZero, driftOf, beyondDeadband, uncappedOf, compensatedOf, Run, framed, skipsOf, skipped, maybeSkipped, skippedBy, unendedOf, advancedOf, updatedOf}
+use Rattle.fixed_timestepper.specs.TimeKeeper.{atLeastZero, driftOf, beyondDeadband, uncappedOf, compensatedOf, Run, framed, skipsOf, skipped, maybeSkipped, skippedBy, unendedOf, advancedOf, updatedOf}
 use Rattle.fixed_timestepper.proofs.Induction.{Runs, run-by, updated-by, moves-by}
 use Rattle.session_laws.proofs.SoundSkips.{corrected-in}
 
@@ -45,32 +46,32 @@ module _ (c : Settings) (pass : passesOf c ≡ true) where
   progress-within =
       let t = timestep-within c pass in
       let b = blend-within c pass in
-      let w : Within (c .timestep) 1 = within-of-tests (c .timestep) (fin true 1 (pos 0)) oneF 1 (t .number) (refl, refl) (refl, refl) (float-le-trans (fin true 1 (pos 0)) least64 (c .timestep) tt (t .low)) (t .high) in
+      let w : Within (c .timestep) 1 = within-of-tests (c .timestep) (fin true 1 (pos 0)) one64 1 (t .number) (refl, refl) (refl, refl) (float-le-trans (fin true 1 (pos 0)) least64 (c .timestep) tt (t .low)) (t .high) in
       div-least-within (c .timestep) (c .blend) 1 (lit< tt) w (b .number) (b .low)
 
   -- the update maximum is finite
   pub max-finite : T (fits binary64 (c .timestep)) → T (finite (c .max))
   max-finite f =
       let m = max-tests c pass in
-      between-finite nought (c .max) (mul binary64 sixtyFour64 (c .timestep)) tt (has-value-finite (mul binary64 sixtyFour64 (c .timestep)) false _ _ (sixty-four-exact (c .timestep) f (timestep-within c pass))) (m .0) (m .1)
+      between-finite zero64 (c .max) (mul binary64 sixtyFour64 (c .timestep)) tt (has-value-finite (mul binary64 sixtyFour64 (c .timestep)) false _ _ (sixty-four-exact (c .timestep) f (timestep-within c pass))) (m .0) (m .1)
 
 -- ---- the seconds that an update plays
 
 -- from 0 to a maximum
 pub record Capped (max d : Float) : Type 0 where
   pub number : T (finite d)
-  pub low : T (le nought d)
+  pub low : T (le zero64 d)
   pub high : T (le d max)
 
 -- a number that is not above 0 gives 0, and any other but an infinity is finite
-at-least : (x : Float) → (T (finite (atLeastZero x)) × T (le nought (atLeastZero x))) ⊎ (atLeastZero x ≡ inf false)
+at-least : (x : Float) → (T (finite (atLeastZero x)) × T (le zero64 (atLeastZero x))) ⊎ (atLeastZero x ≡ inf false)
 unfolding lt le
 at-least nan = inl (tt, tt)
 at-least (inf true) = inl (tt, tt)
 at-least (inf false) = inr refl
-at-least (fin s m e) = inl (go (lt nought (fin s m e)) (λ (h : T (lt nought (fin s m e))). float-le-of-lt nought (fin s m e) tt tt h))
+at-least (fin s m e) = inl (go (lt zero64 (fin s m e)) (λ (h : T (lt zero64 (fin s m e))). float-le-of-lt zero64 (fin s m e) tt tt h))
   where
-    go : (b : Bool) → (T b → T (le nought (fin s m e))) → T (finite (cond b (fin s m e) nought)) × T (le nought (cond b (fin s m e) nought))
+    go : (b : Bool) → (T b → T (le zero64 (fin s m e))) → T (finite (cond b (fin s m e) zero64)) × T (le zero64 (cond b (fin s m e) zero64))
     go true h = (tt, h tt)
     go false h = (tt, tt)
 
@@ -83,7 +84,7 @@ below-infinity (fin s m e) p = refl
 le-self : (x : Float) → T (finite x) → T (le x x)
 le-self x p = le-of-val x x p p (q-le-refl (val x))
 
-cap : (max u : Float) → T (finite max) → T (le nought max) → (T (finite u) × T (le nought u)) ⊎ (u ≡ inf false) → Capped max (cond (lt max u) max u)
+cap : (max u : Float) → T (finite max) → T (le zero64 max) → (T (finite u) × T (le zero64 u)) ⊎ (u ≡ inf false) → Capped max (cond (lt max u) max u)
 cap max u p l (inl h) = go (lt max u) (λ (n : T (not (lt max u))). float-le-of-not-lt max u p (h .0) n)
   where
     go : (b : Bool) → (T (not b) → T (le u max)) → Capped max (cond b max u)
@@ -93,7 +94,7 @@ cap max u p l (inr e) =
     subst (λ (v : Float). Capped max (cond (lt max v) max v)) (sym e)
     (subst (λ (b : Bool). Capped max (cond b max (inf false))) (sym (below-infinity max p)) (record { number = p; low = l; high = le-self max p }))
 
-pub compensated-capped : (stamp : Timestamp) (o delta server : Float) (c : Settings) → T (finite (c .max)) → T (le nought (c .max)) → Capped (c .max) (compensatedOf stamp o delta server c)
+pub compensated-capped : (stamp : Timestamp) (o delta server : Float) (c : Settings) → T (finite (c .max)) → T (le zero64 (c .max)) → Capped (c .max) (compensatedOf stamp o delta server c)
 unfolding compensatedOf uncappedOf
 compensated-capped stamp o delta server c p l = cap (c .max) (uncappedOf stamp o delta server (c .timestep)) p l (at-least (sub binary64 delta (beyondDeadband (driftOf stamp o (c .timestep) (sub binary64 server delta)) (c .timestep))))
 
@@ -102,7 +103,7 @@ compensated-capped stamp o delta server c p l = cap (c .max) (uncappedOf stamp o
 -- finite and from 0 to the timestep
 pub record InStep (t o : Float) : Type 0 where
   pub number : T (finite o)
-  pub low : T (le nought o)
+  pub low : T (le zero64 o)
   pub high : T (le o t)
 
 -- the frames end by themselves once the overshoot is not below 0, and no addition takes it above the timestep
@@ -114,7 +115,7 @@ overshoot-runs c st =
       done = λ n s o e k a q.
           record {
             number = a .finite-x;
-            low = float-le-of-not-lt o nought (a .finite-x) tt (subst (λ (b : Bool). T (not b)) (sym e) tt);
+            low = float-le-of-not-lt o zero64 (a .finite-x) tt (subst (λ (b : Bool). T (not b)) (sym e) tt);
             high = le-of-val o (c .timestep) (a .finite-x) (st .finite-t) (a .ceiling);
           };
       stops = λ n s o e k a q. absurd (let z : _≡_ {A = ℕ} 0 1 = cc in omega arith);

@@ -15,8 +15,9 @@ use lib.Ieee.Positive.{den}
 use lib.Ieee.Scale.{finite}
 use borrow.Author.Tests.{le-leb, lt-ltb}
 use Rattle.float_laws.specs.Fractions.{Q, Le, Eqv, addQ, pnum, nnum, val}
-use Rattle.float_laws.specs.Bounds.{zeroF, oneF, Between, wholeQ, Within, InUnit}
-use Rattle.float_laws.specs.Laws.{Step, tweenWeight, halfCycle, wrap, lastStamp}
+use Rattle.float_laws.specs.Bounds.{Between, wholeQ, Within, InUnit}
+use Rattle.timestamp.specs.Floats.{zero64, one64, tweenOf}
+use Rattle.float_laws.specs.Laws.{Step, halfCycle, wrap, lastStamp}
 use Rattle.float_laws.proofs.Value.{q-le-trans, le-to-val, le-of-val, lt-to-val}
 use Rattle.float_laws.proofs.Order.{between-finite, float-le-of-not-lt}
 use Rattle.float_laws.proofs.Round.{has-value-finite, has-value-eqv}
@@ -32,7 +33,7 @@ use Rattle.timestamp.proofs.Basics.{holds-true}
 use Rattle.timestamp.proofs.Saturate.{saturates}
 use Rattle.timestamp.proofs.Signed.{signed-low, signed-high}
 use Rattle.timestamp.proofs.Tests.{apart}
-use Rattle.client_publish.specs.Ending.{tweenOf, weightOk}
+use Rattle.client_publish.specs.Ending.{weightOk}
 use Rattle.fixed_timestepper.specs.TimeKeeper.{correctedOf, correctedOvershoot}
 
 -- ---- a whole number as a float
@@ -78,10 +79,10 @@ below-cut (suc j) h = negative-back binary64 15 j (holds-true (ltb j (2 ^ 53)) (
 pub record Above (x y : Float) : Type 0 where
   pub number : T (finite y)
   pub low : Le (val x) (val y)
-  pub high : Le (val y) (addQ (val x) (val oneF))
+  pub high : Le (val y) (addQ (val x) (val one64))
 
-above-of : (x y : Float) (q : Q) → T (finite y) → Eqv (val y) q → Le (val x) q → Le q (addQ (val x) (val oneF)) → Above x y
-above-of x y q p e h k = record { number = p; low = q-le-trans (val x) q (val y) h (e .1); high = q-le-trans (val y) q (addQ (val x) (val oneF)) (e .0) k }
+above-of : (x y : Float) (q : Q) → T (finite y) → Eqv (val y) q → Le (val x) q → Le q (addQ (val x) (val one64)) → Above x y
+above-of x y q p e h k = record { number = p; low = q-le-trans (val x) q (val y) h (e .1); high = q-le-trans (val y) q (addQ (val x) (val one64)) (e .0) k }
 
 -- a quotient rounded up, and one rounded down
 up-bounds : (a d : ℕ) → 0 < d → (a ≤ (a + (d - 1)) / d * d) × ((a + (d - 1)) / d * d ≤ a + d)
@@ -133,7 +134,7 @@ ceil-above (fin true m e) p l h =
 -- what is from x to 1 above it is a difference from 0 to 1
 above-unit : (x y : Float) → T (finite x) → Above x y → InUnit (sub binary64 y x)
 above-unit x y p u =
-    sub-between binary64 (val zeroF) (val oneF) y x held-zero held-one (u .number) p
+    sub-between binary64 (val zero64) (val one64) y x held-zero held-one (u .number) p
     (low-side (pnum y) (nnum y) (den y) (pnum x) (nnum x) (den x) (u .low)) (high-side (pnum y) (nnum y) (den y) (pnum x) (nnum x) (den x) (u .high))
   where
     low-side : (p n d q m e : ℕ) → q * d + n * e ≤ p * e + m * d → 0 * 1 * (d * e) + (n * e + q * d) * 1 ≤ (p * e + m * d) * 1 + 0 * (d * e)
@@ -177,15 +178,15 @@ ceil-last (fin false m e) p h l =
 -- ---- the overshoot
 
 -- a weight that passes is finite, and at most 1
-weight-tests : (t : Float) → weightOk t ≡ true → T (le zeroF t) × T (le t oneF)
+weight-tests : (t : Float) → weightOk t ≡ true → T (le zero64 t) × T (le t one64)
 unfolding weightOk
-weight-tests t h = let a = apart (le zeroF t) (le t oneF) h in (holds-true (le zeroF t) (a .0), holds-true (le t oneF) (a .1))
+weight-tests t h = let a = apart (le zero64 t) (le t one64) h in (holds-true (le zero64 t) (a .0), holds-true (le t one64) (a .1))
 
-over-one : (t : Float) → weightOk t ≡ true → T (lt oneF t) → ⊥
+over-one : (t : Float) → weightOk t ≡ true → T (lt one64 t) → ⊥
 over-one t h k =
     let a = weight-tests t h in
-    let p = between-finite zeroF t oneF tt tt (a .0) (a .1) in
-    omega (arith, le-to-val t oneF p tt (a .1), lt-to-val oneF t tt p k)
+    let p = between-finite zero64 t one64 tt tt (a .0) (a .1) in
+    omega (arith, le-to-val t one64 p tt (a .1), lt-to-val one64 t tt p k)
 
 -- the target of a skip, in frames
 pub target-within : (server t : Float) → Within server (2 ^ 34) → Step t → Within (fromSeconds server t) (2 ^ 15)
@@ -198,22 +199,22 @@ target-fits server t = sub-fits binary64 _ _
 
 -- the overshoot of a target x within half a cycle
 module _ (x t : Float) (f : T (fits binary64 x)) (w : Within x (2 ^ 15)) (s : Step t) where
-  over-in : weightOk (tweenWeight (mul binary64 (wrap (sub binary64 (floatOf (bitsOf (ceilStampOf x))) x)) t) t) ≡ true → Between (val zeroF) (mul binary64 (wrap (sub binary64 (floatOf (bitsOf (ceilStampOf x))) x)) t) (val t)
+  over-in : weightOk (tweenOf (mul binary64 (wrap (sub binary64 (floatOf (bitsOf (ceilStampOf x))) x)) t) t) ≡ true → Between (val zero64) (mul binary64 (wrap (sub binary64 (floatOf (bitsOf (ceilStampOf x))) x)) t) (val t)
   over-in ok = go (lt lastStamp x) refl
     where
-      go : (b : Bool) → lt lastStamp x ≡ b → Between (val zeroF) (mul binary64 (wrap (sub binary64 (floatOf (bitsOf (ceilStampOf x))) x)) t) (val t)
+      go : (b : Bool) → lt lastStamp x ≡ b → Between (val zero64) (mul binary64 (wrap (sub binary64 (floatOf (bitsOf (ceilStampOf x))) x)) t) (val t)
       go true e =
           let h = holds-true (lt lastStamp x) e in
           let c : floatOf (bitsOf (ceilStampOf x)) ≡ lastStamp = ap (λ (z : ℤ). floatOf (bitsOf z)) (ceil-last x (w .0) h (w .2)) ∙ last-float in
-          let o = subst (λ (y : Float). weightOk (tweenWeight (mul binary64 (wrap (sub binary64 y x)) t) t) ≡ true) c ok in
+          let o = subst (λ (y : Float). weightOk (tweenOf (mul binary64 (wrap (sub binary64 y x)) t) t) ≡ true) c ok in
           let l = tests-of-within x (fin true 1 (pos 15)) halfCycle (2 ^ 15) (refl, refl) (refl, refl) w in
-          absurd (over-one (tweenWeight (mul binary64 (wrap (sub binary64 lastStamp x)) t) t) o (skip-out x t f (w .0) h (l .2) s))
+          absurd (over-one (tweenOf (mul binary64 (wrap (sub binary64 lastStamp x)) t) t) o (skip-out x t f (w .0) h (l .2) s))
       go false e =
           let h = float-le-of-not-lt lastStamp x tt (w .0) (subst (λ (b : Bool). T (not b)) (sym e) tt) in
           skip-in (sub binary64 (floatOf (bitsOf (ceilStampOf x))) x) t s (above-unit x (floatOf (bitsOf (ceilStampOf x))) (w .0) (ceil-above x (w .0) (w .1) (le-to-val x lastStamp (w .0) tt h)))
 
 -- with a weight that passes, the overshoot after a skip is from 0 to the timestep
-pub corrected-in : (server t : Float) → Within server (2 ^ 34) → Step t → weightOk (tweenOf (correctedOvershoot server t) t) ≡ true → T (finite (correctedOvershoot server t)) × T (le zeroF (correctedOvershoot server t)) × T (le (correctedOvershoot server t) t)
-unfolding correctedOvershoot correctedOf tweenOf fromUnwrapped
+pub corrected-in : (server t : Float) → Within server (2 ^ 34) → Step t → weightOk (tweenOf (correctedOvershoot server t) t) ≡ true → T (finite (correctedOvershoot server t)) × T (le zero64 (correctedOvershoot server t)) × T (le (correctedOvershoot server t) t)
+unfolding correctedOvershoot correctedOf fromUnwrapped
 corrected-in server t w s ok =
-    in-order zeroF (correctedOvershoot server t) t tt (s .finite-t) (over-in (fromSeconds server t) t (target-fits server t) (target-within server t w s) s ok)
+    in-order zero64 (correctedOvershoot server t) t tt (s .finite-t) (over-in (fromSeconds server t) t (target-fits server t) (target-within server t w s) s ok)

@@ -4,7 +4,7 @@ use mathlib.Core.Bool.{Bool, true, false, cond}
 use Prim.Native.Nat.{ℕ, _^_, _<_}
 use lib.Dec.{T, eqb}
 use lib.Ieee.{Float, eq, le}
-use Rattle.float_laws.specs.Bounds.{zeroF, oneF}
+use Rattle.timestamp.specs.Floats.{zero64, one64}
 use Rattle.timestamp.specs.declared.Timestamp.{Timestamp}
 use Rattle.command.specs.declared.CommandBuffer.{CommandBuffer}
 use Rattle.command.specs.declared.Entry.{Entry}
@@ -47,8 +47,8 @@ pub record Kept (w : ClientWorldSimulations) : Type 0 where
 
 -- the weight is 0, or it is from 0 to 1 and the stamps are equal
 pub data Weighed (w : ClientWorldSimulations) : Type 0 where
-  is-nought : T (eq (w .weight) zeroF) → Weighed w
-  is-even : oldStampOf w .0 ≡ newStampOf w .0 → T (le zeroF (w .weight)) → T (le (w .weight) oneF) → Weighed w
+  is-nought : T (eq (w .weight) zero64) → Weighed w
+  is-even : oldStampOf w .0 ≡ newStampOf w .0 → T (le zero64 (w .weight)) → T (le (w .weight) one64) → Weighed w
 
 -- ---- the world of a side
 
@@ -160,9 +160,9 @@ module _ (w : ClientWorldSimulations) (side : ℕ) (x : Simulation) (e : worldSt
 
 -- worlds of the same stamps and weight as others are weighed as they are
 pub weighed-as : (v w : ClientWorldSimulations) → v .weight ≡ w .weight → oldStampOf v ≡ oldStampOf w → newStampOf v ≡ newStampOf w → Weighed w → Weighed v
-weighed-as v w e o n (is-nought h) = is-nought (subst (λ (t : Float). T (eq t zeroF)) (sym e) h)
+weighed-as v w e o n (is-nought h) = is-nought (subst (λ (t : Float). T (eq t zero64)) (sym e) h)
 weighed-as v w e o n (is-even h a b) =
-    is-even (ap (λ (t : Timestamp). t .0) o ∙ h ∙ sym (ap (λ (t : Timestamp). t .0) n)) (subst (λ (t : Float). T (le zeroF t)) (sym e) a) (subst (λ (t : Float). T (le t oneF)) (sym e) b)
+    is-even (ap (λ (t : Timestamp). t .0) o ∙ h ∙ sym (ap (λ (t : Timestamp). t .0) n)) (subst (λ (t : Float). T (le zero64 t)) (sym e) a) (subst (λ (t : Float). T (le t one64)) (sym e) b)
 
 -- another base
 pub base-kept : (w : ClientWorldSimulations) (b : CommandBuffer) → soundBuffer b ≡ true → Kept w → Kept (withBase w b)
@@ -192,7 +192,7 @@ published-weighed w p h = weighed-as (withPublished w p) w refl refl refl h
 pub weight-kept : (w : ClientWorldSimulations) (t : Float) → Kept w → Kept (withWeight w t)
 weight-kept w t k = record { left = k .left; right = k .right; base = k .base; queued = k .queued; init = k .init }
 
-pub weight-weighed : (w : ClientWorldSimulations) (t : Float) → oldStampOf w .0 ≡ newStampOf w .0 → T (le zeroF t) → T (le t oneF) → Weighed (withWeight w t)
+pub weight-weighed : (w : ClientWorldSimulations) (t : Float) → oldStampOf w .0 ≡ newStampOf w .0 → T (le zero64 t) → T (le t one64) → Weighed (withWeight w t)
 unfolding oldStampOf newStampOf oldSideOf newSideOf worldOf
 weight-weighed w t e a b = is-even e a b
 
@@ -366,5 +366,5 @@ unfolding loadedOf readiedWith eq
 loaded-weighed s side t h =
     let b = restOf (s .worlds .base) t in
     let l = loadOf (worldOf (s .worlds) side) b t in
-    let e : loadedAt s side b h l .scene .worlds .weight ≡ zeroF = ap (λ (w : ClientWorldSimulations). w .weight) (loaded-worlds s side b h l) ∙ put-weight (readiedWith (s .worlds) side b) side (l .world) in
-    is-nought (subst (λ (x : Float). T (eq x zeroF)) (sym e) tt)
+    let e : loadedAt s side b h l .scene .worlds .weight ≡ zero64 = ap (λ (w : ClientWorldSimulations). w .weight) (loaded-worlds s side b h l) ∙ put-weight (readiedWith (s .worlds) side b) side (l .world) in
+    is-nought (subst (λ (x : Float). T (eq x zero64)) (sym e) tt)

@@ -15,7 +15,8 @@ use Rattle.refusals.specs.Refusals.{accepted, syncingRefusalBy, arrivalRefusalB
 use Rattle.refusals.specs.declared.Stop.the-variants.{Done}
 use Rattle.refusals.proofs.Accepted.{once-accepted, end-accepted, issue-accepted}
 use Rattle.inbox.specs.Inbox.{refusalOf}
-use Rattle.client_publish.specs.Ending.{tweenOf, weightOk}
+use Rattle.client_publish.specs.Ending.{weightOk}
+use Rattle.timestamp.specs.Floats.{tweenOf}
 use Rattle.fixed_timestepper.specs.TimeKeeper.{Run}
 use Rattle.session_state.specs.declared.Stage.{Stage}
 use Rattle.session_state.specs.declared.Stage.the-variants.{SyncingClock, SyncingInitialState, Ready}

@@ -10,7 +10,8 @@ use Rattle.simulation.specs.declared.Simulation.{Simulation}
 use Rattle.client.specs.declared.ClientWorldSimulations.{ClientWorldSimulations}
 use Rattle.client.specs.Sides.{newSideOf, oldSideOf, worldOf, oldStampOf, newStampOf}
 use Rattle.settings.specs.Settings.{between}
-use Rattle.session_state.specs.Sound.{zero64, one64, weightSound, initSound}
+use Rattle.session_state.specs.Sound.{weightSound, initSound}
+use Rattle.timestamp.specs.Floats.{zero64, one64}
 
 -- from the lower end up, the upper end decides
 pub from-low : (lo hi x : Float) → le lo x ≡ true → le x hi ≡ between lo hi x

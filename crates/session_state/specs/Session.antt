@@ -1,8 +1,8 @@
 -- A session, by what a call changes of it: what is not named is carried. A field that is added goes into the two definitions here that write a session out.
 -- Definitions only. Assumes nothing.
 use mathlib.Core.Bool.{Bool, true, false}
-use lib.IntN.{pos}
-use lib.Ieee.{Float, fin}
+use lib.Ieee.{Float}
+use Rattle.timestamp.specs.Floats.{zero64}
 use Rattle.settings.specs.declared.Settings.{Settings}
 use Rattle.clocksync.specs.declared.Clock.{Clock}
 use Rattle.client.specs.declared.ClientWorldSimulations.{ClientWorldSimulations}
@@ -24,7 +24,7 @@ isReady Ready = true
 
 -- a session as settings start it, with this clock and these worlds
 abbrev pub startingOf : Settings → Clock → ClientWorldSimulations → Session
-startingOf c k w = record { settings = c; stage = SyncingClock; clock = k; worlds = w; overshoot = fin false 0 (pos 0) }
+startingOf c k w = record { settings = c; stage = SyncingClock; clock = k; worlds = w; overshoot = zero64 }
 
 -- the session with another stage, clock and overshoot and with other worlds
 abbrev pub sessionWith : Session → Stage → Clock → ClientWorldSimulations → Float → Session

@@ -2,8 +2,8 @@
 -- Definitions only. Assumes nothing.
 use mathlib.Core.Bool.{Bool, true, false, cond, _&&_}
 use lib.Dec.{eqb, ltb}
-use lib.IntN.{pos}
-use lib.Ieee.{Float, fin, eq}
+use lib.Ieee.{Float, eq}
+use Rattle.timestamp.specs.Floats.{zero64, one64}
 use Rattle.refusals.specs.Limits.{handleRoom}
 use Rattle.settings.specs.Settings.{passesOf, between}
 use Rattle.clocksync.specs.declared.Clock.{Clock}
@@ -18,14 +18,6 @@ use Rattle.client.specs.Sides.{newSideOf, oldSideOf, worldOf, oldStampOf, newSt
 use Rattle.session_state.specs.declared.Stage.{Stage}
 use Rattle.session_state.specs.declared.Stage.the-variants.{SyncingClock, SyncingInitialState, Ready}
 use Rattle.session_state.specs.declared.Session.{Session}
-
--- +0.0 and 1.0
-abbrev pub zero64 : Float
-zero64 = fin false 0 (pos 0)
-
--- 1.0
-abbrev pub one64 : Float
-one64 = fin false 1 (pos 0)
 
 -- a queued snapshot's handle is within 24 bits
 unfoldable pub queuedSound : Queued → Bool

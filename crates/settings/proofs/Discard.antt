@@ -13,7 +13,8 @@ use borrow.Author.Tests.{lt-ltb}
 use Rattle.timestamp.specs.Whole.{ceilOf}
 use Rattle.timestamp.proofs.Basics.{signs-apart}
 use Rattle.settings.proofs.Tests.{le-at, gt-at}
-use Rattle.settings.specs.Settings.{one64, atLeastOne, discardOf}
+use Rattle.settings.specs.Settings.{atLeastOne, discardOf}
+use Rattle.timestamp.specs.Floats.{one64}
 
 -- no NaN, and the sign is plus
 abbrev pub plus : Float → Bool

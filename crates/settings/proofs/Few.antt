@@ -16,7 +16,8 @@ use lib.Ieee.Order.{round-mono}
 use lib.Ieee.Scale.{finite}
 use borrow.Author.Tests.{leb-true, ltb-true}
 use Rattle.timestamp.specs.Whole.{ceilOf}
-use Rattle.settings.specs.Settings.{one64, two64, nothing64, between, atLeastOne, discardOf, storeOf, samplesPass}
+use Rattle.settings.specs.Settings.{between, atLeastOne, discardOf, storeOf, samplesPass}
+use Rattle.timestamp.specs.Floats.{one64, two64, zero64}
 use Rattle.settings.proofs.Tests.{le-at}
 use Rattle.timestamp.proofs.Tests.{apart}
 use Rattle.settings.proofs.Discard.{plus, round-plus, above-one, not-above-one}
@@ -156,7 +157,7 @@ ceil-few n (fin false m e) s u h =
 
 -- ---- a rate from 0 to 1 has the sign plus and is at most 1, or it is -0
 
-rate-cases : (r : Float) → le nothing64 r ≡ true → le r one64 ≡ true → UpTo 1 r ⊎ T (minus r)
+rate-cases : (r : Float) → le zero64 r ≡ true → le r one64 ≡ true → UpTo 1 r ⊎ T (minus r)
 unfolding le lt eq UpTo minus
 rate-cases nan h k = absurd (false≢true h)
 rate-cases (inf true) h k = inr tt
@@ -174,7 +175,7 @@ product-minus n (fin false m e) (inf t) v f p = absurd f
 product-minus n (fin false m e) (fin false k d) v f p = absurd p
 product-minus n (fin false m e) (fin true k d) v f p = round-minus binary64 (m * up e * (k * up d)) (down e * down d)
 
-finite-between : (r : Float) → le nothing64 r ≡ true → le r one64 ≡ true → T (finite r)
+finite-between : (r : Float) → le zero64 r ≡ true → le r one64 ≡ true → T (finite r)
 unfolding le lt eq
 finite-between nan h k = absurd (false≢true h)
 finite-between (inf true) h k = absurd (false≢true h)
@@ -189,7 +190,7 @@ of-whole n h = round-whole binary64 false n (omega arith)
 abbrev half : ℕ → Float → Float
 half needed rate = div binary64 (mul binary64 (ofInt binary64 (pos needed)) rate) two64
 
-half-cases : (n : ℕ) (r : Float) → n ≤ 32 → le nothing64 r ≡ true → le r one64 ≡ true → UpTo 16 (half n r) ⊎ (lt one64 (half n r) ≡ false)
+half-cases : (n : ℕ) (r : Float) → n ≤ 32 → le zero64 r ≡ true → le r one64 ≡ true → UpTo 16 (half n r) ⊎ (lt one64 (half n r) ≡ false)
 unfolding UpTo
 half-cases n r h a b = elim (rate-cases r a b) [
   | inl u ↦ inl (half-up-to 16 (mul binary64 (ofInt binary64 (pos n)) r) (lit≤ tt) (wider n 32 (mul binary64 (ofInt binary64 (pos n)) r) h (product-up-to n (ofInt binary64 (pos n)) r (omega arith) (of-whole n h) u)))
@@ -205,12 +206,12 @@ half-cases n r h a b = elim (rate-cases r a b) [
 -- ---- the laws
 
 module _ (needed : ℕ) (rate : Float) (pass : samplesPass needed rate ≡ true) where
-  parts : (1 ≤ needed) × (needed ≤ 32) × (le nothing64 rate ≡ true) × (le rate one64 ≡ true)
+  parts : (1 ≤ needed) × (needed ≤ 32) × (le zero64 rate ≡ true) × (le rate one64 ≡ true)
   unfolding samplesPass
   parts =
-      let a = apart (leb 1 needed && leb needed 32) (between nothing64 one64 rate) pass in
+      let a = apart (leb 1 needed && leb needed 32) (between zero64 one64 rate) pass in
       let b = apart (leb 1 needed) (leb needed 32) (a .0) in
-      let c = apart (le nothing64 rate) (le rate one64) (a .1) in
+      let c = apart (le zero64 rate) (le rate one64) (a .1) in
       (leb-true 1 needed (b .0), leb-true needed 32 (b .1), c .0, c .1)
 
   -- 1 to 32 samples are needed
@@ -218,7 +219,7 @@ module _ (needed : ℕ) (rate : Float) (pass : samplesPass needed rate ≡ true)
   needed-range = (parts .0, parts .1)
 
   -- the rate is from 0 to 1
-  pub rate-range : T (le nothing64 rate) × T (le rate one64)
+  pub rate-range : T (le zero64 rate) × T (le rate one64)
   rate-range = (subst T (sym (parts .2)) tt, subst T (sym (parts .3)) tt)
 
   -- 1 to 16 samples are left out at each end

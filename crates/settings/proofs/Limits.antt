@@ -23,7 +23,8 @@ use Rattle.timestamp.proofs.Whole.{holds}
 use Rattle.timestamp.proofs.Basics.{split, signs-apart}
 use Rattle.settings.specs.declared.Settings.{Settings}
 use Rattle.settings.specs.Tweening.{knownOf}
-use Rattle.settings.specs.Settings.{nothing64, least64, one64, sixty64, sixtyFour64, hour64, between, lagFramesOf, lagFrameCountOf, samplesToDiscardOf, samplesToStoreOf, secondsPass, thresholdsPass, samplesPass, countsPass, passesOf}
+use Rattle.settings.specs.Settings.{least64, sixty64, sixtyFour64, hour64, between, lagFramesOf, lagFrameCountOf, samplesToDiscardOf, samplesToStoreOf, secondsPass, thresholdsPass, samplesPass, countsPass, passesOf}
+use Rattle.timestamp.specs.Floats.{zero64, one64}
 use Rattle.settings.proofs.Tests.{le-at}
 use Rattle.timestamp.proofs.Tests.{apart}
 use Rattle.settings.proofs.Discard.{plus, round-plus}
@@ -113,7 +114,7 @@ some m u w U h =
     let p = mul-pos (zero-lt-suc m) U in
     omega arith
 
-lag-counted : (lag timestep : Float) → le nothing64 lag ≡ true → T (finite lag) → le least64 timestep ≡ true → T (finite timestep) → Counted (lagFramesOf lag timestep)
+lag-counted : (lag timestep : Float) → le zero64 lag ≡ true → T (finite lag) → le least64 timestep ≡ true → T (finite timestep) → Counted (lagFramesOf lag timestep)
 unfolding lagFramesOf le lt eq
 lag-counted lag nan h p k q = absurd q
 lag-counted lag (inf s) h p k q = absurd q
@@ -170,25 +171,25 @@ module _ (s : Settings) (pass : passesOf s ≡ true) where
       let c = apart (secondsPass s) (thresholdsPass s) (b .0) in
       (c .0, c .1, b .1, a .1)
 
-  seconds : (between least64 one64 (s .timestep) ≡ true) × (between least64 sixty64 (s .blend) ≡ true) × (between nothing64 sixty64 (s .lag) ≡ true) × (leZ (lagFrameCountOf s) (pos 16383) ≡ true) × (between nothing64 (mul binary64 sixtyFour64 (s .timestep)) (s .max) ≡ true)
+  seconds : (between least64 one64 (s .timestep) ≡ true) × (between least64 sixty64 (s .blend) ≡ true) × (between zero64 sixty64 (s .lag) ≡ true) × (leZ (lagFrameCountOf s) (pos 16383) ≡ true) × (between zero64 (mul binary64 sixtyFour64 (s .timestep)) (s .max) ≡ true)
   unfolding secondsPass
   seconds =
       let t = between least64 one64 (s .timestep) in
       let u = between least64 sixty64 (s .blend) in
-      let v = between nothing64 sixty64 (s .lag) in
+      let v = between zero64 sixty64 (s .lag) in
       let w = leZ (lagFrameCountOf s) (pos 16383) in
-      let a = apart (t && u && v && w) (between nothing64 (mul binary64 sixtyFour64 (s .timestep)) (s .max)) (groups .0) in
+      let a = apart (t && u && v && w) (between zero64 (mul binary64 sixtyFour64 (s .timestep)) (s .max)) (groups .0) in
       let b = apart (t && u && v) w (a .0) in
       let c = apart (t && u) v (b .0) in
       let d = apart t u (c .0) in
       (d .0, d .1, c .1, b .1, a .1)
 
-  thresholds : (between nothing64 hour64 (s .period) ≡ true) × (between nothing64 hour64 (s .deviation) ≡ true) × (between nothing64 hour64 (s .skip) ≡ true)
+  thresholds : (between zero64 hour64 (s .period) ≡ true) × (between zero64 hour64 (s .deviation) ≡ true) × (between zero64 hour64 (s .skip) ≡ true)
   unfolding thresholdsPass
   thresholds =
-      let t = between nothing64 hour64 (s .period) in
-      let u = between nothing64 hour64 (s .deviation) in
-      let a = apart (t && u) (between nothing64 hour64 (s .skip)) (groups .1) in
+      let t = between zero64 hour64 (s .period) in
+      let u = between zero64 hour64 (s .deviation) in
+      let a = apart (t && u) (between zero64 hour64 (s .skip)) (groups .1) in
       let b = apart t u (a .0) in
       (b .0, b .1, a .1)
 
@@ -208,22 +209,22 @@ module _ (s : Settings) (pass : passesOf s ≡ true) where
   blend-within = within-of least64 sixty64 (s .blend) tt tt (seconds .1)
 
   -- the lag latency is from 0 to 60
-  pub lag-within : Limited nothing64 sixty64 (s .lag)
-  lag-within = within-of nothing64 sixty64 (s .lag) tt tt (seconds .2)
+  pub lag-within : Limited zero64 sixty64 (s .lag)
+  lag-within = within-of zero64 sixty64 (s .lag) tt tt (seconds .2)
 
   -- the request period, the deviation and the skip threshold are from 0 to 3,600
-  pub period-within : Limited nothing64 hour64 (s .period)
-  period-within = within-of nothing64 hour64 (s .period) tt tt (thresholds .0)
+  pub period-within : Limited zero64 hour64 (s .period)
+  period-within = within-of zero64 hour64 (s .period) tt tt (thresholds .0)
 
-  pub deviation-within : Limited nothing64 hour64 (s .deviation)
-  deviation-within = within-of nothing64 hour64 (s .deviation) tt tt (thresholds .1)
+  pub deviation-within : Limited zero64 hour64 (s .deviation)
+  deviation-within = within-of zero64 hour64 (s .deviation) tt tt (thresholds .1)
 
-  pub skip-within : Limited nothing64 hour64 (s .skip)
-  skip-within = within-of nothing64 hour64 (s .skip) tt tt (thresholds .2)
+  pub skip-within : Limited zero64 hour64 (s .skip)
+  skip-within = within-of zero64 hour64 (s .skip) tt tt (thresholds .2)
 
   -- the update maximum passes the tests against 0 and 64 times the timestep
-  pub max-tests : T (le nothing64 (s .max)) × T (le (s .max) (mul binary64 sixtyFour64 (s .timestep)))
-  max-tests = let a = apart (le nothing64 (s .max)) (le (s .max) (mul binary64 sixtyFour64 (s .timestep))) (seconds .4) in (is _ (a .0), is _ (a .1))
+  pub max-tests : T (le zero64 (s .max)) × T (le (s .max) (mul binary64 sixtyFour64 (s .timestep)))
+  max-tests = let a = apart (le zero64 (s .max)) (le (s .max) (mul binary64 sixtyFour64 (s .timestep))) (seconds .4) in (is _ (a .0), is _ (a .1))
 
   -- 1 to 32 samples are needed, and the rate is from 0 to 1
   pub samples-pass : samplesPass (s .needed) (s .rate) ≡ true
@@ -250,6 +251,6 @@ module _ (s : Settings) (pass : passesOf s ≡ true) where
   unfolding Counted
   lag-few =
       let t = apart (le least64 (s .timestep)) (le (s .timestep) one64) (seconds .0) in
-      let l = apart (le nothing64 (s .lag)) (le (s .lag) sixty64) (seconds .2) in
+      let l = apart (le zero64 (s .lag)) (le (s .lag) sixty64) (seconds .2) in
       let c = lag-counted (s .lag) (s .timestep) (l .0) (lag-within .number) (t .0) (timestep-within .number) in
       (c, leb-true (bitsOf (lagFrameCountOf s)) 16383 (subst (λ (z : ℤ). leZ z (pos 16383) ≡ true) c (seconds .3)))

@@ -6,27 +6,16 @@ use lib.Dec.{leb}
 use lib.IntN.{ℤ, pos, negsuc}
 use lib.Signed.{leZ}
 use lib.Ieee.{Float, fin, binary64, mul, div, lt, le, ofInt, toUnsigned}
+use Rattle.timestamp.specs.Floats.{zero64, one64, two64}
 use Rattle.timestamp.specs.Whole.{ceilOf, roundOf}
 use Rattle.timestamp.specs.FloatTimestamps.{stampOf}
 use Rattle.refusals.specs.Limits.{mostSteps, mostLagFrames}
 use Rattle.settings.specs.declared.Settings.{Settings}
 use Rattle.settings.specs.Tweening.{knownOf}
 
--- 0
-abbrev pub nothing64 : Float
-nothing64 = fin false 0 (pos 0)
-
 -- 1/1024
 abbrev pub least64 : Float
 least64 = fin false 1 (negsuc 9)
-
--- 1
-abbrev pub one64 : Float
-one64 = fin false 1 (pos 0)
-
--- 2
-abbrev pub two64 : Float
-two64 = fin false 1 (pos 1)
 
 -- 60
 abbrev pub sixty64 : Float
@@ -89,20 +78,20 @@ unfoldable pub secondsPass : Settings → Bool
 secondsPass s =
     between least64 one64 (s .timestep)
     && between least64 sixty64 (s .blend)
-    && between nothing64 sixty64 (s .lag)
+    && between zero64 sixty64 (s .lag)
     && leZ (lagFrameCountOf s) (pos mostLagFrames)
-    && between nothing64 (mul binary64 sixtyFour64 (s .timestep)) (s .max)
+    && between zero64 (mul binary64 sixtyFour64 (s .timestep)) (s .max)
 
 -- request period, deviation and skip threshold 0 to 3,600
 unfoldable pub thresholdsPass : Settings → Bool
 thresholdsPass s =
-    between nothing64 hour64 (s .period)
-    && between nothing64 hour64 (s .deviation)
-    && between nothing64 hour64 (s .skip)
+    between zero64 hour64 (s .period)
+    && between zero64 hour64 (s .deviation)
+    && between zero64 hour64 (s .skip)
 
 -- samples needed 1 to 32; outlier rate 0 to 1
 unfoldable pub samplesPass : ℕ → Float → Bool
-samplesPass needed rate = leb 1 needed && leb needed 32 && between nothing64 one64 rate
+samplesPass needed rate = leb 1 needed && leb needed 32 && between zero64 one64 rate
 
 -- the samples, and m 1 to 64
 unfoldable pub countsPass : Settings → Bool

@@ -4,12 +4,9 @@ use Prim.Native.Nat.{ℕ}
 use mathlib.Core.Bool.{false, cond}
 use lib.IntN.{ℤ, pos}
 use lib.Ieee.{Float, fin, binary64, add, sub, mul, div, rem, lt, toSigned, ofInt}
+use Rattle.timestamp.specs.Floats.{zero64}
 use Rattle.timestamp.specs.Timestamps.{signedOf}
 use Rattle.timestamp.specs.Whole.{ceilOf}
-
--- +0.0
-abbrev pub zero64 : Float
-zero64 = fin false 0 (pos 0)
 
 -- 32,768, half of the stamps' space
 abbrev pub half64 : Float

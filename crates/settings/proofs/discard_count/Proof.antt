@@ -6,7 +6,8 @@ use lib.Dec.{T}
 use lib.IntN.{pos}
 use lib.Ieee.{Float, binary64, mul, div, lt, ofInt, ofBits, neg, toUnsigned}
 use Rattle.timestamp.specs.Whole.{ceilOf}
-use Rattle.settings.specs.Settings.{one64, two64, discardOf}
+use Rattle.settings.specs.Settings.{discardOf}
+use Rattle.timestamp.specs.Floats.{one64, two64}
 use Rattle.settings.proofs.Discard.{plus, ceil-plus, cut-saturates, cut-in-range, cut-agrees, above-one, not-above-one}
 use Rattle.settings.proofs.discard_count.Statement.{statement}
 use Rattle.settings.proofs.discard_count.Tie as tie

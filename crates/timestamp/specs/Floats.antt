@@ -1,0 +1,29 @@
+-- Floats that several definitions need, each under one name: IEEE 754 binary64 values, and small operations on them that document 01 names in passing.
+-- Definitions only. Assumes nothing.
+use mathlib.Core.Bool.{false, cond}
+use lib.IntN.{pos}
+use lib.Ieee.{Float, fin, binary64, sub, div, neg, lt}
+
+-- +0.0
+abbrev pub zero64 : Float
+zero64 = fin false 0 (pos 0)
+
+-- 1.0
+abbrev pub one64 : Float
+one64 = fin false 1 (pos 0)
+
+-- 2.0
+abbrev pub two64 : Float
+two64 = fin false 1 (pos 1)
+
+-- |x|; -0.0 stays as it is, which no comparison tells from +0.0
+abbrev pub absOf : Float → Float
+absOf x = cond (lt x zero64) (neg x) x
+
+-- x brought into 0 to 1; a NaN stays
+abbrev pub clampedOf : Float → Float
+clampedOf x = cond (lt x zero64) zero64 (cond (lt one64 x) one64 x)
+
+-- the tween weight before it is shaped: 1 - overshoot / timestep
+abbrev pub tweenOf : Float → Float → Float
+tweenOf overshoot timestep = sub binary64 one64 (div binary64 overshoot timestep)
