@@ -30,7 +30,8 @@ abbrev pub Answered : Session → Call → Type 0
 Answered s (Update d t box was r last) = Updates (updateOf s d t box (length was) .reply) r last
 Answered s (Issue h r) = r ≡ issueOf s h
 
--- what a call came to: the session that it returned, F, C, both ledgers, and its tape as it came back, of so many words; a call that has no tape has one of no words
+-- what a call came to: the session that it returned, F, C, both ledgers, and its tape as it came back, of so many words; a call that has no tape has
+-- one of no words
 pub record Outcome : Type 0 where
   pub session : Session
   pub frames : ℕ

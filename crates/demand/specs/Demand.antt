@@ -1,5 +1,5 @@
--- Demand 3: one statement about any list of updates and issues, from any sound session whose worlds exist. Document 01, "src/client.rs" and "Contracts and cases".
--- Definitions only. Assumes nothing.
+-- Demand 3: one statement about any list of updates and issues, from any sound session whose worlds exist. Document 01, "src/client.rs" and
+-- "Contracts and cases". Definitions only. Assumes nothing.
 use mathlib.Core.Bool.{true, cond}
 use mathlib.Core.List.{List, [], _∷_, _++_}
 use mathlib.Core.Path.{_≡_}
@@ -24,7 +24,8 @@ use Rattle.fixed_timestepper.specs.TimeKeeper.{rulesOf, Event, FrameFrom, SkipF
 use Rattle.session_state.specs.declared.Session.{Session}
 use Rattle.session_state.specs.Session.{hasWorlds}
 use Rattle.session_state.specs.Sound.{soundOf}
-use Rattle.demand.specs.Calls.{Call, Chain, endOf, traceOf, outcomeOf, happened, sum, sessionOf, framesOf, caughtOf, ledgerOn, markedOf, loadedOf, markedOn, appliedOn}
+use Rattle.demand.specs.Calls.{Call, Chain, endOf, traceOf, outcomeOf, happened, sum, sessionOf, framesOf, caughtOf}
+use Rattle.demand.specs.Calls.{ledgerOn, markedOf, loadedOf, markedOn, appliedOn}
 
 -- ---- a frame of the trace, by its rules and the scene before it
 
@@ -137,8 +138,9 @@ abbrev pub behindLast : Frame → List Frame → ℕ
 behindLast f [] = behindAfter (f .rules) (f .before)
 behindLast f (g ∷ fs) = behindLast g fs
 
--- Whenever a snapshot is loaded g frames behind, 0 to 32,767, and frames follow with no load among them and no skip, k frames in all with that of the load (k = 1),
--- the new world is max(0, g - k × (m - 1)) behind after the last of them: `-` on natural numbers stops at 0. The frames may be of several updates.
+-- Whenever a snapshot is loaded g frames behind, 0 to 32,767, and frames follow with no load among them and no skip, k frames in all with that of the
+-- load (k = 1), the new world is max(0, g - k × (m - 1)) behind after the last of them: `-` on natural numbers stops at 0. The frames may be of several
+-- updates, with refused calls between them.
 unfoldable pub CatchUp : ℕ → List Event → Type 0
 CatchUp m trace =
     (before : List Event) (load : Frame) (frames : List Frame) (after : List Event) (g : ℕ) →
@@ -157,13 +159,13 @@ pub record Stepped (r : Rules) (s : Scene) : Type 0 where
 unfoldable pub Steps : List Event → Type 0
 Steps trace = (before : List Event) (r : Rules) (s : Scene) (after : List Event) → trace ≡ before ++ (FrameFrom r s ∷ after) → Stepped r s
 
--- the steps of the sides then old in a trace, counted for the side x
+-- the frames of a trace in which the side x is old: by `Stepped` it makes one step in each
 abbrev pub oldSteps : ℕ → List Event → ℕ
 oldSteps x [] = 0
 oldSteps x (FrameFrom r s ∷ es) = cond (eqb (oldIn r s) x) 1 0 + oldSteps x es
 oldSteps x (SkipFrom s t ∷ es) = oldSteps x es
 
--- the steps of the sides then new, counted for the side x
+-- the step words of the side x in the frames in which it is new
 abbrev pub newSteps : ℕ → List Event → ℕ
 newSteps x [] = 0
 newSteps x (FrameFrom r s ∷ es) = cond (eqb (newIn r s) x) (stepsOn x (frameOf r s .words)) 0 + newSteps x es
@@ -182,7 +184,7 @@ Tapes s (c ∷ cs) = Taped s c × Tapes (sessionOf c) cs
 
 -- ---- the worlds between what happens
 
--- two pairs of worlds that differ at most in their commands, in what snapshots wait, and in what is displayed
+-- two pairs of worlds with the same sides, stamps and weight; what arrives in a call, and what every update ends with, changes none of these
 pub record SameWorlds (v w : ClientWorldSimulations) : Type 0 where
   pub side : newSideOf v ≡ newSideOf w
   pub old : oldStampOf v ≡ oldStampOf w
@@ -201,7 +203,8 @@ Walk v (SkipFrom s t ∷ es) w = SameWorlds v (s .worlds) × Walk (skippedOf s t
 abbrev pub heldOn : ℕ → Session → ℕ
 heldOn x s = length (held (worldOf (s .worlds) x .commands))
 
--- for the side x: held before + taken + copied = applied + left out + replaced + held after, each term summed from the answers; applied are its command words on the tapes
+-- for the side x: held before + taken + copied = applied + left out + replaced + held after, the counts summed from the answers, and what is held read off
+-- the first and the last session; applied are its command words on the tapes
 pub record Balanced (x : ℕ) (s : Session) (cs : List Call) : Type 0 where
   pub balance :
       heldOn x s + sum (λ c. ledgerOn x c .taken) cs + sum (λ c. ledgerOn x c .copied) cs
@@ -215,12 +218,12 @@ abbrev pub AllSound : List Call → Type 0
 AllSound [] = Unit {0}
 AllSound (c ∷ cs) = (soundOf (sessionOf c) ≡ true) × AllSound cs
 
--- what the types say of a session: stamps have 16 bits
+-- what the types say of a snapshot that is queued: its stamp has 16 bits
 abbrev pub Stamp : Queued → Type 0
 Stamp Nothing = Unit {0}
 Stamp (Held t h) = t .0 < 65536
 
--- what the types say of a session, and no more: stamps of 16 bits, an f64 is a value of binary64, and a clock has 64 slots
+-- of what the types say of a session, what the theorem needs, and no more: stamps have 16 bits, an f64 is a value of binary64, and a clock has 64 slots
 pub record Typed (s : Session) : Type 0 where
   pub timestep : T (fits binary64 (s .settings .timestep))
   pub timer : T (fits binary64 (s .clock .timer))

@@ -1,5 +1,5 @@
--- What happens to the worlds in an update, by what it was handed: document 01, "src/fixed_timestepper.rs". No frame and no skip is in it but those of the definition.
--- Definitions only. Assumes nothing.
+-- What happens to the worlds in an update, by what it was handed: document 01, "src/fixed_timestepper.rs". No frame and no skip is in it but those of
+-- the definition. Definitions only. Assumes nothing.
 use Prim.Native.Nat.{ℕ, zero, suc}
 use mathlib.Core.Bool.{cond}
 use mathlib.Core.List.{List, [], _∷_, _++_}
@@ -56,7 +56,8 @@ startAt s delta seconds inbox =
 -- the frames of an update, from the scene once its inbox is read, and what is after them
 abbrev pub playedIn : Session → Float → Float → List ℕ → List Event
 playedIn s delta seconds inbox =
-    playsFrom (s .settings) (serverAt s delta seconds inbox) (sceneAfter s inbox) (startAt s delta seconds inbox) (framesFor mostFrames (s .settings .timestep) (startAt s delta seconds inbox))
+    playsFrom (s .settings) (serverAt s delta seconds inbox) (sceneAfter s inbox) (startAt s delta seconds inbox)
+    (framesFor mostFrames (s .settings .timestep) (startAt s delta seconds inbox))
 
 -- an update of a session whose worlds exist, which answered this refusal: nothing where it was refused
 unfoldable pub eventsOf : Session → Float → Float → List ℕ → ℕ → List Event
