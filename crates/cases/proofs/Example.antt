@@ -1,6 +1,5 @@
--- The premises of demand 3 hold of a session and three calls. Assumes nothing.
-use mathlib.Core.Path.{_≡_, refl}
-use mathlib.Core.Bool.{true}
+-- The premises of demand 3 hold of two sessions and the calls from them. Assumes nothing.
+use mathlib.Core.Path.{refl}
 use native.Mathlib.Omega.{arith}
 use lib.Ieee.{fits, add, sub, mul, div, rem, round, lt, le, eq, ofInt, toSigned, toUnsigned, ofBits, toBits}
 use Rattle.timestamp.specs.Timestamps.{signedOf, orderOf, inRange}
@@ -25,58 +24,76 @@ use Rattle.fixed_timestepper.specs.TimeKeeper.{logicalOf, driftOf, uncappedOf, 
 use Rattle.session_state.specs.Sound.{queuedSound, weightSound, initSound, buffersSound, worldsSound, overshootSound, connectedOf, soundOf}
 use Rattle.inbox_passes.specs.Passes.{hasForWorlds, heardIn, receivedIn, notedIn}
 use Rattle.refusals.specs.Refusals.{onceRefusalBy}
-use Rattle.session.specs.Calls.{concludedOf, startOf, openOf, timesOk, refusedAtOnce, clockUpdateOf, playedOf, worldsUpdateOf, updateOf}
-use Rattle.session_answers.specs.Answers.{refusedWith, syncedOf, acceptedOf}
-use Rattle.demand.specs.Calls.{Chain}
-use Rattle.demand.specs.Demand.{Typed, Demand3}
-use Rattle.session_state.specs.Session.{hasWorlds}
+use Rattle.session_answers.specs.Answers.{Reply, Updates, refusedWith, syncedOf, acceptedOf}
+use Rattle.session.specs.Calls.{startOf, openOf, timesOk, refusedAtOnce, clockUpdateOf, concludedOf, playedOf, worldsUpdateOf, updateOf}
+use Rattle.session.specs.Issue.{issueOf}
+use Rattle.demand.specs.Calls.{Chain, snapshotWords}
+use Rattle.demand.specs.Demand.{Demand3}
 use Rattle.demand.proofs.Demand.{demand-3}
-use Rattle.cases.specs.Table.{settingsWith, clockAt, opened, heardOnce, heardTwice, heardThrice, frameOne}
-use Rattle.cases.specs.Example.{before, refused, calls, Example}
+use Rattle.cases.specs.Table.{settingsWith, clockAt, opened, heardOnce, heardTwice, heardThrice, frameOne, atFour, atFive, atSix}
+use Rattle.cases.specs.Example.{answerOf, unplayed, catching, playing, Counts, Example}
 
--- the premises, but for the chain
-record Allowed : Type 0 where
-  typed : Typed before
-  sound : soundOf before ≡ true
-  exists : hasWorlds (before .stage) ≡ true
-  frames : frameOne .reply .frames ≡ 1
-  caught : frameOne .reply .steps ≡ 3
-  none : refused .frames ≡ 0
-  no-steps : refused .steps ≡ 0
-
--- they are computed, under the definitions of the calls
-allowed : Allowed
-unfolding fits refusedWith add sub mul div rem round lt le eq ofInt toSigned toUnsigned ofBits toBits signedOf orderOf inRange ceilOf roundOf fromUnwrapped fromSeconds stampOf ceilStampOf lagFramesOf discardOf secondsPass thresholdsPass samplesPass countsPass passesOf offsetOf sampleInserted sortedOnto sortedOf sumFrom averageOf meanOf heldOf newOf tickedOf heardOf filledOf settledOf samplesOk timerOk soundClock floatBitsOf inboxTimeOf clockOf frontOf messagesAfter refusalIn refusalOf laid inRangeOf dueOf laterThan placedOf insertedOf leaving droppedOf movedOf takenOf restOf commandWords inOrderAfter inOrder soundBuffer stepWord commandWord snapshotWord publishWord noneWord scheduledOf stepOf loadOf newSideOf oldSideOf worldOf withWorld oldStampOf newStampOf newWorldsOf ledgerOf withLedger putOf andThen doneAt laterOf overshotOf newerOf statusOf offeredBase offeredSide receivedOf fromFutureOf freshOf notedOf snapshotsBy snapshotsOf notesOf publishedNone publishedSide publishedOld publishedBlended readiedWith loadedAt loadedOf loadedQueued blendedOn openedOf steppedSide caughtUpOf steppedNew caughtOf simulatedOf shownOf stopsOf snapshotOf frameOpened frameOf frameStops weightOk timeOf displayedOf revisedOf postUpdateOf logicalOf driftOf uncappedOf compensatedOf framed runOf skipsOf maybeSkipped advancedOf unendedOf updatedOf onceRefusalBy concludedOf queuedSound weightSound initSound buffersSound worldsSound overshootSound connectedOf soundOf hasForWorlds heardIn receivedIn notedIn startOf openOf timesOk refusedAtOnce syncedOf clockUpdateOf acceptedOf playedOf worldsUpdateOf updateOf settingsWith clockAt opened heardOnce heardTwice heardThrice frameOne
-allowed =
+-- what is computed, under the definitions of the calls
+counts : Counts
+unfolding fits refusedWith add sub mul div rem round lt le eq ofInt toSigned toUnsigned ofBits toBits signedOf orderOf inRange ceilOf roundOf
+    fromUnwrapped fromSeconds stampOf ceilStampOf lagFramesOf discardOf secondsPass thresholdsPass samplesPass countsPass passesOf offsetOf
+    sampleInserted sortedOnto sortedOf sumFrom averageOf meanOf heldOf newOf tickedOf heardOf filledOf settledOf samplesOk timerOk soundClock
+    floatBitsOf inboxTimeOf clockOf frontOf messagesAfter refusalIn refusalOf laid inRangeOf dueOf laterThan placedOf insertedOf leaving droppedOf
+    movedOf takenOf restOf commandWords inOrderAfter inOrder soundBuffer stepWord commandWord snapshotWord publishWord noneWord scheduledOf stepOf
+    loadOf newSideOf oldSideOf worldOf withWorld oldStampOf newStampOf newWorldsOf ledgerOf withLedger putOf andThen doneAt laterOf overshotOf newerOf
+    statusOf offeredBase offeredSide receivedOf fromFutureOf freshOf notedOf snapshotsBy snapshotsOf notesOf publishedNone publishedSide publishedOld
+    publishedBlended readiedWith loadedAt loadedOf loadedQueued blendedOn openedOf steppedSide caughtUpOf steppedNew caughtOf simulatedOf shownOf
+    stopsOf snapshotOf frameOpened frameOf frameStops weightOk timeOf displayedOf revisedOf postUpdateOf logicalOf driftOf uncappedOf compensatedOf
+    framed runOf skipsOf maybeSkipped advancedOf updatedOf concludedOf onceRefusalBy unendedOf queuedSound weightSound initSound buffersSound
+    worldsSound overshootSound connectedOf soundOf hasForWorlds heardIn receivedIn notedIn startOf openOf timesOk refusedAtOnce syncedOf clockUpdateOf
+    acceptedOf playedOf worldsUpdateOf updateOf issueOf snapshotWords settingsWith clockAt opened heardOnce heardTwice heardThrice frameOne atFour
+    atFive atSix
+counts =
     record {
-      typed = record { timestep = tt; timer = tt; slots = refl; left = omega arith; right = omega arith; queued = tt };
-      sound = refl;
-      exists = refl;
-      frames = refl;
-      caught = refl;
-      none = refl;
-      no-steps = refl;
+      catches = record {
+        typed = record { timestep = tt; timer = tt; slots = refl; left = omega arith; right = omega arith; queued = tt };
+        sound = refl;
+        exists = refl;
+        answers = refl;
+        frames = refl;
+        caught = refl;
+      };
+      plays = record {
+        typed = record { timestep = tt; timer = tt; slots = refl; left = omega arith; right = omega arith; queued = tt };
+        sound = refl;
+        exists = refl;
+        answers = refl;
+        frames = refl;
+        caught = refl;
+      };
+      loads = refl;
+      taken-left = refl;
+      taken-right = refl;
     }
 
-chain : Chain before calls
-unfolding frameOne
-chain = (
-  record { refusal = refl; session = refl; frames = refl; steps = refl; request = refl; left = refl; right = refl; words = refl; tape = refl },
-  (
-    record { refusal = refl; session = refl; frames = refl; steps = refl; request = refl; left = refl; right = refl; words = refl; tape = refl },
-    (refl, tt),
-  ),
-)
+-- an update is answered as its contract says
+answered : (a : Reply) → Updates a (answerOf a) (a .tape)
+answered a =
+    record { refusal = refl; session = refl; frames = refl; steps = refl; request = refl; left = refl; right = refl; words = refl; tape = refl }
 
+chain-catching : Chain (heardThrice 3 98 .session) catching
+unfolding frameOne
+chain-catching = (answered (frameOne .reply), (answered (unplayed (frameOne .reply .session) 102), (refl, tt)))
+
+chain-playing : Chain (heardThrice 2 1 .session) playing
+unfolding atFour atFive atSix
+chain-playing = (answered atFour, (answered atFive, (answered atSix, (answered (unplayed (atSix .session) 7), (refl, tt)))))
+
+-- and so the theorem tells of both
 pub example : Example
 unfolding Demand3
 example =
+    let a = counts .catches in
+    let b = counts .plays in
     record {
-      typed = allowed .typed;
-      sound = allowed .sound;
-      exists = allowed .exists;
-      chain = chain;
-      frames = omega (arith, allowed .frames, allowed .none);
-      caught = omega (arith, allowed .caught, allowed .no-steps);
-      told = demand-3 before calls (allowed .typed) (allowed .sound) (allowed .exists) chain;
+      counts = counts;
+      chain-catching = chain-catching;
+      chain-playing = chain-playing;
+      told-catching = demand-3 (heardThrice 3 98 .session) catching (a .typed) (a .sound) (a .exists) chain-catching;
+      told-playing = demand-3 (heardThrice 2 1 .session) playing (b .typed) (b .sound) (b .exists) chain-playing;
     }
