@@ -12,7 +12,7 @@ use Rattle.clocksync.specs.Clock.{heldOf, newOf, tickedOf, heardOf, filledOf, s
 use Rattle.inbox.specs.Inbox.{floatBitsOf, inboxTimeOf, clockOf, frontOf, messagesAfter, refusalIn, refusalOf}
 use Rattle.command.specs.Buffer.{laid, inRangeOf, dueOf, laterThan, placedOf, insertedOf, leaving, droppedOf, movedOf, takenOf, restOf, commandWords}
 use Rattle.command.specs.Soundness.{inOrderAfter, inOrder, soundBuffer}
-use Rattle.tape.specs.Words.{stepWord, commandWord, snapshotWord, publishWord, noneWord}
+use Rattle.tape.specs.Words.{stepWord, commandWord, snapshotWord, publishWord, noneWord, snapshotWords}
 use Rattle.simulation.specs.World.{scheduledOf, stepOf, loadOf}
 use Rattle.client.specs.Sides.{newSideOf, oldSideOf, worldOf, withWorld, oldStampOf, newStampOf, newWorldsOf, ledgerOf, withLedger, putOf, andThen, doneAt}
 use Rattle.client.specs.Status.{laterOf, overshotOf, newerOf, statusOf}
@@ -27,7 +27,7 @@ use Rattle.refusals.specs.Refusals.{onceRefusalBy}
 use Rattle.session_answers.specs.Answers.{Reply, Updates, refusedWith, syncedOf, acceptedOf}
 use Rattle.session.specs.Calls.{startOf, openOf, timesOk, refusedAtOnce, clockUpdateOf, concludedOf, playedOf, worldsUpdateOf, updateOf}
 use Rattle.session.specs.Issue.{issueOf}
-use Rattle.demand.specs.Calls.{Chain, snapshotWords}
+use Rattle.demand.specs.Calls.{Chain}
 use Rattle.demand.specs.Demand.{Demand3}
 use Rattle.demand.proofs.Demand.{demand-3}
 use Rattle.cases.specs.Table.{settingsWith, clockAt, opened, heardOnce, heardTwice, heardThrice, frameOne, atFour, atFive, atSix}

@@ -12,7 +12,7 @@ use Rattle.session_answers.specs.declared.UpdateAnswer.{UpdateAnswer}
 use Rattle.session_answers.specs.Answers.{Reply}
 use Rattle.session.specs.Calls.{updateOf}
 use Rattle.session.specs.Issue.{issueOf}
-use Rattle.demand.specs.Calls.{Call, Update, Issue, Chain, sum, framesOf, caughtOf, loadedOf, ledgerOn}
+use Rattle.demand.specs.Calls.{Call, Update, Issue, Chain, sum, framesOf, catchUpsOf, loadWordsOf, ledgerOn}
 use Rattle.session_state.specs.Session.{hasWorlds}
 use Rattle.demand.specs.Demand.{Typed, Told}
 use Rattle.cases.specs.Table.{secondsOf, heardThrice, frameOne, atFour, atFive, atSix}
@@ -82,13 +82,13 @@ pub record Computed (s : Session) (cs : List Call) (ns : List ℕ) (f c : ℕ) :
   pub exists : hasWorlds (s .stage) ≡ true
   pub answers : refusals cs ≡ ns
   pub frames : sum framesOf cs ≡ f
-  pub caught : sum caughtOf cs ≡ c
+  pub caught : sum catchUpsOf cs ≡ c
 
 -- of both lists; and of the second that it has one load, and that each world takes the command of its inbox and the one that is issued
 pub record Counts : Type 0 where
   pub catches : Computed (heardThrice 3 98 .session) catching (0 ∷ 2 ∷ 24 ∷ []) 1 3
   pub plays : Computed (heardThrice 2 1 .session) playing (0 ∷ 0 ∷ 0 ∷ 2 ∷ 0 ∷ []) 3 3
-  pub loads : sum loadedOf playing ≡ 1
+  pub loads : sum loadWordsOf playing ≡ 1
   pub taken-left : sum (λ c. ledgerOn 0 c .taken) playing ≡ 2
   pub taken-right : sum (λ c. ledgerOn 1 c .taken) playing ≡ 2
 

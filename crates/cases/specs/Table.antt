@@ -27,7 +27,7 @@ use Rattle.session_state.specs.declared.Session.{Session}
 use Rattle.session_answers.specs.declared.ReportAnswer.{ReportAnswer}
 use Rattle.session.specs.Calls.{openOf, updateOf, reportOf}
 use Rattle.session_answers.specs.Answers.{Reply, Answer}
-use Rattle.demand.specs.Demand.{Load, NoLoad, Loaded, loadIn, behindOf, behindAfter}
+use Rattle.demand.specs.Demand.{Loading, NoLoad, Loaded, loadIn, behindOf, behindAfter}
 
 -- the float 32,768.0
 abbrev pub at-half : Float
@@ -133,7 +133,7 @@ unfoldable pub caught : List Event
 caught = frameOne .trace ++ (frameTwo .trace ++ (frameThree .trace ++ frameFour .trace))
 
 -- the loads of the frames of a trace
-abbrev pub loadsIn : List Event → List Load
+abbrev pub loadsIn : List Event → List Loading
 loadsIn [] = []
 loadsIn (FrameFrom r s ∷ es) = loadIn s ∷ loadsIn es
 loadsIn (SkipFrom s t ∷ es) = loadsIn es

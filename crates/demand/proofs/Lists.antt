@@ -5,7 +5,7 @@ use mathlib.Core.Path.{_≡_, refl, ap, subst, _∙_}
 use Prim.Native.Nat.{ℕ, _+_, _-_, _*_, _<_, _≤_}
 use native.Mathlib.Omega.{arith}
 use lib.ListN.{length, replicate}
-use Rattle.tape.specs.Words.{stepsOn, commandsOn}
+use Rattle.tape.specs.Words.{stepsOn, commandsOn, snapshotWords}
 use Rattle.tape.proofs.Counting.{steps-on-append, steps-on-zeros, steps-both}
 use Rattle.settings.specs.declared.Settings.{Settings}
 use Rattle.session_laws.specs.Soundness.{FloatsFit}
@@ -15,7 +15,7 @@ use Rattle.session_laws.proofs.LedgerCalls.{Settles}
 use Rattle.fixed_timestepper.specs.TimeKeeper.{Event}
 use Rattle.session_state.specs.declared.Session.{Session}
 use Rattle.session_state.specs.Sound.{soundOf}
-use Rattle.demand.specs.Calls.{Call, Outcome, outcomeOf, happened, sessionOf, framesOf, caughtOf, ledgerIn, snapshotWords, markedOf, loadedOf, markedOn, endOf, traceOf, sum}
+use Rattle.demand.specs.Calls.{Call, Outcome, outcomeOf, happened, sessionOf, framesOf, catchUpsOf, ledgerIn, markedOf, loadWordsOf, markedOn, endOf, traceOf, sum}
 use Rattle.demand.specs.Demand.{framesIn, loadCountIn, wordsIn, AllRuled, AllSet, oldSteps, newSteps, Tapes, AllSound, Balanced, Told}
 use Rattle.demand.proofs.TraceLaw.{trace-most, catch-up}
 use Rattle.demand.proofs.TraceCounts.{trace-on, trace-old, steps-law, new-append, old-append}
@@ -34,13 +34,13 @@ all-sound s (k ∷ cs) f e a = (a .0 .sound f e, all-sound (sessionOf k) cs (a .
 
 -- what is carried along a list
 pub record Holds (s : Session) (cs : List Call) : Type 0 where
-  pub traced : Traced s (endOf s cs) (sum framesOf cs) (sum caughtOf cs) (traceOf s cs)
+  pub traced : Traced s (endOf s cs) (sum framesOf cs) (sum catchUpsOf cs) (traceOf s cs)
   pub settings : AllSet (s .settings) cs
   pub rules : AllRuled s cs
   pub tapes : Tapes s cs
   pub marks : sum markedOf cs ≡ sum (markedOn 0) cs + sum (markedOn 1) cs
   pub sides : (x : ℕ) → x < 2 → sum (markedOn x) cs ≡ oldSteps x (traceOf s cs) + newSteps x (traceOf s cs)
-  pub loads : sum loadedOf cs ≡ loadCountIn (traceOf s cs)
+  pub loads : sum loadWordsOf cs ≡ loadCountIn (traceOf s cs)
   pub ledgers : (x : ℕ) → x < 2 → Balanced x s cs
 
 -- no call
@@ -89,7 +89,7 @@ more-holds s k cs h one r =
       marks = both-on (markedOf k) (markedOn 0 k) (markedOn 1 k) (sum markedOf cs) (sum (markedOn 0) cs) (sum (markedOn 1) cs) (steps-both (outcomeOf k .tape)) (r .marks);
       sides = λ x hx.
           marks-on (markedOn x k) (oldSteps x t) (newSteps x t) (sum (markedOn x) cs) (oldSteps x u) (newSteps x u) (oldSteps x (t ++ u)) (newSteps x (t ++ u)) (ap (stepsOn x) (a .tape) ∙ words-on x t zeros hx) (r .sides x hx) (old-append x t u) (new-append x t u);
-      loads = loads-on (loadedOf k) (loadCountIn t) (sum loadedOf cs) (loadCountIn u) (loadCountIn (t ++ u)) (ap snapshotWords (a .tape) ∙ tape-loads t zeros) (r .loads) (loads-join t u);
+      loads = loads-on (loadWordsOf k) (loadCountIn t) (sum loadWordsOf cs) (loadCountIn u) (loadCountIn (t ++ u)) (ap snapshotWords (a .tape) ∙ tape-loads t zeros) (r .loads) (loads-join t u);
       ledgers = λ x hx.
           let b : Settles x s (sessionOf k) (ledgerIn x (outcomeOf k)) (commandsOn x (outcomeOf k .tape)) = one .ledgers x hx (h .exists) in
           record { balance = omega (arith, b .balance, r .ledgers x hx .balance); applied = omega (arith, b .applied, r .ledgers x hx .applied) };
@@ -110,7 +110,7 @@ told s cs f h a =
     let b : ℕ = lagIn (s .worlds) in
     let es : List Event = traceOf s cs in
     let r : Holds s cs = holds s cs f h a in
-    let t : Traced s (endOf s cs) (sum framesOf cs) (sum caughtOf cs) es = r .traced in
+    let t : Traced s (endOf s cs) (sum framesOf cs) (sum catchUpsOf cs) es = r .traced in
     let x : sum (markedOn 0) cs ≡ oldSteps 0 es + newSteps 0 es = r .sides 0 (omega arith) in
     let y : sum (markedOn 1) cs ≡ oldSteps 1 es + newSteps 1 es = r .sides 1 (omega arith) in
     record {
@@ -124,7 +124,7 @@ told s cs f h a =
       sides = r .sides;
       caught = t .caught;
       steps = steps-law es;
-      most = subst (λ n. sum caughtOf cs ≤ m * n) (t .frames) (subst (λ n. n ≤ m * framesIn es) (t .caught) (trace-most m b es (t .linked)));
+      most = subst (λ n. sum catchUpsOf cs ≤ m * n) (t .frames) (subst (λ n. n ≤ m * framesIn es) (t .caught) (trace-most m b es (t .linked)));
       tapes = r .tapes;
       walk = t .walk;
       ledgers = r .ledgers;

@@ -19,7 +19,7 @@ use Rattle.session_laws.proofs.TraceStamps.{lag-is}
 use Rattle.session_laws.proofs.TraceSteps.{lagIn}
 use Rattle.session_laws.proofs.TraceFrames.{gapBy}
 use Rattle.fixed_timestepper.specs.TimeKeeper.{Event, FrameFrom, SkipFrom}
-use Rattle.demand.specs.Demand.{newIn, framesIn, newSteps, Load, NoLoad, Loaded, loadBy, Frame, framesFrom, NoLoads, behindLast, CatchUp}
+use Rattle.demand.specs.Demand.{newIn, framesIn, newSteps, Loading, NoLoad, Loaded, loadBy, Frame, framesFrom, NoLoads, behindLast, CatchUp}
 use Rattle.demand.proofs.TraceCounts.{frame-new}
 
 -- how far behind the new world is after a frame
@@ -88,7 +88,7 @@ gap-loaded : (q : Queued) (o : Timestamp) (b g : ℕ) → loadBy q o ≡ Loaded 
 gap-loaded Nothing o b g e = absurd (let z : _≡_ {A = ℕ} 0 1 = cc in omega arith)
 gap-loaded (Held t h) o b g e = lag-is (o .0) (t .0) ∙ ap gapIn e
   where
-    gapIn : Load → ℕ
+    gapIn : Loading → ℕ
     gapIn NoLoad = 0
     gapIn (Loaded n) = n
 

@@ -9,7 +9,7 @@ use lib.ListN.{replicate}
 use lib.Ieee.{Float, eq, fin}
 use lib.IntN.{pos}
 use Rattle.timestamp.specs.declared.Timestamp.{Timestamp}
-use Rattle.tape.specs.Words.{kindOf, stepWord, publishWord, noneWord, weightWords, mixWords}
+use Rattle.tape.specs.Words.{kindOf, stepWord, publishWord, noneWord, weightWords, mixWords, snapshotWords}
 use Rattle.tape.proofs.Reading.{kind-of-step, kind-of-command, kind-of-snapshot, kind-of-publish, kind-of-mix, kind-of-weight, kind-of-none}
 use Rattle.command.specs.declared.Entry.{Entry}
 use Rattle.command.specs.Buffer.{held, takenOf, movedOf, commandWords}
@@ -28,7 +28,6 @@ use Rattle.client_frame.specs.declared.Rules.{Rules}
 use Rattle.client_frame.specs.Frame.{loadsOf, loadedAt, loadedOf, loadedQueued, resetNew, openedOf, steppedSide, caughtUpOf, steppedNew, unless, caughtOf, simulatedOf, blendedBy, publishedBy, shownOf, snapshotOf, frameOpened, frameOf}
 use Rattle.client_skip.specs.Skip.{resetSide, resetAlong, resetBoth, skippedOf}
 use Rattle.fixed_timestepper.specs.TimeKeeper.{Event, FrameFrom, SkipFrom}
-use Rattle.demand.specs.Calls.{snapshotWords}
 use Rattle.demand.specs.Demand.{loadBy, loadIn, wordsIn, countLoad, loadCountIn}
 
 -- ---- along a list

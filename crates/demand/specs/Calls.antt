@@ -7,7 +7,7 @@ use Prim.Native.Nat.{ℕ, _+_}
 use lib.Dec.{eqb}
 use lib.ListN.{length}
 use lib.Ieee.{Float}
-use Rattle.tape.specs.Words.{kindOf, countIf, stepWords, stepsOn, commandsOn}
+use Rattle.tape.specs.Words.{stepWords, stepsOn, commandsOn, snapshotWords}
 use Rattle.client.specs.declared.Ledger.{Ledger}
 use Rattle.fixed_timestepper.specs.TimeKeeper.{Event}
 use Rattle.session_state.specs.declared.Session.{Session}
@@ -67,8 +67,8 @@ abbrev pub framesOf : Call → ℕ
 framesOf c = outcomeOf c .frames
 
 -- C of a call
-abbrev pub caughtOf : Call → ℕ
-caughtOf c = outcomeOf c .caught
+abbrev pub catchUpsOf : Call → ℕ
+catchUpsOf c = outcomeOf c .caught
 
 -- the ledger of a side in an outcome
 abbrev pub ledgerIn : ℕ → Outcome → Ledger
@@ -86,14 +86,9 @@ markedOf c = stepWords (outcomeOf c .tape)
 abbrev pub markedOn : ℕ → Call → ℕ
 markedOn x c = stepsOn x (outcomeOf c .tape)
 
--- the snapshot words of a list
-unfoldable pub snapshotWords : List ℕ → ℕ
-snapshotWords [] = 0
-snapshotWords (w ∷ ws) = countIf (eqb (kindOf w) 3) + snapshotWords ws
-
 -- the snapshot words on a call's tape as it was returned
-abbrev pub loadedOf : Call → ℕ
-loadedOf c = snapshotWords (outcomeOf c .tape)
+abbrev pub loadWordsOf : Call → ℕ
+loadWordsOf c = snapshotWords (outcomeOf c .tape)
 
 -- the command words of one side on a call's tape as it was returned
 abbrev pub appliedOn : ℕ → Call → ℕ

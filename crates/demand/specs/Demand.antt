@@ -24,8 +24,8 @@ use Rattle.fixed_timestepper.specs.TimeKeeper.{rulesOf, Event, FrameFrom, SkipF
 use Rattle.session_state.specs.declared.Session.{Session}
 use Rattle.session_state.specs.Session.{hasWorlds}
 use Rattle.session_state.specs.Sound.{soundOf}
-use Rattle.demand.specs.Calls.{Call, Chain, endOf, traceOf, outcomeOf, happened, sum, sessionOf, framesOf, caughtOf}
-use Rattle.demand.specs.Calls.{ledgerOn, markedOf, loadedOf, markedOn, appliedOn}
+use Rattle.demand.specs.Calls.{Call, Chain, endOf, traceOf, outcomeOf, happened, sum, sessionOf, framesOf, catchUpsOf}
+use Rattle.demand.specs.Calls.{ledgerOn, markedOf, loadWordsOf, markedOn, appliedOn}
 
 -- ---- a frame of the trace, by its rules and the scene before it
 
@@ -50,21 +50,21 @@ abbrev pub behindAfter : Rules → Scene → ℕ
 behindAfter r s = behindOf (frameOf r s .scene .worlds)
 
 -- whether a frame loads a snapshot, and g: how far behind the old stamp that is, just before the frame
-pub data Load : Type 0 where
-  NoLoad : Load
-  Loaded : (g : ℕ) → Load
+pub data Loading : Type 0 where
+  NoLoad : Loading
+  Loaded : (g : ℕ) → Loading
 
 -- the load of a queued snapshot
-abbrev pub loadBy : Queued → Timestamp → Load
+abbrev pub loadBy : Queued → Timestamp → Loading
 loadBy Nothing o = NoLoad
 loadBy (Held t h) o = Loaded (differenceOf (o .0) (t .0))
 
 -- the load of a frame
-abbrev pub loadIn : Scene → Load
+abbrev pub loadIn : Scene → Loading
 loadIn s = loadBy (snapshotOf s) (oldStampOf (s .worlds))
 
 -- 1 for a load
-abbrev pub countLoad : Load → ℕ
+abbrev pub countLoad : Loading → ℕ
 countLoad NoLoad = 0
 countLoad (Loaded g) = 1
 
@@ -247,17 +247,17 @@ pub record Told (s : Session) (cs : List Call) : Type 0 where
   -- the old world's stamp has moved by F plus the distances of its skips, modulo 65,536
   pub old : oldStampOf (endOf s cs .worlds) .0 ≡ (oldStampOf (s .worlds) .0 + sum framesOf cs + distancesIn (traceOf s cs)) % 65536
   -- the tapes as returned hold exactly F + C step words
-  pub marks : sum markedOf cs ≡ sum framesOf cs + sum caughtOf cs
+  pub marks : sum markedOf cs ≡ sum framesOf cs + sum catchUpsOf cs
   -- and a snapshot word for each load
-  pub loads : sum loadedOf cs ≡ loadCountIn (traceOf s cs)
+  pub loads : sum loadWordsOf cs ≡ loadCountIn (traceOf s cs)
   -- of the side x: one step word for each frame in which it is old, and the others for the frames in which it is new
   pub sides : (x : ℕ) → x < 2 → sum (markedOn x) cs ≡ oldSteps x (traceOf s cs) + newSteps x (traceOf s cs)
   -- C of them for the sides then new
-  pub caught : newSteps 0 (traceOf s cs) + newSteps 1 (traceOf s cs) ≡ sum caughtOf cs
+  pub caught : newSteps 0 (traceOf s cs) + newSteps 1 (traceOf s cs) ≡ sum catchUpsOf cs
   -- one a frame for the side then old, at most the m of its rules a frame for the side then new
   pub steps : Steps (traceOf s cs)
   -- and so at most m × F
-  pub most : sum caughtOf cs ≤ s .settings .m * sum framesOf cs
+  pub most : sum catchUpsOf cs ≤ s .settings .m * sum framesOf cs
   -- the tapes are the words of what happened
   pub tapes : Tapes s cs
   -- what happened leads from the first worlds to the last

@@ -73,6 +73,11 @@ unfoldable pub stepsOn : ℕ → List ℕ → ℕ
 stepsOn side [] = 0
 stepsOn side (w ∷ ws) = countIf (eqb (kindOf w) 1 && eqb (sideOf w) side) + stepsOn side ws
 
+-- the snapshot words of a list
+unfoldable pub snapshotWords : List ℕ → ℕ
+snapshotWords [] = 0
+snapshotWords (w ∷ ws) = countIf (eqb (kindOf w) 3) + snapshotWords ws
+
 -- the command words of a list for one side
 unfoldable pub commandsOn : ℕ → List ℕ → ℕ
 commandsOn side [] = 0
