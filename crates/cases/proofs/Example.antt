@@ -18,9 +18,11 @@ use Rattle.client.specs.Sides.{newSideOf, oldSideOf, worldOf, withWorld, oldSta
 use Rattle.client.specs.Status.{laterOf, overshotOf, newerOf, statusOf}
 use Rattle.client_receive.specs.Receive.{offeredBase, offeredSide, receivedOf, fromFutureOf, freshOf, notedOf, snapshotsBy, snapshotsOf, notesOf}
 use Rattle.client_publish.specs.Publish.{publishedNone, publishedSide, publishedOld, publishedBlended}
-use Rattle.client_frame.specs.Frame.{readiedWith, loadedAt, loadedOf, loadedQueued, blendedOn, openedOf, steppedSide, caughtUpOf, steppedNew, caughtOf, simulatedOf, shownOf, stopsOf, snapshotOf, frameOpened, frameOf, frameStops}
+use Rattle.client_frame.specs.Frame.{readiedWith, loadedAt, loadedOf, loadedQueued, blendedOn, openedOf, steppedSide, caughtUpOf, steppedNew, caughtOf}
+use Rattle.client_frame.specs.Frame.{simulatedOf, shownOf, stopsOf, snapshotOf, frameOpened, frameOf, frameStops}
 use Rattle.client_publish.specs.Ending.{weightOk, timeOf, displayedOf, revisedOf, postUpdateOf}
-use Rattle.fixed_timestepper.specs.TimeKeeper.{logicalOf, driftOf, uncappedOf, compensatedOf, framed, runOf, skipsOf, maybeSkipped, unendedOf, advancedOf, updatedOf}
+use Rattle.fixed_timestepper.specs.TimeKeeper.{logicalOf, driftOf, uncappedOf, compensatedOf, framed, runOf, skipsOf, maybeSkipped, unendedOf, advancedOf}
+use Rattle.fixed_timestepper.specs.TimeKeeper.{updatedOf}
 use Rattle.session_state.specs.Sound.{queuedSound, weightSound, initSound, buffersSound, worldsSound, overshootSound, connectedOf, soundOf}
 use Rattle.inbox_passes.specs.Passes.{hasForWorlds, heardIn, receivedIn, notedIn}
 use Rattle.refusals.specs.Refusals.{onceRefusalBy}

@@ -17,19 +17,33 @@ use Rattle.client.specs.Sides.{newSideOf, oldSideOf, worldOf, withWorld, oldSta
 use Rattle.client.specs.Status.{laterOf, overshotOf, newerOf, statusOf}
 use Rattle.client_receive.specs.Receive.{offeredBase, offeredSide, receivedOf, fromFutureOf, freshOf, notedOf, snapshotsBy, snapshotsOf, notesOf}
 use Rattle.client_publish.specs.Publish.{publishedNone, publishedSide, publishedOld, publishedBlended}
-use Rattle.client_frame.specs.Frame.{readiedWith, loadedAt, loadedOf, loadedQueued, blendedOn, openedOf, steppedSide, caughtUpOf, steppedNew, caughtOf, simulatedOf, shownOf, stopsOf, snapshotOf, frameOpened, frameOf, frameStops}
+use Rattle.client_frame.specs.Frame.{readiedWith, loadedAt, loadedOf, loadedQueued, blendedOn, openedOf, steppedSide, caughtUpOf, steppedNew, caughtOf}
+use Rattle.client_frame.specs.Frame.{simulatedOf, shownOf, stopsOf, snapshotOf, frameOpened, frameOf, frameStops}
 use Rattle.client_publish.specs.Ending.{weightOk, timeOf, displayedOf, revisedOf, postUpdateOf}
-use Rattle.fixed_timestepper.specs.TimeKeeper.{logicalOf, driftOf, uncappedOf, compensatedOf, framed, runOf, skipsOf, maybeSkipped, unendedOf, advancedOf, updatedOf}
+use Rattle.fixed_timestepper.specs.TimeKeeper.{logicalOf, driftOf, uncappedOf, compensatedOf, framed, runOf, skipsOf, maybeSkipped, unendedOf, advancedOf}
+use Rattle.fixed_timestepper.specs.TimeKeeper.{updatedOf}
 use Rattle.session_state.specs.Sound.{queuedSound, weightSound, initSound, buffersSound, worldsSound, overshootSound, connectedOf, soundOf}
 use Rattle.inbox_passes.specs.Passes.{hasForWorlds, heardIn, receivedIn, notedIn}
 use Rattle.refusals.specs.Refusals.{onceRefusalBy}
 use Rattle.session.specs.Calls.{concludedOf, startOf, openOf, timesOk, refusedAtOnce, clockUpdateOf, playedOf, worldsUpdateOf, updateOf, reportOf}
 use Rattle.session_answers.specs.Answers.{syncedOf, acceptedOf}
-use Rattle.cases.specs.Table.{Marked, settingsWith, clockAt, opened, heardOnce, heardTwice, heardThrice, atFour, atFive, atSix, frameOne, frameTwo, frameThree, frameFour, caught}
+use Rattle.cases.specs.Table.{Marked, settingsWith, clockAt, opened, heardOnce, heardTwice, heardThrice, atFour, atFive, atSix, frameOne, frameTwo}
+use Rattle.cases.specs.Table.{frameThree, frameFour, caught}
 
 -- the cases that document 01 marks P. The line below the signature opens what the rows compute with: the definitions of the calls, and the two runs
 pub marked : Marked
-unfolding add sub mul div rem round lt le eq ofInt toSigned toUnsigned ofBits toBits signedOf orderOf inRange ceilOf roundOf fromUnwrapped fromSeconds stampOf ceilStampOf lagFramesOf discardOf secondsPass thresholdsPass samplesPass countsPass passesOf offsetOf sampleInserted sortedOnto sortedOf sumFrom averageOf meanOf heldOf newOf tickedOf heardOf filledOf settledOf samplesOk timerOk soundClock floatBitsOf inboxTimeOf clockOf frontOf messagesAfter refusalIn refusalOf laid inRangeOf dueOf laterThan placedOf insertedOf leaving droppedOf movedOf takenOf restOf commandWords inOrderAfter inOrder soundBuffer stepWord commandWord snapshotWord publishWord noneWord scheduledOf stepOf loadOf newSideOf oldSideOf worldOf withWorld oldStampOf newStampOf newWorldsOf ledgerOf withLedger putOf andThen doneAt laterOf overshotOf newerOf statusOf offeredBase offeredSide receivedOf fromFutureOf freshOf notedOf snapshotsBy snapshotsOf notesOf publishedNone publishedSide publishedOld publishedBlended readiedWith loadedAt loadedOf loadedQueued blendedOn openedOf steppedSide caughtUpOf steppedNew caughtOf simulatedOf shownOf stopsOf snapshotOf frameOpened frameOf frameStops weightOk timeOf displayedOf revisedOf postUpdateOf logicalOf driftOf uncappedOf compensatedOf framed runOf skipsOf maybeSkipped advancedOf unendedOf updatedOf onceRefusalBy concludedOf queuedSound weightSound initSound buffersSound worldsSound overshootSound connectedOf soundOf hasForWorlds heardIn receivedIn notedIn startOf openOf timesOk refusedAtOnce syncedOf clockUpdateOf acceptedOf playedOf worldsUpdateOf updateOf reportOf settingsWith clockAt opened heardOnce heardTwice heardThrice atFour atFive atSix frameOne frameTwo frameThree frameFour caught
+unfolding add sub mul div rem round lt le eq ofInt toSigned toUnsigned ofBits toBits signedOf orderOf inRange ceilOf roundOf fromUnwrapped fromSeconds
+    stampOf ceilStampOf lagFramesOf discardOf secondsPass thresholdsPass samplesPass countsPass passesOf offsetOf sampleInserted sortedOnto sortedOf
+    sumFrom averageOf meanOf heldOf newOf tickedOf heardOf filledOf settledOf samplesOk timerOk soundClock floatBitsOf inboxTimeOf clockOf frontOf
+    messagesAfter refusalIn refusalOf laid inRangeOf dueOf laterThan placedOf insertedOf leaving droppedOf movedOf takenOf restOf commandWords
+    inOrderAfter inOrder soundBuffer stepWord commandWord snapshotWord publishWord noneWord scheduledOf stepOf loadOf newSideOf oldSideOf worldOf
+    withWorld oldStampOf newStampOf newWorldsOf ledgerOf withLedger putOf andThen doneAt laterOf overshotOf newerOf statusOf offeredBase offeredSide
+    receivedOf fromFutureOf freshOf notedOf snapshotsBy snapshotsOf notesOf publishedNone publishedSide publishedOld publishedBlended readiedWith
+    loadedAt loadedOf loadedQueued blendedOn openedOf steppedSide caughtUpOf steppedNew caughtOf simulatedOf shownOf stopsOf snapshotOf frameOpened
+    frameOf frameStops weightOk timeOf displayedOf revisedOf postUpdateOf logicalOf driftOf uncappedOf compensatedOf framed runOf skipsOf maybeSkipped
+    advancedOf unendedOf updatedOf onceRefusalBy concludedOf queuedSound weightSound initSound buffersSound worldsSound overshootSound connectedOf
+    soundOf hasForWorlds heardIn receivedIn notedIn startOf openOf timesOk refusedAtOnce syncedOf clockUpdateOf acceptedOf playedOf worldsUpdateOf
+    updateOf reportOf settingsWith clockAt opened heardOnce heardTwice heardThrice atFour atFive atSix frameOne frameTwo frameThree frameFour caught
 marked =
     record {
       wrap-less = refl;

@@ -49,7 +49,8 @@ four = fin false 1 (pos 2)
 abbrev pub nine : Float
 nine = fin false 9 (pos 0)
 
--- ---- two runs of calls, each from open on: the run of document 01, and one with m = 3 and g = 7. Each call is handed the session that the call before it returned
+-- ---- two runs of calls, each from open on: the run of document 01, and one with m = 3 and g = 7. Each call is handed the session that the call before it
+-- returned
 
 -- the float of n seconds
 abbrev pub secondsOf : ℕ → Float
@@ -193,7 +194,8 @@ pub record Marked : Type 0 where
   -- and so in the sessions that the four updates return
   pub left-behind : behindsAfter (frameOne ∷ frameTwo ∷ frameThree ∷ frameFour ∷ []) ≡ 5 ∷ 3 ∷ 1 ∷ 0 ∷ []
   -- the run: it is opened, and the clock message at 1 s is of these words
-  pub run-opened : (openOf (settingsWith 2) .refusal ≡ 0) × (clockAt 1 ≡ 0x30000007 ∷ 0x5000003f ∷ 0x5f000000 ∷ 0x50000000 ∷ 0x5000003f ∷ 0x5f000000 ∷ 0x50000000 ∷ [])
+  pub run-opened : (openOf (settingsWith 2) .refusal ≡ 0) × (clockAt 1 ≡ 0x30000007 ∷ 0x5000003f ∷ 0x5f000000 ∷ 0x50000000 ∷ 0x5000003f ∷ 0x5f000000 ∷
+      0x50000000 ∷ [])
   -- the updates at 1, 2 and 3 s are accepted and play nothing
   pub run-syncs : Shows (heardOnce 2 1) 0 0 (replicate 8 0) × Shows (heardTwice 2 1) 0 0 (replicate 8 0) × Shows (heardThrice 2 1) 0 0 (replicate 8 0)
   -- stamps start at 3

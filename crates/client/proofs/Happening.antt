@@ -12,15 +12,18 @@ use Rattle.client.specs.declared.Ledger.{Ledger}
 use Rattle.client.specs.declared.Scene.{Scene}
 use Rattle.client.specs.declared.Shown.{Shown}
 use Rattle.client.specs.Ledgers.{applies}
-use Rattle.client.specs.Sides.{newSideOf, oldSideOf, worldOf, withWorld, worldStampOf, oldStampOf, newStampOf, ledgerOf, withLedger, withWorlds, putOf, Played, still, andThen, doneAt, Plays}
+use Rattle.client.specs.Sides.{newSideOf, oldSideOf, worldOf, withWorld, worldStampOf, oldStampOf, newStampOf, ledgerOf, withLedger, withWorlds, putOf}
+use Rattle.client.specs.Sides.{Played, still, andThen, doneAt, Plays}
 
 -- the stamp of the old world, by its side
-pub old-stamp-is : (w : ClientWorldSimulations) {side : ℕ} {s : Simulation} {t : Timestamp} → side ≡ oldSideOf w → s ≡ worldOf w side → t ≡ worldStampOf s → t ≡ oldStampOf w
+pub old-stamp-is : (w : ClientWorldSimulations) {side : ℕ} {s : Simulation} {t : Timestamp} → side ≡ oldSideOf w → s ≡ worldOf w side
+    → t ≡ worldStampOf s → t ≡ oldStampOf w
 unfolding oldStampOf
 old-stamp-is w hs hw ht = ht ∙ ap worldStampOf (hw ∙ ap (worldOf w) hs)
 
 -- the stamp of the new world, by its side
-pub new-stamp-is : (w : ClientWorldSimulations) {side : ℕ} {s : Simulation} {t : Timestamp} → side ≡ newSideOf w → s ≡ worldOf w side → t ≡ worldStampOf s → t ≡ newStampOf w
+pub new-stamp-is : (w : ClientWorldSimulations) {side : ℕ} {s : Simulation} {t : Timestamp} → side ≡ newSideOf w → s ≡ worldOf w side
+    → t ≡ worldStampOf s → t ≡ newStampOf w
 unfolding newStampOf
 new-stamp-is w hs hw ht = ht ∙ ap worldStampOf (hw ∙ ap (worldOf w) hs)
 
@@ -41,7 +44,8 @@ pub plays-as : {p q : Played} {was last : List ℕ} {place : ℕ} {r : Shown} �
 plays-as e h = record { scene = h .scene ∙ ap (λ (x : Played). x .scene) e; puts = puts-as (ap (λ (x : Played). x .words) e) (h .puts) }
 
 -- one thing, and then another from where it ended
-pub plays-then : {p : Played} (f : Scene → Played) {was mid last : List ℕ} {place : ℕ} {a b : Shown} → Plays p was place a mid → Plays (f (a .scene)) mid (a .at) b last → Plays (andThen p f) was place b last
+pub plays-then : {p : Played} (f : Scene → Played) {was mid last : List ℕ} {place : ℕ} {a b : Shown} → Plays p was place a mid
+    → Plays (f (a .scene)) mid (a .at) b last → Plays (andThen p f) was place b last
 unfolding andThen
 plays-then {p} f h k =
     record {
@@ -51,7 +55,8 @@ plays-then {p} f h k =
 
 -- something is done to the world of a side, and the world is put back
 pub plays-done : (s : Scene) (side : ℕ) {d : Done} {was last : List ℕ} {place : ℕ} {r : Stepped} {t : Scene}
-    → Does d was place r last → t ≡ putOf s side (r .world) (r .applied) (r .leftout) → Plays (doneAt s side d) was place (record { scene = t; at = r .at }) last
+    → Does d was place r last → t ≡ putOf s side (r .world) (r .applied) (r .leftout)
+    → Plays (doneAt s side d) was place (record { scene = t; at = r .at }) last
 unfolding doneAt
 plays-done s side h e =
     record {

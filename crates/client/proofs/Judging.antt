@@ -44,8 +44,11 @@ newer-held n e hr = hr ∙ ap (λ (x : Queued). newerOf x n) (sym e)
 
 -- the status, by its four tests; a test that was not made is refl
 pub status-is : (w : ClientWorldSimulations) {o n : Timestamp} {e l v q : Bool}
-    → o ≡ oldStampOf w → n ≡ newStampOf w → eqb (n .0) (o .0) ≡ e → lt (w .weight) (fin false 1 (pos 0)) ≡ l → overshotOf n o ≡ v → newerOf (w .snapshots .queued) n ≡ q
+    → o ≡ oldStampOf w → n ≡ newStampOf w → eqb (n .0) (o .0) ≡ e → lt (w .weight) (fin false 1 (pos 0)) ≡ l → overshotOf n o ≡ v
+    → newerOf (w .snapshots .queued) n ≡ q
     → statusBy e l v q (w .weight) ≡ statusOf w
 unfolding statusOf
 status-is w {o} {n} ho hn he hl hv hq =
-    (λ i. statusBy (sym he i) (sym hl i) (sym hv i) (sym hq i) (w .weight)) ∙ (λ i. statusBy (eqb (hn i .0) (ho i .0)) (lt (w .weight) (fin false 1 (pos 0))) (overshotOf (hn i) (ho i)) (newerOf (w .snapshots .queued) (hn i)) (w .weight))
+    (λ i. statusBy (sym he i) (sym hl i) (sym hv i) (sym hq i) (w .weight))
+    ∙ (λ i. statusBy (eqb (hn i .0) (ho i .0)) (lt (w .weight) (fin false 1 (pos 0))) (overshotOf (hn i) (ho i))
+    (newerOf (w .snapshots .queued) (hn i)) (w .weight))

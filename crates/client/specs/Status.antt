@@ -1,4 +1,5 @@
--- The status of a client: document 01, "src/client.rs". Status is `ReconciliationStatus`, with its weight in Blending and a `FastforwardingHealth` inside Fastforwarding.
+-- The status of a client: document 01, "src/client.rs". Status is `ReconciliationStatus`, with its weight in Blending and a `FastforwardingHealth` inside
+-- Fastforwarding.
 -- Definitions only. Assumes nothing.
 use mathlib.Core.Bool.{Bool, true, false}
 use lib.Dec.{eqb}
@@ -46,4 +47,5 @@ statusBy false l false false t = Fastforwarding Healthy
 -- the status: equal stamps (Blending or Awaiting by the weight), Overshot, Obsolete, Healthy
 unfoldable pub statusOf : ClientWorldSimulations → ReconciliationStatus
 statusOf w =
-    statusBy (eqb (newStampOf w .0) (oldStampOf w .0)) (lt (w .weight) one64) (overshotOf (newStampOf w) (oldStampOf w)) (newerOf (w .snapshots .queued) (newStampOf w)) (w .weight)
+    statusBy (eqb (newStampOf w .0) (oldStampOf w .0)) (lt (w .weight) one64) (overshotOf (newStampOf w) (oldStampOf w))
+    (newerOf (w .snapshots .queued) (newStampOf w)) (w .weight)

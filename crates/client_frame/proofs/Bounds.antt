@@ -38,7 +38,8 @@ pub record Few (w : ClientWorldSimulations) : Type 0 where
   pub base : length (held (w .base)) ≤ 64
 
 -- so it is where each buffer has its 64 slots
-pub few-slots : (w : ClientWorldSimulations) → length (w .left .commands .entries) ≡ 64 → length (w .right .commands .entries) ≡ 64 → length (w .base .entries) ≡ 64 → Few w
+pub few-slots : (w : ClientWorldSimulations) → length (w .left .commands .entries) ≡ 64 → length (w .right .commands .entries) ≡ 64
+    → length (w .base .entries) ≡ 64 → Few w
 few-slots w l r b = record { left = held-few (w .left .commands) l; right = held-few (w .right .commands) r; base = held-few (w .base) b }
 
 -- what happens puts at most n words, and leaves at most 64 commands in each buffer
@@ -121,7 +122,8 @@ stepped-short s side h =
     let w : Simulation = worldOf (s .worlds) side in
     record {
       words = omega (arith, step-words w side, step-applies w side, few-at (s .worlds) side h);
-      few = few-put s side (stepOf w side .world) (stepOf w side .applied) (stepOf w side .leftout) h (omega (arith, step-held w side, few-at (s .worlds) side h));
+      few = few-put s side (stepOf w side .world) (stepOf w side .applied) (stepOf w side .leftout) h
+          (omega (arith, step-held w side, few-at (s .worlds) side h));
     }
 
 -- the worlds beside a load
@@ -157,7 +159,8 @@ reset-short s side t h =
     let w : Simulation = worldOf (s .worlds) side in
     record {
       words = omega (arith, reset-words w t side, reset-applies w t side, few-at (s .worlds) side h);
-      few = few-put s side (resetOf w t side .world) (resetOf w t side .applied) (resetOf w t side .leftout) h (omega (arith, reset-held w t side, few-at (s .worlds) side h));
+      few = few-put s side (resetOf w t side .world) (resetOf w t side .applied) (resetOf w t side .leftout) h
+          (omega (arith, reset-held w t side, few-at (s .worlds) side h));
     }
 
 -- what is published is told in few words

@@ -16,7 +16,8 @@ use Rattle.client.specs.declared.Ledger.{Ledger}
 use Rattle.client.specs.declared.Scene.{Scene}
 use Rattle.client.specs.declared.Shown.{Shown}
 use Rattle.client.specs.Ledgers.{applies}
-use Rattle.client.specs.Sides.{newSideOf, worldOf, withWorld, worldStampOf, newStampOf, ledgerOf, withLedger, putOf, still, andThen, Plays, withLeft, withRight, withWorlds, withLedgers, withSteps}
+use Rattle.client.specs.Sides.{newSideOf, worldOf, withWorld, worldStampOf, newStampOf, ledgerOf, withLedger, putOf, still, andThen, Plays, withLeft, withRight}
+use Rattle.client.specs.Sides.{withWorlds, withLedgers, withSteps}
 use Rattle.client_frame.specs.Frame.{caughtUpOf, steppedSide, steppedNew, caughtOf}
 use Rattle.client_frame.specs.Inner.{putBack}
 use Rattle.client.proofs.Happening.{new-stamp-is, plays-still, plays-as, plays-then}
@@ -54,7 +55,8 @@ unfolding caughtOf
 none o s = refl
 
 -- a step
-pub catching-step : (m : ℕ) (o : Timestamp) (from : Scene) (was : List ℕ) (place : ℕ) {tape mid : List ℕ} {s : Scene} {p k : ℕ} {n : Timestamp} {b : Bool} {a : Shown}
+pub catching-step : (m : ℕ) (o : Timestamp) (from : Scene) (was : List ℕ) (place : ℕ) {tape mid : List ℕ} {s : Scene} {p k : ℕ} {n : Timestamp}
+    {b : Bool} {a : Shown}
     → Catching m o from was place tape s p k → k < m → n ≡ newStampOf (s .worlds) → b ≡ caughtUpOf n o → b ≡ false → Plays (steppedNew s) tape p a mid
     → Catching m o from was place mid (a .scene) (a .at) (k + 1)
 catching-step m o from was place {tape} {mid} {s} {p} {k} {n} {b} {a} c l hn hb f h =
@@ -85,7 +87,8 @@ caught-end m o from was place {tape} {s} {p} {k} c l =
     c .rest (record { scene = s; at = p }) tape (plays-as (none o s ∙ ap (λ (x : ℕ). caughtOf x o s) (sym z)) (plays-still s tape p))
 
 -- by the stamp's other name
-pub caught-as : (m : ℕ) {o q : Timestamp} (s : Scene) {was last : List ℕ} {place : ℕ} {r : Shown} → o ≡ q → Plays (caughtOf m o s) was place r last → Plays (caughtOf m q s) was place r last
+pub caught-as : (m : ℕ) {o q : Timestamp} (s : Scene) {was last : List ℕ} {place : ℕ} {r : Shown} → o ≡ q → Plays (caughtOf m o s) was place r last
+    → Plays (caughtOf m q s) was place r last
 caught-as m s e h = plays-as (ap (λ (x : Timestamp). caughtOf m x s) e) h
 
 -- ---- the new world steps apart from its scene
@@ -141,12 +144,15 @@ apart-step : (s : Scene) (side : ℕ) (w : Simulation) (l : Ledger) (n : ℕ) {s
 apart-step s side w l n {st} {x} {was} {last} {place} {r} hs hd hx hn =
     let v : Scene = putBack s side w l n in
     let u : Scene = putOf v side (r .world) (r .applied) (r .leftout) in
-    let one : Plays (steppedSide v side) was place (record { scene = u; at = r .at }) last = step-plays v side (back-world s side w l n (eqb side 0) refl) hd refl in
-    let more : st ≡ (u .steps + 1) % 2 ^ 32 = hn ∙ ap (λ (i : ℕ). (i + 1) % 2 ^ 32) (back-steps s side w l n (eqb side 0) refl (r .world) (r .applied) (r .leftout)) in
+    let one : Plays (steppedSide v side) was place (record { scene = u; at = r .at }) last =
+    step-plays v side (back-world s side w l n (eqb side 0) refl) hd refl in
+    let more : st ≡ (u .steps + 1) % 2 ^ 32 = hn ∙ ap (λ (i : ℕ). (i + 1) % 2 ^ 32)
+    (back-steps s side w l n (eqb side 0) refl (r .world) (r .applied) (r .leftout)) in
     let all : Plays (steppedNew v) was place (record { scene = withSteps u st; at = r .at }) last =
     step-new-plays v (hs ∙ sym (back-new s side w l n (eqb side 0) refl)) one more in
     record {
-      scene = ap (λ (y : Ledger). putBack s side (r .world) y st) hx ∙ back-again s side w l n (eqb side 0) refl (r .world) (r .applied) (r .leftout) st ∙ all .scene;
+      scene = ap (λ (y : Ledger). putBack s side (r .world) y st) hx ∙ back-again s side w l n (eqb side 0) refl (r .world) (r .applied) (r .leftout) st
+          ∙ all .scene;
       puts = all .puts;
     }
 
@@ -162,14 +168,18 @@ apart-start m o from was place {side} {w} {l} few hw hl =
     record { whole = subst (λ (x : Scene). Catching m o from was place was x place 0) (sym same) (catching-start m o from was place few) }
 
 -- the stamp of the world that is apart
-apart-stamp : (s : Scene) (side : ℕ) (w : Simulation) (l : Ledger) (n : ℕ) {t : Timestamp} → side ≡ newSideOf (s .worlds) → t ≡ worldStampOf w → t ≡ newStampOf (putBack s side w l n .worlds)
-apart-stamp s side w l n hs ht = new-stamp-is (putBack s side w l n .worlds) (hs ∙ sym (back-new s side w l n (eqb side 0) refl)) (back-world s side w l n (eqb side 0) refl) ht
+apart-stamp : (s : Scene) (side : ℕ) (w : Simulation) (l : Ledger) (n : ℕ) {t : Timestamp} → side ≡ newSideOf (s .worlds) → t ≡ worldStampOf w
+    → t ≡ newStampOf (putBack s side w l n .worlds)
+apart-stamp s side w l n hs ht = new-stamp-is (putBack s side w l n .worlds) (hs ∙ sym (back-new s side w l n (eqb side 0) refl))
+    (back-world s side w l n (eqb side 0) refl) ht
 
-module _ {m : ℕ} {o : Timestamp} {from : Scene} {was tape : List ℕ} {place side n p k : ℕ} {w : Simulation} {l : Ledger} (c : Apart m o from was place side tape w l n p k) where
+module _ {m : ℕ} {o : Timestamp} {from : Scene} {was tape : List ℕ} {place side n p k : ℕ} {w : Simulation} {l : Ledger}
+    (c : Apart m o from was place side tape w l n p k) where
   -- a step
   pub apart-again : {t : Timestamp} {b : Bool} {mid : List ℕ} {r : Stepped} {x : Ledger} {st : ℕ}
       → k < m → side ≡ newSideOf (from .worlds) → t ≡ worldStampOf w → b ≡ caughtUpOf t o → b ≡ false
-      → Does (stepOf w side) tape p r mid → x ≡ applies l (r .applied) (r .leftout) → st ≡ (n + 1) % 2 ^ 32 → Apart m o from was place side mid (r .world) x st (r .at) (k + 1)
+      → Does (stepOf w side) tape p r mid → x ≡ applies l (r .applied) (r .leftout) → st ≡ (n + 1) % 2 ^ 32
+      → Apart m o from was place side mid (r .world) x st (r .at) (k + 1)
   apart-again less hs ht hb f hd hx hn =
       record { whole = catching-step m o from was place (c .whole) less (apart-stamp from side w l n hs ht) hb f (apart-step from side w l n hs hd hx hn) }
 
@@ -177,7 +187,8 @@ module _ {m : ℕ} {o : Timestamp} {from : Scene} {was tape : List ℕ} {place s
   pub apart-up : {t : Timestamp} {b : Bool} {y : Scene} → side ≡ newSideOf (from .worlds) → t ≡ worldStampOf w → b ≡ caughtUpOf t o → b ≡ true
       → y ≡ putBack from side w l n → Plays (caughtOf m o from) was place (record { scene = y; at = p }) tape
   apart-up hs ht hb f hy =
-      let h : Plays (caughtOf m o from) was place (record { scene = putBack from side w l n; at = p }) tape = caught-up m o from was place (c .whole) (apart-stamp from side w l n hs ht) hb f in
+      let h : Plays (caughtOf m o from) was place (record { scene = putBack from side w l n; at = p }) tape =
+      caught-up m o from was place (c .whole) (apart-stamp from side w l n hs ht) hb f in
       record { scene = hy ∙ h .scene; puts = h .puts }
 
   -- it has made all its steps, and is put back

@@ -29,13 +29,16 @@ use Rattle.client.specs.declared.Ledger.{Ledger}
 use Rattle.client.specs.declared.Scene.{Scene}
 use Rattle.client.specs.declared.Shown.{Shown}
 use Rattle.client.specs.Ledgers.{loads, applies}
-use Rattle.client.specs.Sides.{newSideOf, oldSideOf, worldOf, withWorld, withWeight, withWorlds, withLedger, withSteps, ledgerOf, putOf, oldStampOf, newStampOf, Played, andThen, doneAt, Plays}
+use Rattle.client.specs.Sides.{newSideOf, oldSideOf, worldOf, withWorld, withWeight, withWorlds, withLedger, withSteps, ledgerOf, putOf, oldStampOf, newStampOf}
+use Rattle.client.specs.Sides.{Played, andThen, doneAt, Plays}
 use Rattle.client.specs.Status.{statusOf}
 use Rattle.client_publish.specs.declared.Stated.{Stated}
 use Rattle.client_publish.specs.Publish.{withState, publishedOld, publishedBlended}
 use Rattle.client_publish.specs.Inner.{States}
 use Rattle.client_frame.specs.declared.Rules.{Rules}
-use Rattle.client_frame.specs.Frame.{loadsOf, readiedWith, loadedAt, loadedOf, loadedQueued, blendedOn, resetNew, openedOf, steppedSide, caughtUpOf, withStep, steppedNew, caughtOf, simulatedOf, blendedBy, publishedBy, shownOf, isObsolete, tooFarOf, stopsOf, snapshotOf, frameOpened, frameOf, frameStops, Frames}
+use Rattle.client_frame.specs.Frame.{loadsOf, readiedWith, loadedAt, loadedOf, loadedQueued, blendedOn, resetNew, openedOf, steppedSide, caughtUpOf}
+use Rattle.client_frame.specs.Frame.{withStep, steppedNew, caughtOf, simulatedOf, blendedBy, publishedBy, shownOf, isObsolete, tooFarOf, stopsOf}
+use Rattle.client_frame.specs.Frame.{snapshotOf, frameOpened, frameOf, frameStops, Frames}
 use Rattle.timestamp.specs.Floats.{clampedOf}
 use Rattle.client_frame.specs.Inner.{putBack}
 use Rattle.client.proofs.Happening.{plays-still, plays-as, plays-then, plays-done}
@@ -43,7 +46,8 @@ use Rattle.client.proofs.Happening.{plays-still, plays-as, plays-then, plays-do
 -- ---- a load
 
 -- a load that is put at its side, and counted
-loaded-at : (s : Scene) (side : ℕ) (b : CommandBuffer) (h : ℕ) {d : Load} {was last : List ℕ} {place : ℕ} {r : Loaded} {v put : ClientWorldSimulations} {l x : Ledger} {u : Scene}
+loaded-at : (s : Scene) (side : ℕ) (b : CommandBuffer) (h : ℕ) {d : Load} {was last : List ℕ} {place : ℕ} {r : Loaded} {v put : ClientWorldSimulations}
+    {l x : Ledger} {u : Scene}
     → Loads d side h was place r last → v ≡ readiedWith (s .worlds) side b → put ≡ withWorld v side (r .world) → l ≡ ledgerOf s side
     → x ≡ loads l (r .copied) (r .replaced) (r .leftout) → u ≡ withLedger (withWorlds s put) side x
     → Plays (loadedAt s side b h d) was place (record { scene = u; at = r .at }) last
@@ -58,7 +62,8 @@ loaded-at s side b h {d} {was} {last} {place} {r} {v} {put} {l} {x} {u} hd hv hp
     }
 
 -- a snapshot is loaded into a side, from the base that was drained up to it
-pub load-plays : (s : Scene) (side : ℕ) (t : Timestamp) (h : ℕ) {d : Drained} {sim : Simulation} {was last : List ℕ} {place : ℕ} {r : Loaded} {v put : ClientWorldSimulations} {l x : Ledger} {u : Scene}
+pub load-plays : (s : Scene) (side : ℕ) (t : Timestamp) (h : ℕ) {d : Drained} {sim : Simulation} {was last : List ℕ} {place : ℕ} {r : Loaded}
+    {v put : ClientWorldSimulations} {l x : Ledger} {u : Scene}
     → d ≡ drainedOf (s .worlds .base) t → sim ≡ worldOf (s .worlds) side → Loads (loadOf sim (d .buffer) t) side h was place r last
     → v ≡ readiedWith (s .worlds) side (d .buffer) → put ≡ withWorld v side (r .world) → l ≡ ledgerOf s side
     → x ≡ loads l (r .copied) (r .replaced) (r .leftout) → u ≡ withLedger (withWorlds s put) side x
@@ -69,7 +74,8 @@ load-plays s side t h {d} hd hs hr hv hp hl hx hu =
     plays-as (λ i. loadedAt s side (e i) h (loadOf (hs i) (e i) t)) (loaded-at s side (d .buffer) h hr hv hp hl hx hu)
 
 -- where nothing is queued nothing is loaded
-pub queued-none : (s : Scene) (q : Queued) (side : ℕ) (was : List ℕ) (place : ℕ) → q ≡ Nothing → Plays (loadedQueued s q side) was place (record { scene = s; at = place }) was
+pub queued-none : (s : Scene) (q : Queued) (side : ℕ) (was : List ℕ) (place : ℕ) → q ≡ Nothing
+    → Plays (loadedQueued s q side) was place (record { scene = s; at = place }) was
 unfolding loadedQueued
 queued-none s q side was place e = rw e (plays-still s was place)
 
@@ -94,7 +100,8 @@ pub clamp-in : (x : Float) → lt x (fin false 0 (pos 0)) ≡ false → lt (fin 
 clamp-in x h k = rw (h, k) refl
 
 -- the weight a frame on
-pub blended-is : (s : Scene) (progress : Float) {t : Float} → t ≡ clampedOf (add binary64 (s .worlds .weight) progress) → withWorlds s (withWeight (s .worlds) t) ≡ blendedOn s progress
+pub blended-is : (s : Scene) (progress : Float) {t : Float} → t ≡ clampedOf (add binary64 (s .worlds .weight) progress)
+    → withWorlds s (withWeight (s .worlds) t) ≡ blendedOn s progress
 unfolding blendedOn
 blended-is s progress e = ap (λ (t : Float). withWorlds s (withWeight (s .worlds) t)) e
 
@@ -134,7 +141,8 @@ module _ (t : ReconciliationStatus) (q : Queued) (p : Float) (s : Scene) where
     opened-obsolete g hs h = rw (e, g) (plays-as (ap (loadedQueued s q) hs) h)
 
     -- overshot, the new world is reset
-    pub opened-overshot : {was last : List ℕ} {place : ℕ} {r : Shown} → f ≡ Overshot → Plays (resetNew s) was place r last → Plays (openedOf t q p s) was place r last
+    pub opened-overshot : {was last : List ℕ} {place : ℕ} {r : Shown} → f ≡ Overshot → Plays (resetNew s) was place r last
+        → Plays (openedOf t q p s) was place r last
     unfolding openedOf
     opened-overshot g h = rw (e, g) h
 
@@ -148,7 +156,8 @@ unfolding steppedSide
 step-plays s side hw hd hu = plays-as (ap (λ (x : Simulation). doneAt s side (stepOf x side)) hw) (plays-done s side hd hu)
 
 -- a world that is put back with its ledger, counted
-pub put-back-is : (s : Scene) (side : ℕ) (w : Simulation) (n k : ℕ) {l x : Ledger} {u : Scene} → l ≡ ledgerOf s side → x ≡ applies l n k → u ≡ putBack s side w x (s .steps) → u ≡ putOf s side w n k
+pub put-back-is : (s : Scene) (side : ℕ) (w : Simulation) (n k : ℕ) {l x : Ledger} {u : Scene} → l ≡ ledgerOf s side → x ≡ applies l n k
+    → u ≡ putBack s side w x (s .steps) → u ≡ putOf s side w n k
 unfolding putBack putOf
 put-back-is s side w n k hl hx hu = hu ∙ (λ i. putBack s side w ((hx ∙ ap (λ (y : Ledger). applies y n k) hl) i) (s .steps))
 
@@ -168,24 +177,29 @@ step-new-plays s {side} {n} {was} {last} {place} {r} hs h hn =
 
 -- the old world steps, and then the new one catches up with it, m steps at most
 pub simulate-plays : (m : ℕ) (s : Scene) {side k : ℕ} {was mid last : List ℕ} {place : ℕ} {a b : Shown}
-    → side ≡ oldSideOf (s .worlds) → Plays (steppedSide s side) was place a mid → Plays (caughtOf k (oldStampOf (a .scene .worlds)) (a .scene)) mid (a .at) b last → k ≡ m
+    → side ≡ oldSideOf (s .worlds) → Plays (steppedSide s side) was place a mid
+    → Plays (caughtOf k (oldStampOf (a .scene .worlds)) (a .scene)) mid (a .at) b last → k ≡ m
     → Plays (simulatedOf m s) was place b last
 unfolding simulatedOf
 simulate-plays m s {a = a} hs h c e =
-    plays-then (λ (t : Scene). caughtOf m (oldStampOf (t .worlds)) t) (plays-as (ap (steppedSide s) hs) h) (plays-as (ap (λ (n : ℕ). caughtOf n (oldStampOf (a .scene .worlds)) (a .scene)) e) c)
+    plays-then (λ (t : Scene). caughtOf m (oldStampOf (t .worlds)) t) (plays-as (ap (steppedSide s) hs) h)
+    (plays-as (ap (λ (n : ℕ). caughtOf n (oldStampOf (a .scene .worlds)) (a .scene)) e) c)
 
 -- ---- what is published
 
 -- by the weight
-pub published-blended : (b : Bool) (s : Scene) {was last : List ℕ} {place : ℕ} {r : Stated} → b ≡ true → States (publishedBlended s) s was place r last → States (publishedBy b s) s was place r last
+pub published-blended : (b : Bool) (s : Scene) {was last : List ℕ} {place : ℕ} {r : Stated} → b ≡ true → States (publishedBlended s) s was place r last
+    → States (publishedBy b s) s was place r last
 published-blended b s e h = rw e h
 
 -- the old world
-pub published-old : (b : Bool) (s : Scene) {was last : List ℕ} {place : ℕ} {r : Stated} → b ≡ false → States (publishedOld s) s was place r last → States (publishedBy b s) s was place r last
+pub published-old : (b : Bool) (s : Scene) {was last : List ℕ} {place : ℕ} {r : Stated} → b ≡ false → States (publishedOld s) s was place r last
+    → States (publishedBy b s) s was place r last
 published-old b s e h = rw e h
 
 -- the scene with the state
-pub stated-plays : {p : Played} (s : Scene) {was last : List ℕ} {place : ℕ} {r : Stated} {u : Scene} → States p s was place r last → u ≡ withState s (r .state) → Plays p was place (record { scene = u; at = r .at }) last
+pub stated-plays : {p : Played} (s : Scene) {was last : List ℕ} {place : ℕ} {r : Stated} {u : Scene} → States p s was place r last
+    → u ≡ withState s (r .state) → Plays p was place (record { scene = u; at = r .at }) last
 stated-plays s h e = record { scene = e ∙ h .scene; puts = h .puts }
 
 -- the worlds step, and then something is published
@@ -231,13 +245,15 @@ module _ (t : ReconciliationStatus) (q : Queued) (w e : ClientWorldSimulations) 
     stops-obsolete g ho hr = rw (h, g) (hr ∙ ap (tooFarOf q) ho)
 
     -- healthy, half the space away
-    pub stops-half : {o n : Timestamp} {d : ℕ} → f ≡ Healthy → o ≡ oldStampOf w → n ≡ newStampOf w → d ≡ differenceOf (o .0) (n .0) → d ≡ 32768 → true ≡ stopsOf t q w e
+    pub stops-half : {o n : Timestamp} {d : ℕ} → f ≡ Healthy → o ≡ oldStampOf w → n ≡ newStampOf w → d ≡ differenceOf (o .0) (n .0) → d ≡ 32768
+        → true ≡ stopsOf t q w e
     unfolding stopsOf
     stops-half g ho hn hd z = rw (h, g, ← ho, ← hn, ← hd, eq-eqb _ _ z) refl
 
     -- healthy, and obsolete or not at the end
     pub stops-ends : {o n : Timestamp} {d : ℕ} {u : ReconciliationStatus} {r : Bool}
-        → f ≡ Healthy → o ≡ oldStampOf w → n ≡ newStampOf w → d ≡ differenceOf (o .0) (n .0) → (d ≡ 32768 → ⊥) → u ≡ statusOf e → r ≡ isObsolete u → r ≡ stopsOf t q w e
+        → f ≡ Healthy → o ≡ oldStampOf w → n ≡ newStampOf w → d ≡ differenceOf (o .0) (n .0) → (d ≡ 32768 → ⊥) → u ≡ statusOf e → r ≡ isObsolete u
+        → r ≡ stopsOf t q w e
     unfolding stopsOf
     stops-ends g ho hn hd z hu hr = rw (h, g, ← ho, ← hn, ← hd, ne-eqb _ _ z) (hr ∙ ap isObsolete hu)
 
@@ -245,18 +261,22 @@ module _ (t : ReconciliationStatus) (q : Queued) (w e : ClientWorldSimulations) 
 
 -- one frame: its status, the snapshot that it loads, its beginning, its steps and what it publishes, and whether it stops
 pub frame-plays : (rules : Rules) (s : Scene) {t : ReconciliationStatus} {q : Queued} {b stop : Bool} {was mid last : List ℕ} {place : ℕ} {a r : Shown}
-    → t ≡ statusOf (s .worlds) → q ≡ loadsOf t (s .worlds .snapshots .queued) → Plays (openedOf t q (rules .progress) s) was place a mid → b ≡ blendedBy t q → Plays (shownOf (rules .m) b (a .scene)) mid (a .at) r last
-    → stop ≡ stopsOf t q (s .worlds) (r .scene .worlds) → Frames (frameOf rules s) (frameStops rules s) was place (record { scene = r .scene; at = r .at; stops = stop }) last
+    → t ≡ statusOf (s .worlds) → q ≡ loadsOf t (s .worlds .snapshots .queued) → Plays (openedOf t q (rules .progress) s) was place a mid
+    → b ≡ blendedBy t q → Plays (shownOf (rules .m) b (a .scene)) mid (a .at) r last
+    → stop ≡ stopsOf t q (s .worlds) (r .scene .worlds) → Frames (frameOf rules s) (frameStops rules s) was place
+    (record { scene = r .scene; at = r .at; stops = stop }) last
 unfolding frameOf frameStops frameOpened snapshotOf
 frame-plays rules s {t} {q} {b} {stop} {was} {mid} {last} {place} {a} {r} ht hq ha hb hr hs =
     let m : ℕ = rules .m in
     let p : Float = rules .progress in
     let queued : Queued = s .worlds .snapshots .queued in
     let loaded : q ≡ loadsOf (statusOf (s .worlds)) queued = hq ∙ ap (λ (x : ReconciliationStatus). loadsOf x queued) ht in
-    let opens : Plays (openedOf (statusOf (s .worlds)) (loadsOf (statusOf (s .worlds)) queued) p s) was place a mid = plays-as (λ i. openedOf (ht i) (loaded i) p s) ha in
+    let opens : Plays (openedOf (statusOf (s .worlds)) (loadsOf (statusOf (s .worlds)) queued) p s) was place a mid =
+    plays-as (λ i. openedOf (ht i) (loaded i) p s) ha in
     let shows : Plays (shownOf m (blendedBy (statusOf (s .worlds)) (loadsOf (statusOf (s .worlds)) queued)) (a .scene)) mid (a .at) r last =
     plays-as (λ i. shownOf m ((hb ∙ (λ j. blendedBy (ht j) (loaded j))) i) (a .scene)) hr in
-    let plays : Plays (andThen (openedOf (statusOf (s .worlds)) (loadsOf (statusOf (s .worlds)) queued) p s) (shownOf m (blendedBy (statusOf (s .worlds)) (loadsOf (statusOf (s .worlds)) queued)))) was place r last =
+    let plays : Plays (andThen (openedOf (statusOf (s .worlds)) (loadsOf (statusOf (s .worlds)) queued) p s)
+    (shownOf m (blendedBy (statusOf (s .worlds)) (loadsOf (statusOf (s .worlds)) queued)))) was place r last =
     plays-then (shownOf m (blendedBy (statusOf (s .worlds)) (loadsOf (statusOf (s .worlds)) queued))) opens shows in
     record {
       scene = plays .scene;

@@ -20,7 +20,8 @@ use Rattle.client.specs.Sides.{newSideOf, oldSideOf, worldOf, withWeight, withW
 use Rattle.client.specs.Status.{statusOf}
 use Rattle.client_publish.proofs.Telling.{Telling, publishes, old-by, blended-by}
 use Rattle.client_frame.specs.declared.Rules.{Rules}
-use Rattle.client_frame.specs.Frame.{loadedOf, loadedQueued, blendedOn, resetNew, openedOf, steppedSide, caughtUpOf, withStep, steppedNew, unless, caughtOf, simulatedOf, blendedBy, publishedBy, shownOf, snapshotOf, frameOpened, frameOf}
+use Rattle.client_frame.specs.Frame.{loadedOf, loadedQueued, blendedOn, resetNew, openedOf, steppedSide, caughtUpOf, withStep, steppedNew, unless}
+use Rattle.client_frame.specs.Frame.{caughtOf, simulatedOf, blendedBy, publishedBy, shownOf, snapshotOf, frameOpened, frameOf}
 
 -- ---- one thing and then another
 
@@ -61,7 +62,8 @@ module _ {P : Law} (c : Chains P) where
 
   pub quiet-by : (n : ℕ) (s : Scene) (p : Played) (f : Scene → Scene) → P n s p → P 0 (p .scene) (still (f (p .scene))) → P n s (quietly f p)
   quiet-by n s p f h g =
-      subst (P n s) (then-quiet p f) (c .more (n + 0) n s (andThen p (λ (t : Scene). still (f t))) (omega arith) (c .next n 0 s p (λ (t : Scene). still (f t)) h g))
+      subst (P n s) (then-quiet p f) (c .more (n + 0) n s (andThen p (λ (t : Scene). still (f t))) (omega arith)
+      (c .next n 0 s p (λ (t : Scene). still (f t)) h g))
 
   -- nothing, at any cost
   pub still-by : (n : ℕ) (s : Scene) → P n s (still s)
@@ -133,7 +135,8 @@ module _ {P : Law} {rules : Rules} {load steps show : ℕ} (h : Parts P rules lo
   frame-by s =
       let r : ReconciliationStatus = statusOf (s .worlds) in
       let q : Queued = snapshotOf s in
-      h .chains .next load (steps + show) s (openedOf r q (rules .progress) s) (shownOf (rules .m) (blendedBy r q)) (opened-by r q s refl) (shown-by (blendedBy r q) (openedOf r q (rules .progress) s .scene))
+      h .chains .next load (steps + show) s (openedOf r q (rules .progress) s) (shownOf (rules .m) (blendedBy r q)) (opened-by r q s refl)
+      (shown-by (blendedBy r q) (openedOf r q (rules .progress) s .scene))
 
 -- ---- a frame by its moves
 
@@ -165,15 +168,18 @@ module _ {P : Law} {step : ℕ} (h : Steps P step) where
   caught-by zero o s = still-by (h .chains) (zero * step) s
   caught-by (suc n) o s =
       let p : Played = andThen (steppedNew s) (caughtOf n o) in
-      let a : P (step + n * step) s p = h .chains .next step (n * step) s (steppedNew s) (caughtOf n o) (stepped-new-by s) (caught-by n o (steppedNew s .scene)) in
-      unless-by (P (suc n * step) s) (caughtUpOf (newStampOf (s .worlds)) o) s p (still-by (h .chains) (suc n * step) s) (h .chains .more (step + n * step) (suc n * step) s p (omega arith) a)
+      let a : P (step + n * step) s p = h .chains .next step (n * step) s (steppedNew s) (caughtOf n o) (stepped-new-by s)
+      (caught-by n o (steppedNew s .scene)) in
+      unless-by (P (suc n * step) s) (caughtUpOf (newStampOf (s .worlds)) o) s p (still-by (h .chains) (suc n * step) s)
+      (h .chains .more (step + n * step) (suc n * step) s p (omega arith) a)
 
   -- the worlds' steps of a frame
   pub simulated-by : (m : ℕ) (s : Scene) → P (step + m * step) s (simulatedOf m s)
   unfolding simulatedOf
   simulated-by m s =
       let p : Played = steppedSide s (oldSideOf (s .worlds)) in
-      h .chains .next step (m * step) s p (λ (t : Scene). caughtOf m (oldStampOf (t .worlds)) t) (h .steps s (oldSideOf (s .worlds)) (old-below (s .worlds))) (caught-by m (oldStampOf (p .scene .worlds)) (p .scene))
+      h .chains .next step (m * step) s p (λ (t : Scene). caughtOf m (oldStampOf (t .worlds)) t)
+      (h .steps s (oldSideOf (s .worlds)) (old-below (s .worlds))) (caught-by m (oldStampOf (p .scene .worlds)) (p .scene))
 
 -- a law of each elementary move of a frame
 pub record Moves (P : Law) (load reset step show : ℕ) : Type 0 where
@@ -189,7 +195,8 @@ module _ {P : Law} {load reset step show : ℕ} (h : Moves P load reset step sho
   unfolding resetNew
   reset-new-by s =
       let side : ℕ = newSideOf (s .worlds) in
-      h .stepping .chains .more reset load s (resetAt s side (oldStampOf (s .worlds))) (h .fits) (h .resets s side (oldStampOf (s .worlds)) (new-below (s .worlds)))
+      h .stepping .chains .more reset load s (resetAt s side (oldStampOf (s .worlds))) (h .fits)
+      (h .resets s side (oldStampOf (s .worlds)) (new-below (s .worlds)))
 
   weighed-by : (s : Scene) (progress : Float) → P load s (still (blendedOn s progress))
   unfolding blendedOn

@@ -44,7 +44,8 @@ step-waits w side h =
     let rest : restOf b n ≡ b = drained-lossless b n taken in
     let moved : movedOf (restOf b n) n .buffer ≡ around n b = ap (λ (x : CommandBuffer). movedOf x n .buffer) rest ∙ moved-lossless b n dropped in
     let out : movedOf (restOf b n) n .dropped ≡ 0 = ap (λ (x : CommandBuffer). movedOf x n .dropped) rest ∙ dropped in
-    let words : commandWords side (takenOf b n) ++ (stepWord side ∷ []) ≡ stepWord side ∷ [] = ap (λ (x : List Entry). commandWords side x ++ (stepWord side ∷ [])) (nothing (takenOf b n) taken) in
+    let words : commandWords side (takenOf b n) ++ (stepWord side ∷ []) ≡ stepWord side ∷ [] =
+    ap (λ (x : List Entry). commandWords side x ++ (stepWord side ∷ [])) (nothing (takenOf b n) taken) in
     (λ i. record { world = worldWith (moved i) (w .init); words = words i; applied = taken i; leftout = out i })
 
 -- the same, as the code leaves it: n is the next stamp, and f the test

@@ -1,4 +1,5 @@
--- One frame: document 01, "src/client.rs". What its status opens it with, a step of the old world, the catching up of the new one, what is published, and refusal 26.
+-- One frame: document 01, "src/client.rs". What its status opens it with, a step of the old world, the catching up of the new one, what is published, and
+-- refusal 26.
 -- Definitions only. Assumes nothing.
 use Prim.Native.Nat.{ℕ, zero, suc, _+_, _%_, _^_}
 use mathlib.Core.Bool.{Bool, true, false, cond}
@@ -23,7 +24,8 @@ use Rattle.client.specs.declared.ClientWorldSimulations.{ClientWorldSimulations
 use Rattle.client.specs.declared.Scene.{Scene}
 use Rattle.client.specs.declared.Framed.{Framed}
 use Rattle.client.specs.Ledgers.{loads}
-use Rattle.client.specs.Sides.{newSideOf, oldSideOf, worldOf, withWorld, withWeight, withWorlds, withLedger, ledgerOf, oldStampOf, newStampOf, Played, still, andThen, doneAt, withBase, withNew, withSnapshots, withSteps}
+use Rattle.client.specs.Sides.{newSideOf, oldSideOf, worldOf, withWorld, withWeight, withWorlds, withLedger, ledgerOf, oldStampOf, newStampOf, Played, still}
+use Rattle.client.specs.Sides.{andThen, doneAt, withBase, withNew, withSnapshots, withSteps}
 use Rattle.client.specs.Status.{statusOf}
 use Rattle.client_publish.specs.Publish.{publishedOld, publishedBlended}
 use Rattle.client_frame.specs.declared.Rules.{Rules}
@@ -51,7 +53,8 @@ readiedWith w side b =
 unfoldable pub loadedAt : Scene → ℕ → CommandBuffer → ℕ → Load → Played
 loadedAt s side b h l =
     record {
-      scene = withLedger (withWorlds s (withWorld (readiedWith (s .worlds) side b) side (l .world))) side (loads (ledgerOf s side) (l .copied) (l .replaced) (l .leftout));
+      scene = withLedger (withWorlds s (withWorld (readiedWith (s .worlds) side b) side (l .world))) side
+          (loads (ledgerOf s side) (l .copied) (l .replaced) (l .leftout));
       words = snapshotWord side h ∷ [];
     }
 
@@ -145,7 +148,8 @@ unfoldable pub tooFarOf : Queued → Timestamp → Bool
 tooFarOf Nothing o = false
 tooFarOf (Held t h) o = cond (ltb (differenceOf (o .0) (t .0)) 32768) false (ltb (differenceOf (o .0) (t .0)) 65535)
 
--- refusal 26, for a frame of this status that loads q and takes the worlds w to e: Healthy with N - O = -32,768, or that ends Obsolete; Obsolete that loads S with S - O ≥ 2 or = -32,768
+-- refusal 26, for a frame of this status that loads q and takes the worlds w to e: Healthy with N - O = -32,768, or that ends Obsolete; Obsolete that loads S
+-- with S - O ≥ 2 or = -32,768
 unfoldable pub stopsOf : ReconciliationStatus → Queued → ClientWorldSimulations → ClientWorldSimulations → Bool
 stopsOf AwaitingSnapshot q w e = false
 stopsOf (Blending t) q w e = false

@@ -1,10 +1,12 @@
-// One frame (`step` of src/client.rs of crystalorb): what its status opens it with, a step of the old world, the catching up of the new one, and what is published.
+// One frame (`step` of src/client.rs of crystalorb): what its status opens it with, a step of the old world, the catching up of the new one, and what is
+// published.
 ghost use mathlib.Core.Path.{_≡_};
 ghost use mathlib.Core.Bool.{true};
 ghost use Prim.Native.Nat.{_<_, _≤_};
 ghost use Rattle.client.specs.Sides.{Plays, oldStampOf};
 ghost use Rattle.client_publish.specs.Inner.{States};
-ghost use Rattle.client_frame.specs.Frame.{loadsOf, readiedWith, loadedOf, blendedOn, resetNew, openedOf, steppedSide, caughtUpOf, caughtOf, simulatedOf, blendedBy, publishedBy, isObsolete, tooFarOf, stopsOf, shownOf, frameOf, frameStops, Frames};
+ghost use Rattle.client_frame.specs.Frame.{loadsOf, readiedWith, loadedOf, blendedOn, resetNew, openedOf, steppedSide, caughtUpOf, caughtOf, simulatedOf};
+ghost use Rattle.client_frame.specs.Frame.{blendedBy, publishedBy, isObsolete, tooFarOf, stopsOf, shownOf, frameOf, frameStops, Frames};
 ghost use Rattle.timestamp.specs.Floats.{clampedOf};
 ghost use Rattle.client_frame.specs.Inner.{putBack};
 use client::ClientWorldSimulations;

@@ -26,7 +26,8 @@ use Rattle.client.specs.declared.LastStamp.{LastStamp}
 use Rattle.client.specs.declared.Ledger.{Ledger}
 use Rattle.client.specs.declared.Scene.{Scene}
 use Rattle.client.specs.Ledgers.{applies}
-use Rattle.client.specs.Sides.{newSideOf, oldSideOf, worldOf, withWorld, withWeight, withWorlds, withLedger, ledgerOf, worldStampOf, oldStampOf, newStampOf, putOf, Played, still, andThen, doneAt, Plays, withLeft, withRight, withLedgers, withSteps}
+use Rattle.client.specs.Sides.{newSideOf, oldSideOf, worldOf, withWorld, withWeight, withWorlds, withLedger, ledgerOf, worldStampOf, oldStampOf, newStampOf}
+use Rattle.client.specs.Sides.{putOf, Played, still, andThen, doneAt, Plays, withLeft, withRight, withLedgers, withSteps}
 use Rattle.client.specs.Status.{statusBy, statusOf}
 use Rattle.client.proofs.Happening.{plays-as, plays-then}
 use Rattle.client_publish.specs.declared.Stated.{Stated}
@@ -34,7 +35,8 @@ use Rattle.client_publish.specs.Publish.{withState, publishedBlended}
 use Rattle.client_publish.proofs.Telling.{Telling, publishes, blended-by}
 use Rattle.client_publish.specs.Inner.{States}
 use Rattle.client_frame.specs.declared.Rules.{Rules}
-use Rattle.client_frame.specs.Frame.{loadsOf, loadedQueued, blendedOn, openedOf, steppedSide, caughtUpOf, withStep, steppedNew, caughtOf, simulatedOf, blendedBy, shownOf, stopsOf, snapshotOf, frameOpened, frameOf, frameStops}
+use Rattle.client_frame.specs.Frame.{loadsOf, loadedQueued, blendedOn, openedOf, steppedSide, caughtUpOf, withStep, steppedNew, caughtOf, simulatedOf}
+use Rattle.client_frame.specs.Frame.{blendedBy, shownOf, stopsOf, snapshotOf, frameOpened, frameOf, frameStops}
 use Rattle.timestamp.specs.Floats.{clampedOf}
 use Rattle.command.specs.Ranks.{waitsOf}
 use Rattle.client_level.specs.Level.{worldWaits, levelBy, isLevel, levelWeight, levelWords}
@@ -92,7 +94,8 @@ level-parts w m h =
 
 -- the test by its parts
 level-is : (w : ClientWorldSimulations) (m : ℕ) {z l x y : Bool}
-    → eqb m 0 ≡ z → levelBy (statusOf w) (w .snapshots .queued) ≡ l → worldWaits (w .left) ≡ x → worldWaits (w .right) ≡ y → not z && (l && (x && y)) ≡ isLevel w m
+    → eqb m 0 ≡ z → levelBy (statusOf w) (w .snapshots .queued) ≡ l → worldWaits (w .left) ≡ x → worldWaits (w .right) ≡ y
+    → not z && (l && (x && y)) ≡ isLevel w m
 unfolding isLevel
 level-is w m hz hl hx hy = sym (λ i. not (hz i) && (hl i && (hx i && hy i)))
 
@@ -104,7 +107,8 @@ level-none w m e = level-is w m (eq-eqb _ _ e) refl refl refl
 waits-next : (w : Simulation) {t n : Timestamp} {x : Bool} → t ≡ worldStampOf w → n .0 ≡ sumOf (t .0) 1 → x ≡ waitsOf (w .commands) n → worldWaits w ≡ x
 waits-next w ht hn hx = sym (hx ∙ (λ i. waitsOf (w .commands) (record { 0 = (hn ∙ ap (λ (t : Timestamp). sumOf (t .0) 1) ht) i })))
 
-module _ (w : ClientWorldSimulations) (m : ℕ) {t : ReconciliationStatus} {l : Bool} (some : m ≡ 0 → ⊥) (ht : t ≡ statusOf w) (hl : l ≡ levelBy t (w .snapshots .queued)) where
+module _ (w : ClientWorldSimulations) (m : ℕ) {t : ReconciliationStatus} {l : Bool} (some : m ≡ 0 → ⊥) (ht : t ≡ statusOf w)
+    (hl : l ≡ levelBy t (w .snapshots .queued)) where
   -- the test of the status
   status-is : levelBy (statusOf w) (w .snapshots .queued) ≡ l
   status-is = sym (hl ∙ ap (λ (x : ReconciliationStatus). levelBy x (w .snapshots .queued)) ht)
@@ -114,25 +118,29 @@ module _ (w : ClientWorldSimulations) (m : ℕ) {t : ReconciliationStatus} {l : 
   level-status f = level-is w m (ne-eqb _ _ some) (status-is ∙ f) refl refl
 
   -- it does
-  module _ {a n : Timestamp} {x : Bool} (f : l ≡ true) (ha : a ≡ worldStampOf (w .left)) (hn : n .0 ≡ sumOf (a .0) 1) (hx : x ≡ waitsOf (w .left .commands) n) where
+  module _ {a n : Timestamp} {x : Bool} (f : l ≡ true) (ha : a ≡ worldStampOf (w .left)) (hn : n .0 ≡ sumOf (a .0) 1)
+      (hx : x ≡ waitsOf (w .left .commands) n) where
     -- the left buffer does not wait
     pub level-left : x ≡ false → false ≡ isLevel w m
     level-left g = level-is w m (ne-eqb _ _ some) (status-is ∙ f) (waits-next (w .left) ha hn hx ∙ g) refl
 
     -- it does, and the right one decides
-    pub level-right : {b k : Timestamp} {y : Bool} → x ≡ true → b ≡ worldStampOf (w .right) → k .0 ≡ sumOf (b .0) 1 → y ≡ waitsOf (w .right .commands) k → y ≡ isLevel w m
+    pub level-right : {b k : Timestamp} {y : Bool} → x ≡ true → b ≡ worldStampOf (w .right) → k .0 ≡ sumOf (b .0) 1 → y ≡ waitsOf (w .right .commands) k
+        → y ≡ isLevel w m
     level-right g hb hk hy = level-is w m (ne-eqb _ _ some) (status-is ∙ f) (waits-next (w .left) ha hn hx ∙ g) (waits-next (w .right) hb hk hy)
 
 -- ---- the weight and the words
 
 -- the weight of a status that blends moves on
-pub weight-on : (t : ReconciliationStatus) (weight progress : Float) {x r : Float} → t ≡ Blending x → r ≡ clampedOf (add binary64 x progress) → r ≡ levelWeight t weight progress
+pub weight-on : (t : ReconciliationStatus) (weight progress : Float) {x r : Float} → t ≡ Blending x → r ≡ clampedOf (add binary64 x progress)
+    → r ≡ levelWeight t weight progress
 unfolding levelWeight
 weight-on t weight progress h hr = rw h hr
 
 -- the words of the two steps
 pub steps-put : (w : ClientWorldSimulations) {o n x y p q at : ℕ} {was mid last : List ℕ}
-    → o ≡ oldSideOf w → x ≡ stepWord o → Puts was at (x ∷ []) p mid → n ≡ newSideOf w → y ≡ stepWord n → Puts mid p (y ∷ []) q last → Puts was at (levelWords w) q last
+    → o ≡ oldSideOf w → x ≡ stepWord o → Puts was at (x ∷ []) p mid → n ≡ newSideOf w → y ≡ stepWord n → Puts mid p (y ∷ []) q last
+    → Puts was at (levelWords w) q last
 unfolding levelWords
 steps-put w ho hx hp hn hy hq = puts-as (λ i. (hx ∙ ap stepWord ho) i ∷ (hy ∙ ap stepWord hn) i ∷ []) (puts-then hp hq)
 
@@ -200,18 +208,21 @@ sides-by true s e = record { side = simp e; world = simp e; new = simp e; old = 
 sides-by false s e = record { side = simp e; world = simp e; new = simp e; old = simp e; last = simp e; client = simp e; scene = simp e }
 
 -- a buffer of either side waits
-side-waits-by : (b : Bool) (w : ClientWorldSimulations) (side : ℕ) → eqb side 0 ≡ b → worldWaits (w .left) ≡ true → worldWaits (w .right) ≡ true → worldWaits (worldOf w side) ≡ true
+side-waits-by : (b : Bool) (w : ClientWorldSimulations) (side : ℕ) → eqb side 0 ≡ b → worldWaits (w .left) ≡ true → worldWaits (w .right) ≡ true
+    → worldWaits (worldOf w side) ≡ true
 unfolding worldOf
 side-waits-by true w side e l r = rw e l
 side-waits-by false w side e l r = rw e r
 
 -- the stamps of left and right are those of new and old, or the other way round
-stamps-by : (b : Bool) (w : ClientWorldSimulations) → eqb (w .new) 0 ≡ b → newStampOf w .0 ≡ oldStampOf w .0 → worldStampOf (w .left) .0 ≡ worldStampOf (w .right) .0
+stamps-by : (b : Bool) (w : ClientWorldSimulations) → eqb (w .new) 0 ≡ b → newStampOf w .0 ≡ oldStampOf w .0
+    → worldStampOf (w .left) .0 ≡ worldStampOf (w .right) .0
 unfolding newStampOf oldStampOf worldOf newSideOf oldSideOf
 stamps-by true w e h = rw e at h
 stamps-by false w e h = sym (rw e at h)
 
-module _ (s : Scene) (same : newStampOf (s .worlds) .0 ≡ oldStampOf (s .worlds) .0) (left : worldWaits (s .worlds .left) ≡ true) (right : worldWaits (s .worlds .right) ≡ true) where
+module _ (s : Scene) (same : newStampOf (s .worlds) .0 ≡ oldStampOf (s .worlds) .0) (left : worldWaits (s .worlds .left) ≡ true)
+    (right : worldWaits (s .worlds .right) ≡ true) where
   -- the sides of the two steps
   sides : Sides s
   sides = sides-by (eqb (s .worlds .new) 0) s refl
@@ -239,13 +250,16 @@ module _ (s : Scene) (same : newStampOf (s .worlds) .0 ≡ oldStampOf (s .worlds
       (λ i. record { scene = withStep (all i .scene); words = all i .words }) ∙ (λ i. record { scene = sides .scene i; words = stepWord k ∷ [] })
 
   -- the new world catches up with that one step
-  one-caught : (n : ℕ) → caughtOf (suc n) (oldStampOf (midScene s .worlds)) (midScene s) ≡ record { scene = levelled s; words = stepWord (newSideOf (s .worlds)) ∷ [] }
+  one-caught : (n : ℕ) → caughtOf (suc n) (oldStampOf (midScene s .worlds)) (midScene s) ≡ record
+      { scene = levelled s; words = stepWord (newSideOf (s .worlds)) ∷ [] }
   unfolding andThen
   one-caught n =
       let o : Timestamp = oldStampOf (midScene s .worlds) in
       let new : newStampOf (midScene s .worlds) ≡ newStampOf (s .worlds) = sides .new in
-      let no : caughtUpOf (newStampOf (midScene s .worlds)) o ≡ false = one-behind _ o (oldStampOf (s .worlds)) (ap (λ (x : Timestamp). x .0) new ∙ same) (sides .old) in
-      let yes : caughtUpOf (newStampOf (levelled s .worlds)) o ≡ true = none-behind _ o (newStampOf (s .worlds)) (oldStampOf (s .worlds)) (sides .last) (sides .old) same in
+      let no : caughtUpOf (newStampOf (midScene s .worlds)) o ≡ false =
+      one-behind _ o (oldStampOf (s .worlds)) (ap (λ (x : Timestamp). x .0) new ∙ same) (sides .old) in
+      let yes : caughtUpOf (newStampOf (levelled s .worlds)) o ≡ true = none-behind _ o (newStampOf (s .worlds)) (oldStampOf (s .worlds)) (sides .last)
+      (sides .old) same in
       sym (turn n o (midScene s) no) ∙ ap (λ (p : Played). andThen p (caughtOf n o)) new-step
       ∙ (λ i. record { scene = sym (stop n o (levelled s) yes) i .scene; words = stepWord (newSideOf (s .worlds)) ∷ sym (stop n o (levelled s) yes) i .words })
 
@@ -283,7 +297,8 @@ stampedAt w n = worldWith (around n (w .commands)) (w .init)
 
 -- the scene with a stamp of each world, a weight, ledgers and steps
 abbrev levelAt : Scene → Timestamp → Timestamp → Float → Ledger → Ledger → ℕ → Scene
-levelAt s n o t l r k = withSteps (withLedgers (withWorlds s (withWeight (withLeft (withRight (s .worlds) (stampedAt (s .worlds .right) o)) (stampedAt (s .worlds .left) n)) t)) l r) k
+levelAt s n o t l r k = withSteps (withLedgers (withWorlds s (withWeight
+    (withLeft (withRight (s .worlds) (stampedAt (s .worlds .right) o)) (stampedAt (s .worlds .left) n)) t)) l r) k
 
 -- the same stamp for both
 abbrev levelWith : Scene → Timestamp → Float → Ledger → Ledger → ℕ → Scene
@@ -296,7 +311,8 @@ record Opens (rules : Rules) (s : Scene) : Type 0 where
   goes : (e : ClientWorldSimulations) → stopsOf (statusOf (s .worlds)) (snapshotOf s) (s .worlds) e ≡ false
 
 -- by the status and what is queued
-opens-by : (t : ReconciliationStatus) (q : Queued) (rules : Rules) (s : Scene) → statusOf (s .worlds) ≡ t → s .worlds .snapshots .queued ≡ q → levelBy t q ≡ true → Opens rules s
+opens-by : (t : ReconciliationStatus) (q : Queued) (rules : Rules) (s : Scene) → statusOf (s .worlds) ≡ t → s .worlds .snapshots .queued ≡ q
+    → levelBy t q ≡ true → Opens rules s
 unfolding frameOpened openedOf blendedOn loadedQueued stopsOf snapshotOf levelWeight
 opens-by AwaitingSnapshot Nothing rules s t e h =
     let p : Float = rules .progress in
@@ -333,7 +349,8 @@ module _ (rules : Rules) (s : Scene) (level : isLevel (s .worlds) (rules .m) ≡
   level-stops = opens .goes (frameOf rules s .scene .worlds)
 
   -- the steps of a level frame
-  level-steps : (k : ℕ) → rules .m ≡ k → simulatedOf k (reweighted (rules .progress) s) ≡ record { scene = levelled (reweighted (rules .progress) s); words = levelWords (s .worlds) }
+  level-steps : (k : ℕ) → rules .m ≡ k → simulatedOf k (reweighted (rules .progress) s) ≡ record
+      { scene = levelled (reweighted (rules .progress) s); words = levelWords (s .worlds) }
   unfolding levelWords newSideOf oldSideOf newStampOf oldStampOf worldOf
   level-steps zero e = absurd (parts .some e)
   level-steps (suc n) e = both-step (reweighted (rules .progress) s) (parts .stamps) (parts .left) (parts .right) n
@@ -351,25 +368,31 @@ module _ (rules : Rules) (s : Scene) (level : isLevel (s .worlds) (rules .m) ≡
   unfolding andThen oldStampOf worldOf oldSideOf
   level-stamp =
       let all : oldStampOf (frameOf rules s .scene .worlds) ≡ nextStamp (oldStampOf (s .worlds)) =
-      ap (λ (x : Played). oldStampOf (x .scene .worlds)) (sym level-frame) ∙ published-stays (levelled (reweighted (rules .progress) s)) .stamp ∙ sides-by (eqb (s .worlds .new) 0) (reweighted (rules .progress) s) refl .client in
+      ap (λ (x : Played). oldStampOf (x .scene .worlds)) (sym level-frame) ∙ published-stays (levelled (reweighted (rules .progress) s)) .stamp
+      ∙ sides-by (eqb (s .worlds .new) 0) (reweighted (rules .progress) s) refl .client in
       ap (λ (x : Timestamp). x .0) all
 
   -- the scene of a level frame as the code builds it: the stamp n, the weight t, the ledgers l and r, and the steps k
   level-scene : {n : Timestamp} {t : Float} {l r : Ledger} {k : ℕ}
-      → n .0 ≡ sumOf (worldStampOf (s .worlds .left) .0) 1 → t ≡ levelWeight (statusOf (s .worlds)) (s .worlds .weight) (rules .progress) → l ≡ applies (s .left) 0 0 → r ≡ applies (s .right) 0 0 → k ≡ (s .steps + 1) % 2 ^ 32
+      → n .0 ≡ sumOf (worldStampOf (s .worlds .left) .0) 1 → t ≡ levelWeight (statusOf (s .worlds)) (s .worlds .weight) (rules .progress)
+      → l ≡ applies (s .left) 0 0 → r ≡ applies (s .right) 0 0 → k ≡ (s .steps + 1) % 2 ^ 32
       → levelWith s n t l r k ≡ levelled (reweighted (rules .progress) s)
   level-scene {n} hn ht hl hr hk =
-      let right : n .0 ≡ sumOf (worldStampOf (s .worlds .right) .0) 1 = hn ∙ ap (λ (x : ℕ). sumOf x 1) (stamps-by (eqb (s .worlds .new) 0) (s .worlds) refl (parts .stamps)) in
+      let right : n .0 ≡ sumOf (worldStampOf (s .worlds .right) .0) 1 = hn
+      ∙ ap (λ (x : ℕ). sumOf x 1) (stamps-by (eqb (s .worlds .new) 0) (s .worlds) refl (parts .stamps)) in
       (λ i. levelAt s (record { 0 = hn i }) (record { 0 = right i }) (ht i) (hl i) (hr i) (hk i))
 
   -- a level frame as the code leaves it
   pub level-plays : {f : ReconciliationStatus} {n : Timestamp} {t : Float} {l r : Ledger} {k at q : ℕ} {was mid last : List ℕ} {a : Stated} {u : Scene}
       → f ≡ statusOf (s .worlds) → Puts was at (levelWords (s .worlds)) q mid
-      → n .0 ≡ sumOf (worldStampOf (s .worlds .left) .0) 1 → t ≡ levelWeight f (s .worlds .weight) (rules .progress) → l ≡ applies (s .left) 0 0 → r ≡ applies (s .right) 0 0 → k ≡ (s .steps + 1) % 2 ^ 32
+      → n .0 ≡ sumOf (worldStampOf (s .worlds .left) .0) 1 → t ≡ levelWeight f (s .worlds .weight) (rules .progress) → l ≡ applies (s .left) 0 0
+      → r ≡ applies (s .right) 0 0 → k ≡ (s .steps + 1) % 2 ^ 32
       → States (publishedBlended (levelWith s n t l r k)) (levelWith s n t l r k) mid q a last → u ≡ withState (levelWith s n t l r k) (a .state)
       → Plays (frameOf rules s) was at (record { scene = u; at = a .at }) last
   level-plays {f} {n} {t} {l} {r} {k} {at} {q} {was} {mid} hf hp hn ht hl hr hk ha hu =
       let e : Scene = levelWith s n t l r k in
-      let weight : t ≡ levelWeight (statusOf (s .worlds)) (s .worlds .weight) (rules .progress) = ht ∙ ap (λ (x : ReconciliationStatus). levelWeight x (s .worlds .weight) (rules .progress)) hf in
-      let steps : Plays (record { scene = levelled (reweighted (rules .progress) s); words = levelWords (s .worlds) }) was at (record { scene = e; at = q }) mid = record { scene = level-scene hn weight hl hr hk; puts = hp } in
+      let weight : t ≡ levelWeight (statusOf (s .worlds)) (s .worlds .weight) (rules .progress) = ht
+      ∙ ap (λ (x : ReconciliationStatus). levelWeight x (s .worlds .weight) (rules .progress)) hf in
+      let steps : Plays (record { scene = levelled (reweighted (rules .progress) s); words = levelWords (s .worlds) }) was at
+      (record { scene = e; at = q }) mid = record { scene = level-scene hn weight hl hr hk; puts = hp } in
       plays-as level-frame (plays-then publishedBlended steps (stated-plays e ha hu))

@@ -29,7 +29,8 @@ unfolding weightOk
 weight-down t hz h = ap (λ (b : Bool). b && le t (fin false 1 (pos 0))) (sym h) ∙ (λ i. le (hz i) t && le t (fin false 1 (pos 0)))
 
 -- the time between two stamps
-pub time-is : (b a : Timestamp) (t : Float) {x y : Float} {d : ℕ} → x ≡ floatOf (b .0) → d ≡ differenceOf (a .0) (b .0) → y ≡ floatOf d → add binary64 x (mul binary64 t y) ≡ timeOf b a t
+pub time-is : (b a : Timestamp) (t : Float) {x y : Float} {d : ℕ} → x ≡ floatOf (b .0) → d ≡ differenceOf (a .0) (b .0) → y ≡ floatOf d
+    → add binary64 x (mul binary64 t y) ≡ timeOf b a t
 unfolding timeOf
 time-is b a t hx hd hy = λ i. add binary64 (hx i) (mul binary64 t ((hy ∙ ap floatOf hd) i))
 
@@ -45,9 +46,11 @@ module _ (p : Published) (t : Float) where
   shown-once h k = λ i. displayedBy (sym h i) (sym k i) p t
 
   -- two states are published
-  pub shown-twice : {b a : Timestamp} {x : Float} → p .before ≡ Last b → p .after ≡ Last a → x ≡ timeOf b a t → _≡_ {A = Published} (record { before = Last b; after = Last a; time = DisplayedAt x }) (displayedOf p t)
+  pub shown-twice : {b a : Timestamp} {x : Float} → p .before ≡ Last b → p .after ≡ Last a → x ≡ timeOf b a t
+      → _≡_ {A = Published} (record { before = Last b; after = Last a; time = DisplayedAt x }) (displayedOf p t)
   unfolding displayedOf
-  shown-twice {b} {a} h k e = ap (λ (y : Float). record { before = Last b; after = Last a; time = DisplayedAt y }) e ∙ (λ i. displayedBy (sym h i) (sym k i) p t)
+  shown-twice {b} {a} h k e = ap (λ (y : Float). record { before = Last b; after = Last a; time = DisplayedAt y }) e
+      ∙ (λ i. displayedBy (sym h i) (sym k i) p t)
 
 pub ruleset shown-rules = (shown-never, shown-once, shown-twice)
 

@@ -41,7 +41,8 @@ side-states s side hw hs hd hp =
 
 -- a mix is published
 pub mix-states : (s : Scene) (weight : Float) {was last : List ℕ} {place p : ℕ} {stamp : Timestamp}
-    → stamp ≡ oldStampOf (s .worlds) → Puts was place (mixWords weight) p last → States (publishedMix s weight) s was place (record { state = Last stamp; at = p }) last
+    → stamp ≡ oldStampOf (s .worlds) → Puts was place (mixWords weight) p last
+    → States (publishedMix s weight) s was place (record { state = Last stamp; at = p }) last
 unfolding publishedMix
 mix-states s weight hs hp = record { scene = ap (λ (x : Timestamp). withState s (Last x)) hs; puts = hp }
 
@@ -51,12 +52,14 @@ mix-states s weight hs hp = record { scene = ap (λ (x : Timestamp). withState s
 init-is : (w : ClientWorldSimulations) {side k : ℕ} {x : Simulation} {b : Bool} → side ≡ k → x ≡ worldOf w side → x .init ≡ b → worldOf w k .init ≡ b
 init-is w hs hx hb = ap (λ (n : ℕ). worldOf w n .init) (sym hs) ∙ ap (λ (x : Simulation). x .init) (sym hx) ∙ hb
 
-module _ (s : Scene) {was last : List ℕ} {place side : ℕ} {r : Stated} {old : Simulation} (hs : side ≡ oldSideOf (s .worlds)) (ho : old ≡ worldOf (s .worlds) side) where
+module _ (s : Scene) {was last : List ℕ} {place side : ℕ} {r : Stated} {old : Simulation} (hs : side ≡ oldSideOf (s .worlds))
+    (ho : old ≡ worldOf (s .worlds) side) where
   -- the old world is published where it is initialised
   pub old-shown : old .init ≡ true → States (publishedSide s side) s was place r last → States (publishedOld s) s was place r last
   unfolding publishedOld
   old-shown hb h =
-      states-as (ap (publishedSide s) hs ∙ ap (λ (b : Bool). cond b (publishedSide s (oldSideOf (s .worlds))) (publishedNone s)) (sym (init-is (s .worlds) hs ho hb))) h
+      states-as (ap (publishedSide s) hs ∙ ap (λ (b : Bool). cond b (publishedSide s (oldSideOf (s .worlds))) (publishedNone s))
+      (sym (init-is (s .worlds) hs ho hb))) h
 
   -- and nothing where it is not
   pub old-none : old .init ≡ false → States (publishedNone s) s was place r last → States (publishedOld s) s was place r last
@@ -69,7 +72,8 @@ module _ (s : Scene) {was last : List ℕ} {place side : ℕ} {r : Stated} {old 
   unfolding publishedBlended
   blended-both hb h =
       states-as
-      (ap (λ (b : Bool). cond b (publishedBoth s) (cond (worldOf (s .worlds) (newSideOf (s .worlds)) .init) (publishedSide s (newSideOf (s .worlds))) (publishedNone s))) (sym (init-is (s .worlds) hs ho hb)))
+      (ap (λ (b : Bool). cond b (publishedBoth s) (cond (worldOf (s .worlds) (newSideOf (s .worlds)) .init) (publishedSide s (newSideOf (s .worlds)))
+      (publishedNone s))) (sym (init-is (s .worlds) hs ho hb)))
       h
 
   -- ---- the old world is not initialised
@@ -80,14 +84,16 @@ module _ (s : Scene) {was last : List ℕ} {place side : ℕ} {r : Stated} {old 
     blended-new hb h =
         states-as
         (ap (publishedSide s) hk
-        ∙ (λ i. cond (sym (init-is (s .worlds) hs ho hf) i) (publishedBoth s) (cond (sym (init-is (s .worlds) hk hn hb) i) (publishedSide s (newSideOf (s .worlds))) (publishedNone s))))
+        ∙ (λ i. cond (sym (init-is (s .worlds) hs ho hf) i) (publishedBoth s)
+        (cond (sym (init-is (s .worlds) hk hn hb) i) (publishedSide s (newSideOf (s .worlds))) (publishedNone s))))
         h
 
     -- and nothing where it is not either
     pub blended-none : new .init ≡ false → States (publishedNone s) s was place r last → States (publishedBlended s) s was place r last
     unfolding publishedBlended
     blended-none hb h =
-        states-as (λ i. cond (sym (init-is (s .worlds) hs ho hf) i) (publishedBoth s) (cond (sym (init-is (s .worlds) hk hn hb) i) (publishedSide s (newSideOf (s .worlds))) (publishedNone s))) h
+        states-as (λ i. cond (sym (init-is (s .worlds) hs ho hf) i) (publishedBoth s)
+        (cond (sym (init-is (s .worlds) hk hn hb) i) (publishedSide s (newSideOf (s .worlds))) (publishedNone s))) h
 
 -- ---- by the weight
 
@@ -113,17 +119,21 @@ bothBy s z n = cond z (publishedSide s (oldSideOf (s .worlds))) (cond n (publish
 
 module _ (s : Scene) {was last : List ℕ} {place : ℕ} {r : Stated} {none : Float} (hz : none ≡ fin false 0 (pos 0)) where
   -- weight 0
-  pub both-old : {side : ℕ} → eq (s .worlds .weight) none ≡ true → side ≡ oldSideOf (s .worlds) → States (publishedSide s side) s was place r last → States (publishedBoth s) s was place r last
+  pub both-old : {side : ℕ} → eq (s .worlds .weight) none ≡ true → side ≡ oldSideOf (s .worlds) → States (publishedSide s side) s was place r last
+      → States (publishedBoth s) s was place r last
   unfolding publishedBoth
   both-old he hs h =
-      states-as (ap (publishedSide s) hs ∙ ap (λ (b : Bool). bothBy s b (nearOne (s .worlds .weight))) (sym he) ∙ ap (λ (x : Float). bothBy s (eq (s .worlds .weight) x) (nearOne (s .worlds .weight))) hz) h
+      states-as (ap (publishedSide s) hs ∙ ap (λ (b : Bool). bothBy s b (nearOne (s .worlds .weight))) (sym he)
+      ∙ ap (λ (x : Float). bothBy s (eq (s .worlds .weight) x) (nearOne (s .worlds .weight))) hz) h
 
   module _ {near : Bool} (he : eq (s .worlds .weight) none ≡ false) (hn : near ≡ nearOne (s .worlds .weight)) where
     -- weight near 1
-    pub both-new : {side : ℕ} → near ≡ true → side ≡ newSideOf (s .worlds) → States (publishedSide s side) s was place r last → States (publishedBoth s) s was place r last
+    pub both-new : {side : ℕ} → near ≡ true → side ≡ newSideOf (s .worlds) → States (publishedSide s side) s was place r last
+        → States (publishedBoth s) s was place r last
     unfolding publishedBoth
     both-new ht hs h =
-        states-as (ap (publishedSide s) hs ∙ (λ i. bothBy s (sym he i) ((sym ht ∙ hn) i)) ∙ ap (λ (x : Float). bothBy s (eq (s .worlds .weight) x) (nearOne (s .worlds .weight))) hz) h
+        states-as (ap (publishedSide s) hs ∙ (λ i. bothBy s (sym he i) ((sym ht ∙ hn) i))
+        ∙ ap (λ (x : Float). bothBy s (eq (s .worlds .weight) x) (nearOne (s .worlds .weight))) hz) h
 
     -- any other weight
     pub both-mix : near ≡ false → States (publishedMix s (s .worlds .weight)) s was place r last → States (publishedBoth s) s was place r last

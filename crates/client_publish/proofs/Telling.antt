@@ -1,4 +1,5 @@
--- What is published, case by case: every publish leaves one state and tells it in one of three ways. Who shows a thing of these has it of all that a frame publishes. Assumes nothing.
+-- What is published, case by case: every publish leaves one state and tells it in one of three ways. Who shows a thing of these has it of all that a frame
+-- publishes. Assumes nothing.
 use mathlib.Core.Bool.{Bool, true, false, cond}
 use mathlib.Core.List.{List, [], _∷_}
 use Prim.Native.Nat.{ℕ}

@@ -55,4 +55,5 @@ endingWith w b l p =
 
 -- what every update ends with, at a shaped weight and a lag in frames
 unfoldable pub postUpdateOf : ClientWorldSimulations → Float → ℕ → ClientWorldSimulations
-postUpdateOf w t lag = endingWith w (movedOf (w .base) (oldStampOf w) .buffer) (revisedOf (w .snapshots .lastqueued) (oldStampOf w) lag) (displayedOf (w .published) t)
+postUpdateOf w t lag = endingWith w (movedOf (w .base) (oldStampOf w) .buffer) (revisedOf (w .snapshots .lastqueued) (oldStampOf w) lag)
+    (displayedOf (w .published) t)

@@ -1,7 +1,8 @@
 // What a frame publishes: the old world, the new one, a mix of both, or nothing (src/world/display_state.rs of crystalorb).
 ghost use mathlib.Core.Path.{_≡_};
 ghost use Prim.Native.Nat.{_<_};
-ghost use Rattle.client_publish.specs.Publish.{withState, publishedNone, publishedSide, publishedMix, publishedOld, nearOne, publishedBoth, publishedBlended};
+ghost use Rattle.client_publish.specs.Publish.{withState, publishedNone, publishedSide, publishedMix, publishedOld, nearOne, publishedBoth};
+ghost use Rattle.client_publish.specs.Publish.{publishedBlended};
 ghost use Rattle.client_publish.specs.Inner.{States};
 use client::ClientWorldSimulations;
 use client::LastStamp;

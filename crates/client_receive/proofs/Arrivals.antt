@@ -55,11 +55,14 @@ received s i a b f = record { scene = offered s i a b (takes (s .left) (takenBy 
 
 -- the command goes to all three, whichever side is new
 received-by : (s : Scene) (e : Entry) (new : Bool) → eqb (s .worlds .new) 0 ≡ new
-    → received s (insertedOf (s .worlds .base) e) (scheduledOf (s .worlds .left) e) (scheduledOf (s .worlds .right) e) (anyFull (insertedOf (s .worlds .base) e .outcome) (scheduledOf (s .worlds .left) e .outcome) (scheduledOf (s .worlds .right) e .outcome)) ≡ receivedOf s e
+    → received s (insertedOf (s .worlds .base) e) (scheduledOf (s .worlds .left) e) (scheduledOf (s .worlds .right) e)
+    (anyFull (insertedOf (s .worlds .base) e .outcome) (scheduledOf (s .worlds .left) e .outcome) (scheduledOf (s .worlds .right) e .outcome))
+    ≡ receivedOf s e
 unfolding received receivedOf offeredBase offeredSide newSideOf oldSideOf worldOf withWorld withLedger ledgerOf anyFull
 received-by s e true h =
     rw h
-    (ap (λ (x : Bool). received s (insertedOf (s .worlds .base) e) (scheduledOf (s .worlds .left) e) (scheduledOf (s .worlds .right) e) (fullBy (insertedOf (s .worlds .base) e .outcome) || x))
+    (ap (λ (x : Bool). received s (insertedOf (s .worlds .base) e) (scheduledOf (s .worlds .left) e) (scheduledOf (s .worlds .right) e)
+    (fullBy (insertedOf (s .worlds .base) e .outcome) || x))
     (or-swap (fullBy (scheduledOf (s .worlds .left) e .outcome)) (fullBy (scheduledOf (s .worlds .right) e .outcome))))
 received-by s e false h = rw h refl
 
@@ -115,7 +118,8 @@ module _ (s : Snapshots) (old t : Timestamp) (h : ℕ) where
   snapshots-fresh hf e hg d = snapshots-is (sym hf ∙ e) (sym hg ∙ d)
 
   -- a stale one
-  pub snapshots-stale : {f g : Bool} {l : LastStamp} → f ≡ fromFutureOf t old → f ≡ false → g ≡ freshOf (s .lastqueued) t → g ≡ false → l ≡ notedOf (s .queued) (s .lastqueued)
+  pub snapshots-stale : {f g : Bool} {l : LastStamp} → f ≡ fromFutureOf t old → f ≡ false → g ≡ freshOf (s .lastqueued) t → g ≡ false
+      → l ≡ notedOf (s .queued) (s .lastqueued)
       → _≡_ {A = Snapshots} (record { queued = s .queued; lastqueued = l; lastreceived = Last t }) (snapshotsOf s old t h)
   unfolding snapshotsBy
   snapshots-stale hf e hg d hl =

@@ -46,7 +46,8 @@ offeredBase s e =
 unfoldable pub offeredSide : Scene → ℕ → Entry → Received
 offeredSide s side e =
     record {
-      scene = withLedger (withWorlds s (withWorld (s .worlds) side (scheduledOf (worldOf (s .worlds) side) e .world))) side (takes (ledgerOf s side) (takenBy (scheduledOf (worldOf (s .worlds) side) e .outcome)));
+      scene = withLedger (withWorlds s (withWorld (s .worlds) side (scheduledOf (worldOf (s .worlds) side) e .world))) side
+          (takes (ledgerOf s side) (takenBy (scheduledOf (worldOf (s .worlds) side) e .outcome)));
       full = fullBy (scheduledOf (worldOf (s .worlds) side) e .outcome);
     }
 

@@ -33,19 +33,23 @@ pub reset-plays : (s : Scene) (side : ℕ) (t : Timestamp) {was last : List ℕ}
 unfolding resetSide
 reset-plays s side t hw h e = plays-as (ap (λ (x : Simulation). doneAt s side (resetOf x t side)) hw) (plays-done s side h e)
 
-module _ (s : Scene) (t : Timestamp) {was : List ℕ} {place : ℕ} {old new : Timestamp} (ho : old ≡ oldStampOf (s .worlds)) (hn : new ≡ newStampOf (s .worlds)) where
+module _ (s : Scene) (t : Timestamp) {was : List ℕ} {place : ℕ} {old new : Timestamp} (ho : old ≡ oldStampOf (s .worlds))
+    (hn : new ≡ newStampOf (s .worlds)) where
   -- the new world goes along where the stamps are equal
-  pub along-plays : {last : List ℕ} {side : ℕ} {r : Shown} → new .0 ≡ old .0 → side ≡ newSideOf (s .worlds) → Plays (resetSide s side t) was place r last → Plays (resetAlong s t) was place r last
+  pub along-plays : {last : List ℕ} {side : ℕ} {r : Shown} → new .0 ≡ old .0 → side ≡ newSideOf (s .worlds)
+      → Plays (resetSide s side t) was place r last → Plays (resetAlong s t) was place r last
   unfolding resetAlong
   along-plays he hs h =
-      let b : eqb (newStampOf (s .worlds) .0) (oldStampOf (s .worlds) .0) ≡ true = eq-eqb _ _ (ap (λ (x : Timestamp). x .0) (sym hn) ∙ he ∙ ap (λ (x : Timestamp). x .0) ho) in
+      let b : eqb (newStampOf (s .worlds) .0) (oldStampOf (s .worlds) .0) ≡ true =
+      eq-eqb _ _ (ap (λ (x : Timestamp). x .0) (sym hn) ∙ he ∙ ap (λ (x : Timestamp). x .0) ho) in
       plays-as (ap (λ (n : ℕ). resetSide s n t) hs ∙ ap (λ (x : Bool). cond x (resetSide s (newSideOf (s .worlds)) t) (still s)) (sym b)) h
 
   -- and stays where they are not
   pub along-stays : (new .0 ≡ old .0 → ⊥) → Plays (resetAlong s t) was place (record { scene = s; at = place }) was
   unfolding resetAlong
   along-stays he =
-      let b : eqb (newStampOf (s .worlds) .0) (oldStampOf (s .worlds) .0) ≡ false = ne-eqb _ _ (λ e. he (ap (λ (x : Timestamp). x .0) hn ∙ e ∙ ap (λ (x : Timestamp). x .0) (sym ho))) in
+      let b : eqb (newStampOf (s .worlds) .0) (oldStampOf (s .worlds) .0) ≡ false =
+      ne-eqb _ _ (λ e. he (ap (λ (x : Timestamp). x .0) hn ∙ e ∙ ap (λ (x : Timestamp). x .0) (sym ho))) in
       plays-as (ap (λ (x : Bool). cond x (resetSide s (newSideOf (s .worlds)) t) (still s)) (sym b)) (plays-still s was place)
 
 -- the order of the stamps tells whether a skip goes back
@@ -65,16 +69,19 @@ module _ (t old : Timestamp) {o : Ordering} (h : o ≡ orderOf (t .0) (old .0)) 
 pub ruleset skips-rules = (skips-less, skips-equal, skips-greater)
 
 -- the base is emptied
-pub emptied-is : (s : Scene) {back : Bool} {d : Drained} → back ≡ true → d ≡ drainedAllOf (s .worlds .base) → withWorlds s (withBase (s .worlds) (d .buffer)) ≡ emptiedBase back s
+pub emptied-is : (s : Scene) {back : Bool} {d : Drained} → back ≡ true → d ≡ drainedAllOf (s .worlds .base)
+    → withWorlds s (withBase (s .worlds) (d .buffer)) ≡ emptiedBase back s
 emptied-is s hb hd = ap (λ (x : Drained). withWorlds s (withBase (s .worlds) (x .buffer))) hd ∙ ap (λ (b : Bool). emptiedBase b s) (sym hb)
 
 -- a skip
 pub skip-plays : (s : Scene) (t : Timestamp) {was mid last : List ℕ} {place side : ℕ} {old : Timestamp} {a b : Shown} {back : Bool} {u : Scene}
-    → old ≡ oldStampOf (s .worlds) → Plays (resetAlong s t) was place a mid → side ≡ oldSideOf (s .worlds) → Plays (resetSide (a .scene) side t) mid (a .at) b last
+    → old ≡ oldStampOf (s .worlds) → Plays (resetAlong s t) was place a mid → side ≡ oldSideOf (s .worlds)
+    → Plays (resetSide (a .scene) side t) mid (a .at) b last
     → back ≡ skipsBack t old → u ≡ emptiedBase back (b .scene) → Plays (skippedOf s t) was place (record { scene = u; at = b .at }) last
 unfolding skippedOf resetBoth
 skip-plays s t {was} {mid} {last} {place} {side} {old} {a} {b} ho h hs k hb hu =
-    let both : Plays (resetBoth s t) was place b last = plays-then (λ (x : Scene). resetSide x (oldSideOf (s .worlds)) t) h (plays-as (ap (λ (n : ℕ). resetSide (a .scene) n t) hs) k) in
+    let both : Plays (resetBoth s t) was place b last = plays-then (λ (x : Scene). resetSide x (oldSideOf (s .worlds)) t) h
+    (plays-as (ap (λ (n : ℕ). resetSide (a .scene) n t) hs) k) in
     record {
       scene = hu ∙ (λ i. emptiedBase ((hb ∙ ap (skipsBack t) ho) i) (both .scene i));
       puts = both .puts;
@@ -83,7 +90,8 @@ skip-plays s t {was} {mid} {last} {place} {side} {old} {a} {b} ho h hs k hb hu =
 -- ---- how many words
 
 -- the buffer of the world of a side has its 64 slots where those of both worlds have
-world-full : (w : ClientWorldSimulations) (side : ℕ) → length (w .left .commands .entries) ≡ 64 → length (w .right .commands .entries) ≡ 64 → length (worldOf w side .commands .entries) ≡ 64
+world-full : (w : ClientWorldSimulations) (side : ℕ) → length (w .left .commands .entries) ≡ 64 → length (w .right .commands .entries) ≡ 64
+    → length (worldOf w side .commands .entries) ≡ 64
 unfolding worldOf
 world-full w side hl hr = go (eqb side 0)
   where
@@ -102,5 +110,6 @@ along-few s t full = go (eqb (newStampOf (s .worlds) .0) (oldStampOf (s .worlds)
 
 -- so the next place is near
 pub along-near : (s : Scene) (t : Timestamp) {was last : List ℕ} {place : ℕ} {r : Shown}
-    → length (s .worlds .left .commands .entries) ≡ 64 → length (s .worlds .right .commands .entries) ≡ 64 → Plays (resetAlong s t) was place r last → r .at ≤ place + 64
+    → length (s .worlds .left .commands .entries) ≡ 64 → length (s .worlds .right .commands .entries) ≡ 64 → Plays (resetAlong s t) was place r last
+    → r .at ≤ place + 64
 along-near s t hl hr h = omega (arith, h .puts .at, along-few s t (world-full (s .worlds) (newSideOf (s .worlds)) hl hr))

@@ -17,7 +17,8 @@ use Rattle.clocksync.specs.Clock.{laidOut, samplesOk, sampleOk}
 
 -- a store at the first unused slot lays out the list with one element more
 module _ {A : Type 0} where
-  pub pad-push : (n : ℕ) (z : A) (xs : List A) (x : A) → length xs < n → set (xs ++ replicate (n - length xs) z) (length xs) x ≡ (xs ++ (x ∷ [])) ++ replicate (n - length (xs ++ (x ∷ []))) z
+  pub pad-push : (n : ℕ) (z : A) (xs : List A) (x : A) → length xs < n
+      → set (xs ++ replicate (n - length xs) z) (length xs) x ≡ (xs ++ (x ∷ [])) ++ replicate (n - length (xs ++ (x ∷ []))) z
   pad-push zero z xs x h = absurd (not-suc-le-zero h)
   pad-push (suc n) z [] x h = simp unary-clauses
   pad-push (suc n) z (y ∷ xs) x h = simp unary-clauses (ap (λ (l : List A). y ∷ l) (pad-push n z xs x (le-of-suc-le-suc h)))
@@ -125,7 +126,8 @@ unfolding placeOf sampleInserted
 inserted-at x [] = refl
 inserted-at x (y ∷ ys) = go (lt x y) (inserted-at x ys)
   where
-    go : (b : Bool) → sampleInserted x ys ≡ take (placeOf x ys) ys ++ (x ∷ drop (placeOf x ys) ys) → cond b (x ∷ y ∷ ys) (y ∷ sampleInserted x ys) ≡ take (cond b 0 (suc (placeOf x ys))) (y ∷ ys) ++ (x ∷ drop (cond b 0 (suc (placeOf x ys))) (y ∷ ys))
+    go : (b : Bool) → sampleInserted x ys ≡ take (placeOf x ys) ys ++ (x ∷ drop (placeOf x ys) ys)
+        → cond b (x ∷ y ∷ ys) (y ∷ sampleInserted x ys) ≡ take (cond b 0 (suc (placeOf x ys))) (y ∷ ys) ++ (x ∷ drop (cond b 0 (suc (placeOf x ys))) (y ∷ ys))
     go true h = refl
     go false h = ap (λ (l : List Float). y ∷ l) h
 
@@ -136,11 +138,13 @@ pub record Moving (target : List Float) (n : ℕ) (out : List Float) (moved : Fl
   pub few : n < 64
   pub long : length out ≡ 64
 
-pub moving-start : (x : Float) (n p : ℕ) (xs : List Float) → p ≡ placeOf x (take n xs) → n < 64 → length xs ≡ 64 → Moving (sampleInserted x (take n xs)) n xs x p
+pub moving-start : (x : Float) (n p : ℕ) (xs : List Float) → p ≡ placeOf x (take n xs) → n < 64 → length xs ≡ 64
+    → Moving (sampleInserted x (take n xs)) n xs x p
 moving-start x n p xs e f l =
     let m : placeOf x (take n xs) ≤ n = omega (arith, place-most x (take n xs), length-take n xs) in
     record {
-      whole = rw e (ap (λ (ys : List Float). ys ++ (x ∷ slice (placeOf x (take n xs)) n xs)) (sym (take-take (placeOf x (take n xs)) n xs m)) ∙ sym (inserted-at x (take n xs)));
+      whole = rw e (ap (λ (ys : List Float). ys ++ (x ∷ slice (placeOf x (take n xs)) n xs)) (sym (take-take (placeOf x (take n xs)) n xs m))
+          ∙ sym (inserted-at x (take n xs)));
       high = omega (arith, m, e);
       few = f;
       long = l;
@@ -150,10 +154,12 @@ module _ {target : List Float} {n : ℕ} {out : List Float} {moved : Float} {i :
   pub moving-next : i < n → Moving target n (set out i moved) (getD out i nan) (i + 1)
   moving-next h =
       let a : take (suc i) (set out i moved) ≡ take i out ++ (moved ∷ []) = take-suc-set out i moved (omega (arith, s .few, s .long)) in
-      let b : slice (suc i) n (set out i moved) ≡ slice (suc i) n out = ap (drop (suc i)) (take-set-lt n out i moved h) ∙ drop-set-lt (suc i) (take n out) i moved (omega arith) in
+      let b : slice (suc i) n (set out i moved) ≡ slice (suc i) n out = ap (drop (suc i)) (take-set-lt n out i moved h)
+      ∙ drop-set-lt (suc i) (take n out) i moved (omega arith) in
       let c : slice i n out ≡ getD out i nan ∷ slice (suc i) n out = slice-cons i n out nan h (omega (arith, s .few, s .long)) in
       record {
-        whole = rw (add-one i, a, b) (append-assoc (take i out) (moved ∷ []) (getD out i nan ∷ slice (suc i) n out) ∙ ap (λ (l : List Float). take i out ++ (moved ∷ l)) (sym c) ∙ s .whole);
+        whole = rw (add-one i, a, b) (append-assoc (take i out) (moved ∷ []) (getD out i nan ∷ slice (suc i) n out)
+            ∙ ap (λ (l : List Float). take i out ++ (moved ∷ l)) (sym c) ∙ s .whole);
         high = omega arith;
         few = s .few;
         long = length-set out i moved ∙ s .long;

@@ -71,7 +71,9 @@ added-keeps : (s : Settings) (c : Clock) (x : Float) → hasOffset (c .offset) �
 unfolding filledOf
 added-keeps s c x h = go (ltb (length (heldOf c ++ (x ∷ []))) (samplesToStoreOf s))
   where
-    go : (b : Bool) → hasOffset (cond {A = Clock} b (sampledOf c (c .offset) (heldOf c ++ (x ∷ []))) (sampledOf c (offsetAfter (c .offset) (meanOf (samplesToDiscardOf s) (heldOf c ++ (x ∷ []))) (s .deviation)) (drop 1 (heldOf c ++ (x ∷ [])))) .offset) ≡ true
+    go : (b : Bool) → hasOffset (cond {A = Clock} b (sampledOf c (c .offset) (heldOf c ++ (x ∷ [])))
+        (sampledOf c (offsetAfter (c .offset) (meanOf (samplesToDiscardOf s) (heldOf c ++ (x ∷ []))) (s .deviation))
+        (drop 1 (heldOf c ++ (x ∷ [])))) .offset) ≡ true
     go true = h
     go false = synced-keeps (c .offset) (meanOf (samplesToDiscardOf s) (heldOf c ++ (x ∷ []))) (s .deviation)
 
@@ -79,7 +81,9 @@ added-id : (s : Settings) (c : Clock) (x : Float) → addedOf s c x .id ≡ c .i
 unfolding filledOf
 added-id s c x = go (ltb (length (heldOf c ++ (x ∷ []))) (samplesToStoreOf s))
   where
-    go : (b : Bool) → cond {A = Clock} b (sampledOf c (c .offset) (heldOf c ++ (x ∷ []))) (sampledOf c (offsetAfter (c .offset) (meanOf (samplesToDiscardOf s) (heldOf c ++ (x ∷ []))) (s .deviation)) (drop 1 (heldOf c ++ (x ∷ [])))) .id ≡ c .id
+    go : (b : Bool) → cond {A = Clock} b (sampledOf c (c .offset) (heldOf c ++ (x ∷ [])))
+        (sampledOf c (offsetAfter (c .offset) (meanOf (samplesToDiscardOf s) (heldOf c ++ (x ∷ []))) (s .deviation))
+        (drop 1 (heldOf c ++ (x ∷ [])))) .id ≡ c .id
     go true = refl
     go false = refl
 
@@ -115,7 +119,8 @@ module _ (c : Clock) (period delta : Float) where
   unfolding tickedOf
   ticked-offset = go (lt period (add binary64 (c .timer) delta)) (add binary64 (c .timer) delta)
     where
-      go : (b : Bool) (t : Float) → cond {A = Ticked} b (record { clock = timedOf c zero64; request = true }) (record { clock = timedOf c t; request = false }) .clock .offset ≡ c .offset
+      go : (b : Bool) (t : Float) → cond {A = Ticked} b (record { clock = timedOf c zero64; request = true })
+          (record { clock = timedOf c t; request = false }) .clock .offset ≡ c .offset
       go true t = refl
       go false t = refl
 

@@ -1,4 +1,5 @@
--- The offset of a clock message against RFC 5905: without rounding the Rust's operations give its offset with T2 = T3, and the code's float is what they give with each result rounded. Assumes nothing.
+-- The offset of a clock message against RFC 5905: without rounding the Rust's operations give its offset with T2 = T3, and the code's float is what they give
+-- with each result rounded. Assumes nothing.
 use mathlib.Core.Path.{_≡_, refl, ap}
 use Prim.Native.Nat.{ℕ, _+_, _*_, _≤_, _^_}
 use native.Mathlib.Nat.{mul-le-mul-right}
@@ -34,11 +35,17 @@ unfolding offsetBy thetaOf
 exact-offset a s b = go (a .p) (a .n) (a .d) (s .p) (s .n) (s .d) (b .p) (b .n) (b .d)
   where
     go : (fp fn fd sp sn sd bp bn bd : ℕ) →
-        ((sp * (fd * bd * 2) + (fn * bd + bn * fd) * sd) * (sd * fd * (sd * bd) * 2) + ((sn * fd + fp * sd) * (sd * bd) + (sn * bd + bp * sd) * (sd * fd)) * (sd * (fd * bd * 2)) ≤ ((sp * fd + fn * sd) * (sd * bd) + (sp * bd + bn * sd) * (sd * fd)) * (sd * (fd * bd * 2)) + (sn * (fd * bd * 2) + (fp * bd + bp * fd) * sd) * (sd * fd * (sd * bd) * 2))
-        × (((sp * fd + fn * sd) * (sd * bd) + (sp * bd + bn * sd) * (sd * fd)) * (sd * (fd * bd * 2)) + (sn * (fd * bd * 2) + (fp * bd + bp * fd) * sd) * (sd * fd * (sd * bd) * 2) ≤ (sp * (fd * bd * 2) + (fn * bd + bn * fd) * sd) * (sd * fd * (sd * bd) * 2) + ((sn * fd + fp * sd) * (sd * bd) + (sn * bd + bp * sd) * (sd * fd)) * (sd * (fd * bd * 2)))
+        ((sp * (fd * bd * 2) + (fn * bd + bn * fd) * sd) * (sd * fd * (sd * bd) * 2)
+        + ((sn * fd + fp * sd) * (sd * bd) + (sn * bd + bp * sd) * (sd * fd)) * (sd * (fd * bd * 2)) ≤
+        ((sp * fd + fn * sd) * (sd * bd) + (sp * bd + bn * sd) * (sd * fd)) * (sd * (fd * bd * 2)) + (sn * (fd * bd * 2) + (fp * bd + bp * fd) * sd)
+        * (sd * fd * (sd * bd) * 2))
+        × (((sp * fd + fn * sd) * (sd * bd) + (sp * bd + bn * sd) * (sd * fd)) * (sd * (fd * bd * 2)) + (sn * (fd * bd * 2) + (fp * bd + bp * fd) * sd)
+        * (sd * fd * (sd * bd) * 2) ≤ (sp * (fd * bd * 2) + (fn * bd + bn * fd) * sd) * (sd * fd * (sd * bd) * 2)
+        + ((sn * fd + fp * sd) * (sd * bd) + (sn * bd + bp * sd) * (sd * fd)) * (sd * (fd * bd * 2)))
     go fp fn fd sp sn sd bp bn bd =
         scaled (sp * (fd * bd * 2) + (fn * bd + bn * fd) * sd) (sn * (fd * bd * 2) + (fp * bd + bp * fd) * sd) (sd * (fd * bd * 2))
-        ((sp * fd + fn * sd) * (sd * bd) + (sp * bd + bn * sd) * (sd * fd)) ((sn * fd + fp * sd) * (sd * bd) + (sn * bd + bp * sd) * (sd * fd)) (sd * fd * (sd * bd) * 2) sd
+        ((sp * fd + fn * sd) * (sd * bd) + (sp * bd + bn * sd) * (sd * fd)) ((sn * fd + fp * sd) * (sd * bd) + (sn * bd + bp * sd) * (sd * fd))
+        (sd * fd * (sd * bd) * 2) sd
         (omega arith) (omega arith) (omega arith)
 
 -- ---- with each result rounded
@@ -53,7 +60,8 @@ value-of x q p s =
 less-right : (a b c : Q) → Le b c → Le (subQ a c) (subQ a b)
 less-right a b c h = go (a .p) (a .n) (a .d) (b .p) (b .n) (b .d) (c .p) (c .n) (c .d) (mul-le-mul-right (a .d * a .d) h)
   where
-    go : (p n d q m e r k g : ℕ) → (q * g + k * e) * (d * d) ≤ (r * e + m * g) * (d * d) → (p * g + k * d) * (d * e) + (n * e + q * d) * (d * g) ≤ (p * e + m * d) * (d * g) + (n * g + r * d) * (d * e)
+    go : (p n d q m e r k g : ℕ) → (q * g + k * e) * (d * d) ≤ (r * e + m * g) * (d * d)
+        → (p * g + k * d) * (d * e) + (n * e + q * d) * (d * g) ≤ (p * e + m * d) * (d * g) + (n * g + r * d) * (d * e)
     go p n d q m e r k g h = omega arith
 
 half-same : (a b : Q) → Le a b → Le (halfQ a) (halfQ b)
@@ -66,11 +74,13 @@ half-same a b h = go (a .p) (a .n) (a .d) (b .p) (b .n) (b .d) h
 quotient-half : (a : Q) → Eqv (divQ a two64 tt) (halfQ a)
 quotient-half a = go (a .p) (a .n) (a .d)
   where
-    go : (p n d : ℕ) → (p * 1 * (d * 2) + n * (1 * 2 * d) ≤ p * (1 * 2 * d) + n * 1 * (d * 2)) × (p * (1 * 2 * d) + n * 1 * (d * 2) ≤ p * 1 * (d * 2) + n * (1 * 2 * d))
+    go : (p n d : ℕ) → (p * 1 * (d * 2) + n * (1 * 2 * d) ≤ p * (1 * 2 * d) + n * 1 * (d * 2))
+        × (p * (1 * 2 * d) + n * 1 * (d * 2) ≤ p * 1 * (d * 2) + n * (1 * 2 * d))
     go p n d = (omega arith, omega arith)
 
 -- of times within 2^32, the code's offset is what the operations give on the exact times, each result rounded to binary64
-pub rounded-offset : (send server received : Float) → Within send (2 ^ 32) → Within server (2 ^ 32) → Within received (2 ^ 32) → Eqv (val (offsetOf send server received)) (offsetBy roundQ (val send) (val server) (val received))
+pub rounded-offset : (send server received : Float) → Within send (2 ^ 32) → Within server (2 ^ 32) → Within received (2 ^ 32)
+    → Eqv (val (offsetOf send server received)) (offsetBy roundQ (val send) (val server) (val received))
 unfolding offsetOf offsetBy
 rounded-offset a s b A S B =
     let t = add binary64 a b in
@@ -84,8 +94,13 @@ rounded-offset a s b A S B =
     let q2 = halfQ (roundQ q1) in
     let d2 = divQ (val t) two64 tt in
     let k2 = quotient-half (val t) in
-    let g2 : Eqv d2 q2 = (q-le-trans d2 (halfQ (val t)) q2 (k2 .0) (half-same (val t) (roundQ q1) (e1 .0)), q-le-trans q2 (halfQ (val t)) d2 (half-same (roundQ q1) (val t) (e1 .1)) (k2 .1)) in
-    let e2 : Eqv (val h) (roundQ q2) = value-of h q2 (wh .0) (same-trans h (rnd binary64 d2) (rnd binary64 q2) (div-is-rounded binary64 t two64 (wt .0) tt) (rnd-same binary64 d2 q2 g2)) in
+    let g2 : Eqv d2 q2 = (
+      q-le-trans d2 (halfQ (val t)) q2 (k2 .0) (half-same (val t) (roundQ q1) (e1 .0)),
+      q-le-trans q2 (halfQ (val t)) d2
+          (half-same (roundQ q1) (val t) (e1 .1)) (k2 .1),
+    ) in
+    let e2 : Eqv (val h) (roundQ q2) = value-of h q2 (wh .0) (same-trans h (rnd binary64 d2) (rnd binary64 q2)
+    (div-is-rounded binary64 t two64 (wt .0) tt) (rnd-same binary64 d2 q2 g2)) in
     let q3 = subQ (val s) (roundQ q2) in
     let d3 = subQ (val s) (val h) in
     let g3 : Eqv d3 q3 = (less-right (val s) (roundQ q2) (val h) (e2 .1), less-right (val s) (val h) (roundQ q2) (e2 .0)) in

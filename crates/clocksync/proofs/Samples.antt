@@ -68,22 +68,27 @@ module _ (xs ordered : List Float) (len d : ℕ) {n : ℕ} (full : length xs ≡
       ap (drop d) (g ∙ ap (λ (k : ℕ). take k (sortedOf (take len xs))) h)
 
   inner-length : {end : ℕ} → end ≡ n - d → length (innerOf d (sortedOf (take len xs))) ≡ end - d
-  inner-length e = length-drop d (take (length (sortedOf (take len xs)) - d) (sortedOf (take len xs))) ∙ ap (λ (k : ℕ). k - d) (length-take (length (sortedOf (take len xs)) - d) (sortedOf (take len xs))) ∙ omega (arith, many, e)
+  inner-length e = length-drop d (take (length (sortedOf (take len xs)) - d) (sortedOf (take len xs)))
+      ∙ ap (λ (k : ℕ). k - d) (length-take (length (sortedOf (take len xs)) - d) (sortedOf (take len xs))) ∙ omega (arith, many, e)
 
   -- the sum of those inside, over their number
-  pub mean-is : {end count : ℕ} {sum over : Float} → end ≡ n - d → sum ≡ sumFrom zero64 (drop d (take end ordered)) → count ≡ end - d → over ≡ ofInt binary64 (pos count) → div binary64 sum over ≡ meanOf d (take len xs)
+  pub mean-is : {end count : ℕ} {sum over : Float} → end ≡ n - d → sum ≡ sumFrom zero64 (drop d (take end ordered)) → count ≡ end - d
+      → over ≡ ofInt binary64 (pos count) → div binary64 sum over ≡ meanOf d (take len xs)
   unfolding meanOf averageOf
   mean-is {end} {count} {sum} {over} e s k o =
       ap (λ (y : Float). div binary64 y over) (s ∙ ap (sumFrom zero64) (inner-is e))
-      ∙ ap (λ (y : Float). div binary64 (sumFrom zero64 (innerOf d (sortedOf (take len xs)))) y) (o ∙ ap (λ (m : ℕ). ofInt binary64 (pos m)) (k ∙ sym (inner-length e)))
+      ∙ ap (λ (y : Float). div binary64 (sumFrom zero64 (innerOf d (sortedOf (take len xs)))) y)
+      (o ∙ ap (λ (m : ℕ). ofInt binary64 (pos m)) (k ∙ sym (inner-length e)))
 
 -- ---- one sample more
 
 -- clocks are equal by their parts
-same-clock : {o p : Offset} {xs ys : List Float} {m n : ℕ} (t : Float) (i : ClientId) → o ≡ p → xs ≡ ys → m ≡ n → _≡_ {A = Clock} (record { offset = o; samples = xs; len = m; timer = t; id = i }) (record { offset = p; samples = ys; len = n; timer = t; id = i })
+same-clock : {o p : Offset} {xs ys : List Float} {m n : ℕ} (t : Float) (i : ClientId) → o ≡ p → xs ≡ ys → m ≡ n
+    → _≡_ {A = Clock} (record { offset = o; samples = xs; len = m; timer = t; id = i }) (record { offset = p; samples = ys; len = n; timer = t; id = i })
 same-clock t i a b c = λ k. record { offset = a k; samples = b k; len = c k; timer = t; id = i }
 
-module _ (s : Settings) (c : Clock) (x : Float) {n : ℕ} {laid : List Float} (full : length (c .samples) ≡ 64) (cut : n ≡ min (c .len) 63) (base : laid ≡ laidOut (slice 0 n (c .samples))) where
+module _ (s : Settings) (c : Clock) (x : Float) {n : ℕ} {laid : List Float} (full : length (c .samples) ≡ 64) (cut : n ≡ min (c .len) 63)
+    (base : laid ≡ laidOut (slice 0 n (c .samples))) where
   held-is : slice 0 n (c .samples) ≡ heldOf c
   unfolding heldOf
   held-is = ap (λ (k : ℕ). take k (c .samples)) cut
@@ -101,26 +106,34 @@ module _ (s : Settings) (c : Clock) (x : Float) {n : ℕ} {laid : List Float} (f
       ap (λ (l : List Float). set l n x) (base ∙ ap laidOut held-is) ∙ ap (λ (k : ℕ). set (laidOut (heldOf c)) k x) (sym held-length) ∙ laid-push (heldOf c) x h
 
   -- fewer than are stored
-  pub added-few : {store : ℕ} → store ≡ samplesToStoreOf s → n + 1 < store → _≡_ {A = Clock} (record { offset = c .offset; samples = set laid n x; len = n + 1; timer = c .timer; id = c .id }) (addedOf s c x)
+  pub added-few : {store : ℕ} → store ≡ samplesToStoreOf s → n + 1 < store
+      → _≡_ {A = Clock} (record { offset = c .offset; samples = set laid n x; len = n + 1; timer = c .timer; id = c .id }) (addedOf s c x)
   unfolding filledOf
   added-few e h =
       let xs = heldOf c ++ (x ∷ []) in
-      let t : ltb (length (heldOf c ++ (x ∷ []))) (samplesToStoreOf s) ≡ true = lt-ltb (length (heldOf c ++ (x ∷ []))) (samplesToStoreOf s) (omega (arith, all-length, e)) in
+      let t : ltb (length (heldOf c ++ (x ∷ []))) (samplesToStoreOf s) ≡ true =
+      lt-ltb (length (heldOf c ++ (x ∷ []))) (samplesToStoreOf s) (omega (arith, all-length, e)) in
       same-clock (c .timer) (c .id) refl all-is (sym all-length)
-      ∙ sym (ap (λ (b : Bool). cond b (sampledOf c (c .offset) xs) (sampledOf c (offsetAfter (c .offset) (meanOf (samplesToDiscardOf s) xs) (s .deviation)) (drop 1 xs))) t)
+      ∙ sym (ap (λ (b : Bool). cond b (sampledOf c (c .offset) xs)
+      (sampledOf c (offsetAfter (c .offset) (meanOf (samplesToDiscardOf s) xs) (s .deviation)) (drop 1 xs))) t)
 
   all-back : take (n + 1) (set laid n x) ≡ heldOf c ++ (x ∷ [])
   all-back = ap (take (n + 1)) all-is ∙ ap (λ (k : ℕ). take k (laidOut (heldOf c ++ (x ∷ [])))) (sym all-length) ∙ take-laid (heldOf c ++ (x ∷ []))
 
   -- as many as are stored
-  pub added-full : {store discard : ℕ} {mean : Float} {offset : Offset} {rest : List Float} → store ≡ samplesToStoreOf s → store ≤ n + 1 → discard ≡ samplesToDiscardOf s → mean ≡ meanOf discard (take (n + 1) (set laid n x)) → offset ≡ offsetAfter (c .offset) mean (s .deviation) → rest ≡ laidOut (slice 1 (n + 1) (set laid n x)) → _≡_ {A = Clock} (record { offset = offset; samples = rest; len = n; timer = c .timer; id = c .id }) (addedOf s c x)
+  pub added-full : {store discard : ℕ} {mean : Float} {offset : Offset} {rest : List Float} → store ≡ samplesToStoreOf s → store ≤ n + 1
+      → discard ≡ samplesToDiscardOf s → mean ≡ meanOf discard (take (n + 1) (set laid n x)) → offset ≡ offsetAfter (c .offset) mean (s .deviation)
+      → rest ≡ laidOut (slice 1 (n + 1) (set laid n x)) → _≡_ {A = Clock}
+      (record { offset = offset; samples = rest; len = n; timer = c .timer; id = c .id }) (addedOf s c x)
   unfolding filledOf
   added-full {store} {discard} {mean} {offset} {rest} e h d m o r =
       let xs = heldOf c ++ (x ∷ []) in
       let t : ltb (length xs) (samplesToStoreOf s) ≡ false = le-ltb (length xs) (samplesToStoreOf s) (omega (arith, all-length, e)) in
       let M : mean ≡ meanOf (samplesToDiscardOf s) xs = m ∙ ap (meanOf discard) all-back ∙ ap (λ (k : ℕ). meanOf k xs) d in
-      let O : offset ≡ offsetAfter (c .offset) (meanOf (samplesToDiscardOf s) xs) (s .deviation) = o ∙ ap (λ (y : Float). offsetAfter (c .offset) y (s .deviation)) M in
+      let O : offset ≡ offsetAfter (c .offset) (meanOf (samplesToDiscardOf s) xs) (s .deviation) = o
+      ∙ ap (λ (y : Float). offsetAfter (c .offset) y (s .deviation)) M in
       let R : rest ≡ laidOut (drop 1 xs) = r ∙ ap (λ (l : List Float). laidOut (drop 1 l)) all-back in
       let N : n ≡ length (drop 1 xs) = omega (arith, length-drop 1 xs, all-length) in
       same-clock (c .timer) (c .id) O R N
-      ∙ sym (ap (λ (b : Bool). cond b (sampledOf c (c .offset) xs) (sampledOf c (offsetAfter (c .offset) (meanOf (samplesToDiscardOf s) xs) (s .deviation)) (drop 1 xs))) t)
+      ∙ sym (ap (λ (b : Bool). cond b (sampledOf c (c .offset) xs)
+      (sampledOf c (offsetAfter (c .offset) (meanOf (samplesToDiscardOf s) xs) (s .deviation)) (drop 1 xs))) t)

@@ -1,6 +1,8 @@
--- `sortedOf` gives the samples in order: a permutation of them in which each is at most every later one. And any other such permutation has equal samples, up to the sign of a zero, in the same places. Assumes nothing.
+-- `sortedOf` gives the samples in order: a permutation of them in which each is at most every later one. And any other such permutation has equal samples, up
+-- to the sign of a zero, in the same places. Assumes nothing.
 use mathlib.Core.Path.{_≡_, refl, sym, ap, _∙_, subst}
-use mathlib.Core.List.{List, [], _∷_, _++_, append-nil, List·Permᴰ·nil, List·Permᴰ·cons, List·Permᴰ·swap, List·Permᴰ·trans, Permᴰ·refl, Permᴰ·symm, Permᴰ·append-left, Permᴰ·middle}
+use mathlib.Core.List.{List, [], _∷_, _++_, append-nil, List·Permᴰ·nil, List·Permᴰ·cons, List·Permᴰ·swap, List·Permᴰ·trans, Permᴰ·refl, Permᴰ·symm}
+use mathlib.Core.List.{Permᴰ·append-left, Permᴰ·middle}
 use mathlib.Core.Bool.{Bool, true, false, cond, not, _&&_}
 use Prim.Native.Nat.{ℕ, _+_, _<_}
 use native.Mathlib.Omega.{arith}
@@ -98,8 +100,11 @@ count v (x ∷ xs) = cond (same v x) 1 0 + count v xs
 count-kept : (v : Float) {xs ys : List Float} → Permutes xs ys → count v xs ≡ count v ys
 unfolding count
 count-kept v List·Permᴰ·nil = refl
-count-kept v (List·Permᴰ·cons {a = a} {b = b} {l₁ = l} {l₂ = k} e d) = ap (λ (z : Float). cond (same v z) 1 0 + count v l) e ∙ ap (λ (n : ℕ). cond (same v b) 1 0 + n) (count-kept v d)
-count-kept v (List·Permᴰ·swap {a = a} {b = b} {a′ = c} {b′ = d} {l = l} e f) = ap (λ (z : Float). cond (same v z) 1 0 + (cond (same v b) 1 0 + count v l)) e ∙ ap (λ (z : Float). cond (same v d) 1 0 + (cond (same v z) 1 0 + count v l)) f ∙ turn (cond (same v d) 1 0) (cond (same v c) 1 0) (count v l)
+count-kept v (List·Permᴰ·cons {a = a} {b = b} {l₁ = l} {l₂ = k} e d) = ap (λ (z : Float). cond (same v z) 1 0 + count v l) e
+    ∙ ap (λ (n : ℕ). cond (same v b) 1 0 + n) (count-kept v d)
+count-kept v (List·Permᴰ·swap {a = a} {b = b} {a′ = c} {b′ = d} {l = l} e f) =
+    ap (λ (z : Float). cond (same v z) 1 0 + (cond (same v b) 1 0 + count v l)) e
+    ∙ ap (λ (z : Float). cond (same v d) 1 0 + (cond (same v z) 1 0 + count v l)) f ∙ turn (cond (same v d) 1 0) (cond (same v c) 1 0) (count v l)
   where
     turn : (p q n : ℕ) → p + (q + n) ≡ q + (p + n)
     turn p q n = omega arith
@@ -117,7 +122,8 @@ le-self x f = le-of-val x x f f (q-le-refl (val x))
 
 counts-self : (x : Float) (xs : List Float) → T (finite x) → 0 < count x (x ∷ xs)
 unfolding count same
-counts-self x xs f = subst (λ (b : Bool). 0 < cond b 1 0 + count x xs) (sym (is-true (same x x) (and-i (le x x) (le x x) (le-self x f) (le-self x f)))) (omega arith)
+counts-self x xs f = subst (λ (b : Bool). 0 < cond b 1 0 + count x xs) (sym (is-true (same x x) (and-i (le x x) (le x x) (le-self x f) (le-self x f))))
+    (omega arith)
 
 -- a sample that is counted in an ordered list is at least its first
 counted-low : (v y : Float) (ys : List Float) → AtMost y ys → 0 < count v ys → T (le y v)

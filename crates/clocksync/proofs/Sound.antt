@@ -1,4 +1,5 @@
--- A sound clock stays sound: with settings that pass, a delta within 3,600 and times within 2^32, an update leaves the clock with fewer samples than are stored, samples and offset within 2^33, and the timer finite and at most 3,600. Assumes nothing.
+-- A sound clock stays sound: with settings that pass, a delta within 3,600 and times within 2^32, an update leaves the clock with fewer samples than are
+-- stored, samples and offset within 2^33, and the timer finite and at most 3,600. Assumes nothing.
 use mathlib.Core.Path.{_≡_, refl, sym, ap, _∙_, subst}
 use mathlib.Core.List.{List, [], _∷_, _++_}
 use mathlib.Core.Bool.{Bool, true, false, cond, not, _&&_}
@@ -45,7 +46,8 @@ sample-within x h =
     let a = apart (le (fin true 1 (pos 33)) x) (le x (fin false 1 (pos 33))) h in
     let l = is _ (a .0) in
     let u = is _ (a .1) in
-    within-of-tests x (fin true 1 (pos 33)) (fin false 1 (pos 33)) (2 ^ 33) (between-finite (fin true 1 (pos 33)) x (fin false 1 (pos 33)) tt tt l u) (refl, refl) (refl, refl) l u
+    within-of-tests x (fin true 1 (pos 33)) (fin false 1 (pos 33)) (2 ^ 33) (between-finite (fin true 1 (pos 33)) x (fin false 1 (pos 33)) tt tt l u)
+    (refl, refl) (refl, refl) l u
 
 -- and a sample within 2^33 passes it
 pub sample-passes : (x : Float) → Within x (2 ^ 33) → sampleOk x ≡ true
@@ -107,15 +109,18 @@ sum-is sum (x ∷ xs) = sum-is (add binary64 sum x) xs
 
 average-within : (xs : List Float) → 0 < length xs → length xs ≤ 64 → AllWithin (2 ^ 33) xs → Within (averageOf xs) (2 ^ 33)
 unfolding averageOf
-average-within xs h k a = subst (λ (y : Float). Within (div binary64 y (ofInt binary64 (pos (length xs)))) (2 ^ 33)) (sym (sum-is zero64 xs)) (mean-within xs h k a)
+average-within xs h k a = subst (λ (y : Float). Within (div binary64 y (ofInt binary64 (pos (length xs)))) (2 ^ 33)) (sym (sum-is zero64 xs))
+    (mean-within xs h k a)
 
 -- the mean of samples within 2^33 is within 2^33, where some are left between the extremes
 pub mean-of-within : (d : ℕ) (xs : List Float) → d + d < length xs → length xs ≤ 64 → AllWithin (2 ^ 33) xs → Within (meanOf d xs) (2 ^ 33)
 unfolding meanOf
 mean-of-within d xs h k a =
     let ys = sortedOf xs in
-    let l : length (innerOf d ys) ≡ length xs - d - d = length-drop d (take (length ys - d) ys) ∙ ap (λ (m : ℕ). m - d) (length-take (length ys - d) ys) ∙ omega (arith, sorted-length xs) in
-    average-within (innerOf d ys) (omega (arith, l)) (omega (arith, l)) (within-drop (2 ^ 33) d (take (length ys - d) ys) (within-take (2 ^ 33) (length ys - d) ys (within-sorted (2 ^ 33) xs a)))
+    let l : length (innerOf d ys) ≡ length xs - d - d = length-drop d (take (length ys - d) ys) ∙ ap (λ (m : ℕ). m - d) (length-take (length ys - d) ys)
+    ∙ omega (arith, sorted-length xs) in
+    average-within (innerOf d ys) (omega (arith, l)) (omega (arith, l))
+    (within-drop (2 ^ 33) d (take (length ys - d) ys) (within-take (2 ^ 33) (length ys - d) ys (within-sorted (2 ^ 33) xs a)))
 
 -- ---- the offset
 
@@ -154,17 +159,22 @@ unfolding soundClock
 of-parts s c p = simp (lt-ltb (c .len) (samplesToStoreOf s) (p .fewer), le-leb (c .len) 63 (p .held), p .samples, p .timer, p .offset)
 
 -- with settings that pass the test is what document 01 lists: fewer than 64 samples follow from fewer than are stored
-pub sound-as-listed : (s : Settings) (c : Clock) → passesOf s ≡ true → soundClock s c ≡ ltb (c .len) (samplesToStoreOf s) && samplesOk (take (c .len) (c .samples)) && timerOk (c .timer) && offsetOk (c .offset)
+pub sound-as-listed : (s : Settings) (c : Clock) → passesOf s ≡ true
+    → soundClock s c ≡ ltb (c .len) (samplesToStoreOf s) && samplesOk (take (c .len) (c .samples)) && timerOk (c .timer) && offsetOk (c .offset)
 unfolding soundClock
 sound-as-listed s c pass = go (ltb (c .len) (samplesToStoreOf s)) (ltb-true (c .len) (samplesToStoreOf s))
   where
-    go : (b : Bool) → (b ≡ true → c .len < samplesToStoreOf s) → b && leb (c .len) 63 && samplesOk (take (c .len) (c .samples)) && timerOk (c .timer) && offsetOk (c .offset) ≡ b && samplesOk (take (c .len) (c .samples)) && timerOk (c .timer) && offsetOk (c .offset)
-    go true h = ap (λ (u : Bool). u && samplesOk (take (c .len) (c .samples)) && timerOk (c .timer) && offsetOk (c .offset)) (le-leb (c .len) 63 (omega (arith, h refl, store-few s pass .1)))
+    go : (b : Bool) → (b ≡ true → c .len < samplesToStoreOf s)
+        → b && leb (c .len) 63 && samplesOk (take (c .len) (c .samples)) && timerOk (c .timer) && offsetOk (c .offset) ≡ b && samplesOk
+        (take (c .len) (c .samples)) && timerOk (c .timer) && offsetOk (c .offset)
+    go true h = ap (λ (u : Bool). u && samplesOk (take (c .len) (c .samples)) && timerOk (c .timer) && offsetOk (c .offset))
+        (le-leb (c .len) 63 (omega (arith, h refl, store-few s pass .1)))
     go false h = refl
 
 -- ---- the timer
 
-pub timer-ticks : (s : Settings) (c : Clock) (delta : Float) → passesOf s ≡ true → T (fits binary64 (c .timer)) → Within delta 3600 → timerOk (c .timer) ≡ true → timerOk (tickedOf c (s .period) delta .clock .timer) ≡ true
+pub timer-ticks : (s : Settings) (c : Clock) (delta : Float) → passesOf s ≡ true → T (fits binary64 (c .timer)) → Within delta 3600
+    → timerOk (c .timer) ≡ true → timerOk (tickedOf c (s .period) delta .clock .timer) ≡ true
 unfolding tickedOf timerOk le
 timer-ticks s c delta pass f w h =
     let a = apart (finite (c .timer)) (le (c .timer) hour64) h in
@@ -172,18 +182,22 @@ timer-ticks s c delta pass f w h =
     let ft = add-finite (c .timer) delta f (is _ (a .0)) (within-widen delta 3600 (2 ^ 53) (lit≤ tt) w) in
     go t ft (lt (s .period) t) refl (period-within s pass)
   where
-    go : (t : Float) → T (finite t) → (b : Bool) → lt (s .period) t ≡ b → Limited zero64 hour64 (s .period) → timerOk (cond {A = Ticked} b (record { clock = timedOf c zero64; request = true }) (record { clock = timedOf c t; request = false }) .clock .timer) ≡ true
+    go : (t : Float) → T (finite t) → (b : Bool) → lt (s .period) t ≡ b → Limited zero64 hour64 (s .period)
+        → timerOk (cond {A = Ticked} b (record { clock = timedOf c zero64; request = true })
+        (record { clock = timedOf c t; request = false }) .clock .timer) ≡ true
     go t ft true e p = refl
     go t ft false e p =
         both (is-true (finite t) ft)
-        (is-true (le t hour64) (float-le-trans t (s .period) hour64 (float-le-of-not-lt (s .period) t (p .number) ft (subst (λ (b : Bool). T (not b)) (sym e) tt)) (p .high)))
+        (is-true (le t hour64) (float-le-trans t (s .period) hour64
+        (float-le-of-not-lt (s .period) t (p .number) ft (subst (λ (b : Bool). T (not b)) (sym e) tt)) (p .high)))
 
 -- the timer after a tick is a value of the format
 pub timer-fits : (s : Settings) (c : Clock) (delta : Float) → T (fits binary64 (tickedOf c (s .period) delta .clock .timer))
 unfolding tickedOf fits
 timer-fits s c delta = go (lt (s .period) (add binary64 (c .timer) delta))
   where
-    go : (b : Bool) → T (fits binary64 (cond {A = Ticked} b (record { clock = timedOf c zero64; request = true }) (record { clock = timedOf c (add binary64 (c .timer) delta); request = false }) .clock .timer))
+    go : (b : Bool) → T (fits binary64 (cond {A = Ticked} b (record { clock = timedOf c zero64; request = true })
+        (record { clock = timedOf c (add binary64 (c .timer) delta); request = false }) .clock .timer))
     go true = tt
     go false = add-fits binary64 (c .timer) delta
 
@@ -192,11 +206,14 @@ ticked-is : (c : Clock) (period delta : Float) → tickedOf c period delta .cloc
 unfolding tickedOf
 ticked-is c period delta = go (lt period (add binary64 (c .timer) delta)) (add binary64 (c .timer) delta)
   where
-    go : (b : Bool) (t : Float) → cond {A = Ticked} b (record { clock = timedOf c zero64; request = true }) (record { clock = timedOf c t; request = false }) .clock ≡ timedOf c (cond {A = Ticked} b (record { clock = timedOf c zero64; request = true }) (record { clock = timedOf c t; request = false }) .clock .timer)
+    go : (b : Bool) (t : Float) → cond {A = Ticked} b (record { clock = timedOf c zero64; request = true })
+        (record { clock = timedOf c t; request = false }) .clock ≡ timedOf c
+        (cond {A = Ticked} b (record { clock = timedOf c zero64; request = true }) (record { clock = timedOf c t; request = false }) .clock .timer)
     go true t = refl
     go false t = refl
 
-ticked-parts : (s : Settings) (c : Clock) (delta : Float) → passesOf s ≡ true → T (fits binary64 (c .timer)) → Within delta 3600 → Parts s c → Parts s (tickedOf c (s .period) delta .clock)
+ticked-parts : (s : Settings) (c : Clock) (delta : Float) → passesOf s ≡ true → T (fits binary64 (c .timer)) → Within delta 3600 → Parts s c
+    → Parts s (tickedOf c (s .period) delta .clock)
 ticked-parts s c delta pass f w p =
     subst (λ (d : Clock). Parts s d) (sym (ticked-is c (s .period) delta))
     (record { fewer = p .fewer; held = p .held; samples = p .samples; timer = timer-ticks s c delta pass f w (p .timer); offset = p .offset })
@@ -204,7 +221,8 @@ ticked-parts s c delta pass f w p =
 -- ---- a message
 
 -- the offset that a message measures passes the test of a sample
-pub measured-ok : (send server seconds : Float) → Within send (2 ^ 32) → Within server (2 ^ 32) → Within seconds (2 ^ 32) → sampleOk (offsetOf send server seconds) ≡ true
+pub measured-ok : (send server seconds : Float) → Within send (2 ^ 32) → Within server (2 ^ 32) → Within seconds (2 ^ 32)
+    → sampleOk (offsetOf send server seconds) ≡ true
 unfolding offsetOf
 measured-ok send server seconds a b c = sample-passes (offsetOf send server seconds) (offset-within send seconds server a c b)
 
@@ -220,7 +238,8 @@ module _ (s : Settings) (pass : passesOf s ≡ true) (c : Clock) (full : length 
 
   all-within : AllWithin (2 ^ 33) all
   unfolding all
-  all-within = within-snoc (2 ^ 33) (heldOf c) x (subst (λ (l : List Float). AllWithin (2 ^ 33) l) (sym held-is) (samples-within (take (c .len) (c .samples)) (p .samples))) (sample-within x ok)
+  all-within = within-snoc (2 ^ 33) (heldOf c) x (subst (λ (l : List Float). AllWithin (2 ^ 33) l) (sym held-is)
+      (samples-within (take (c .len) (c .samples)) (p .samples))) (sample-within x ok)
 
   all-length : length all ≡ c .len + 1
   unfolding all
@@ -244,16 +263,22 @@ module _ (s : Settings) (pass : passesOf s ≡ true) (c : Clock) (full : length 
       mean-ok h =
           let d = discard-few s pass in
           let n = needed-range (s .needed) (s .rate) (samples-pass s pass) in
-          sample-passes (meanOf (samplesToDiscardOf s) all) (mean-of-within (samplesToDiscardOf s) all (omega (arith, h, n .0)) (omega (arith, all-length, p .held)) all-within)
+          sample-passes (meanOf (samplesToDiscardOf s) all) (mean-of-within
+          (samplesToDiscardOf s) all (omega (arith, h, n .0)) (omega (arith, all-length, p .held)) all-within)
 
-      go : (b : Bool) → (b ≡ true → length all < samplesToStoreOf s) → (b ≡ false → samplesToStoreOf s ≤ length all) → Parts s (cond b (sampledOf c (c .offset) all) (sampledOf c (offsetAfter (c .offset) (meanOf (samplesToDiscardOf s) all) (s .deviation)) (drop 1 all)))
+      go : (b : Bool) → (b ≡ true → length all < samplesToStoreOf s) → (b ≡ false → samplesToStoreOf s ≤ length all)
+          → Parts s (cond b (sampledOf c (c .offset) all) (sampledOf c (offsetAfter (c .offset) (meanOf (samplesToDiscardOf s) all) (s .deviation))
+          (drop 1 all)))
       go true f g = laid-parts (c .offset) all (f refl) (p .offset) all-within
-      go false f g = laid-parts (offsetAfter (c .offset) (meanOf (samplesToDiscardOf s) all) (s .deviation)) (drop 1 all) (omega (arith, length-drop 1 all, all-length, p .fewer)) (synced-ok (c .offset) (meanOf (samplesToDiscardOf s) all) (s .deviation) (p .offset) (mean-ok (g refl))) (within-drop (2 ^ 33) 1 all all-within)
+      go false f g = laid-parts (offsetAfter (c .offset) (meanOf (samplesToDiscardOf s) all) (s .deviation)) (drop 1 all)
+          (omega (arith, length-drop 1 all, all-length, p .fewer))
+          (synced-ok (c .offset) (meanOf (samplesToDiscardOf s) all) (s .deviation) (p .offset) (mean-ok (g refl))) (within-drop (2 ^ 33) 1 all all-within)
 
 named-parts : (s : Settings) (c : Clock) (h : Heard) → Parts s c → Parts s (namedOf c (h .id))
 named-parts s c h p = record { fewer = p .fewer; held = p .held; samples = p .samples; timer = p .timer; offset = p .offset }
 
-settled-parts : (s : Settings) (c : Clock) (h : Heard) → passesOf s ≡ true → length (c .samples) ≡ 64 → Parts s c → offsetOk (h .offset) ≡ true → Parts s (settledOf s c h)
+settled-parts : (s : Settings) (c : Clock) (h : Heard) → passesOf s ≡ true → length (c .samples) ≡ 64 → Parts s c → offsetOk (h .offset) ≡ true
+    → Parts s (settledOf s c h)
 unfolding settledOf
 settled-parts s c h pass full p k = go (h .offset) k
   where
@@ -266,7 +291,8 @@ filled-timer : (s : Settings) (c : Clock) (xs : List Float) → filledOf s c xs 
 unfolding filledOf
 filled-timer s c xs = go (ltb (length xs) (samplesToStoreOf s))
   where
-    go : (b : Bool) → cond {A = Clock} b (sampledOf c (c .offset) xs) (sampledOf c (offsetAfter (c .offset) (meanOf (samplesToDiscardOf s) xs) (s .deviation)) (drop 1 xs)) .timer ≡ c .timer
+    go : (b : Bool) → cond {A = Clock} b (sampledOf c (c .offset) xs)
+        (sampledOf c (offsetAfter (c .offset) (meanOf (samplesToDiscardOf s) xs) (s .deviation)) (drop 1 xs)) .timer ≡ c .timer
     go true = refl
     go false = refl
 

@@ -40,11 +40,15 @@ timer-over t h = go (finite t) ∙ ap (λ (b : Bool). finite t && b) (sym h)
 -- ---- the request timer
 
 -- above the period
-pub ticked-over : (c : Clock) (period delta : Float) → lt period (add binary64 (c .timer) delta) ≡ true → _≡_ {A = Ticked} (record { clock = timedOf c zero64; request = true }) (tickedOf c period delta)
+pub ticked-over : (c : Clock) (period delta : Float) → lt period (add binary64 (c .timer) delta) ≡ true
+    → _≡_ {A = Ticked} (record { clock = timedOf c zero64; request = true }) (tickedOf c period delta)
 unfolding tickedOf
-ticked-over c period delta h = sym (ap (λ (b : Bool). cond {A = Ticked} b (record { clock = timedOf c zero64; request = true }) (record { clock = timedOf c (add binary64 (c .timer) delta); request = false })) h)
+ticked-over c period delta h = sym (ap (λ (b : Bool). cond {A = Ticked} b (record { clock = timedOf c zero64; request = true })
+    (record { clock = timedOf c (add binary64 (c .timer) delta); request = false })) h)
 
 -- and not
-pub ticked-under : (c : Clock) (period delta : Float) → lt period (add binary64 (c .timer) delta) ≡ false → _≡_ {A = Ticked} (record { clock = timedOf c (add binary64 (c .timer) delta); request = false }) (tickedOf c period delta)
+pub ticked-under : (c : Clock) (period delta : Float) → lt period (add binary64 (c .timer) delta) ≡ false
+    → _≡_ {A = Ticked} (record { clock = timedOf c (add binary64 (c .timer) delta); request = false }) (tickedOf c period delta)
 unfolding tickedOf
-ticked-under c period delta h = sym (ap (λ (b : Bool). cond {A = Ticked} b (record { clock = timedOf c zero64; request = true }) (record { clock = timedOf c (add binary64 (c .timer) delta); request = false })) h)
+ticked-under c period delta h = sym (ap (λ (b : Bool). cond {A = Ticked} b (record { clock = timedOf c zero64; request = true })
+    (record { clock = timedOf c (add binary64 (c .timer) delta); request = false })) h)

@@ -1,10 +1,12 @@
--- Signed zeros in the mean: the sum starts at +0.0 and never becomes -0.0, so it does not turn on the signs of the zeros that it adds, nor on their order. Assumes nothing.
+-- Signed zeros in the mean: the sum starts at +0.0 and never becomes -0.0, so it does not turn on the signs of the zeros that it adds, nor on their order.
+-- Assumes nothing.
 use mathlib.Core.Path.{_≡_, refl, sym, ap, _∙_, subst}
 use mathlib.Core.Logic.{_⊎_, inl, inr}
 use mathlib.Core.List.{List, [], _∷_}
 use mathlib.Core.Bool.{Bool, true, false, cond, not, _&&_, _||_, false≢true}
 use Prim.Native.Nat.{ℕ, zero, suc, _+_, _-_, _*_, _^_, _%_, _≤_, _<_}
-use native.Mathlib.Nat.{le-of-lt, mul-pos, mul-assoc, mul-comm, mul-one, one-mul, mul-le-mul-right, mul-lt-mul-of-pos-right, lt-of-mul-lt-mul-right, zero-lt-suc, not-le-of-lt, eq-of-mul-eq-mul-right, mul-left-comm, pow-suc, pow-succ'}
+use native.Mathlib.Nat.{le-of-lt, mul-pos, mul-assoc, mul-comm, mul-one, one-mul, mul-le-mul-right, mul-lt-mul-of-pos-right, lt-of-mul-lt-mul-right}
+use native.Mathlib.Nat.{zero-lt-suc, not-le-of-lt, eq-of-mul-eq-mul-right, mul-left-comm, pow-suc, pow-succ'}
 use native.Mathlib.Omega.{arith}
 use lib.Dec.{T, ltb, leb, eqb, ltb→lt, eqb→eq}
 use lib.Pow.{pow-add, pow-pos, pow-lt}
@@ -51,12 +53,15 @@ proper-some zero e p = absurd p
 proper-some (suc m) e p = zero-lt-suc m
 
 -- a value that is not -0.0, plus a zero of either sign, is that value rounded
-zero-added : (a : Bool) (m : ℕ) (k : ℤ) (s : Bool) (e : ℤ) → T (proper (fin a m k)) → add binary64 (fin a m k) (fin s 0 e) ≡ round binary64 a (m * up k) (down k)
+zero-added : (a : Bool) (m : ℕ) (k : ℤ) (s : Bool) (e : ℤ) → T (proper (fin a m k))
+    → add binary64 (fin a m k) (fin s 0 e) ≡ round binary64 a (m * up k) (down k)
 unfolding add
 zero-added a m k s e p =
     ap (λ (n : ℕ). sum binary64 a (m * up k * down e) s n (down k * down e)) (none (up e) (down k))
-    ∙ sum-zero a s (m * up k * down e) (down k * down e) (λ h. mul-pos (mul-pos (proper-some m k (subst (λ (b : Bool). T (proper (fin b m k))) h p)) (up-pos k)) (down-pos e))
-    ∙ round-same binary64 a (m * up k * down e) (down k * down e) (m * up k) (down k) (mul-pos (down-pos k) (down-pos e)) (down-pos k) (turn (m * up k) (down e) (down k))
+    ∙ sum-zero a s (m * up k * down e) (down k * down e) (λ h. mul-pos
+    (mul-pos (proper-some m k (subst (λ (b : Bool). T (proper (fin b m k))) h p)) (up-pos k)) (down-pos e))
+    ∙ round-same binary64 a (m * up k * down e) (down k * down e) (m * up k) (down k) (mul-pos (down-pos k) (down-pos e)) (down-pos k)
+    (turn (m * up k) (down e) (down k))
   where
     none : (u d : ℕ) → 0 * u * d ≡ 0
     none u d = omega arith
@@ -96,11 +101,14 @@ odd-form : (m n : ℕ) (e d : ℤ) → m % 2 ≡ 1 → n % 2 ≡ 1 → m * up e 
 odd-form m n (pos k) (pos j) o p h =
     let r = odd-pow m n k j o p (sym (mul-one (m * 2 ^ k)) ∙ h ∙ mul-one (n * 2 ^ j)) in (r .0, ap pos (r .1))
 odd-form m n (negsuc k) (negsuc j) o p h =
-    let r = odd-pow m n (suc j) (suc k) o p (ap (λ (z : ℕ). z * 2 ^ suc j) (sym (mul-one m)) ∙ h ∙ ap (λ (z : ℕ). z * 2 ^ suc k) (mul-one n)) in (r .0, ap negsuc (omega (arith, r .1)))
+    let r = odd-pow m n (suc j) (suc k) o p (ap (λ (z : ℕ). z * 2 ^ suc j) (sym (mul-one m)) ∙ h ∙ ap (λ (z : ℕ). z * 2 ^ suc k) (mul-one n)) in
+    (r .0, ap negsuc (omega (arith, r .1)))
 odd-form m n (pos k) (negsuc j) o p h =
-    let r = odd-pow m n (k + suc j) 0 o p (ap (λ (z : ℕ). m * z) (pow-add 2 k (suc j)) ∙ sym (mul-assoc m (2 ^ k) (2 ^ suc j)) ∙ h ∙ mul-one (n * 1)) in absurd (omega (arith, r .1))
+    let r = odd-pow m n (k + suc j) 0 o p (ap (λ (z : ℕ). m * z) (pow-add 2 k (suc j)) ∙ sym (mul-assoc m (2 ^ k) (2 ^ suc j)) ∙ h ∙ mul-one (n * 1)) in
+    absurd (omega (arith, r .1))
 odd-form m n (negsuc k) (pos j) o p h =
-    let r = odd-pow m n 0 (j + suc k) o p (sym (mul-one (m * 1)) ∙ h ∙ mul-assoc n (2 ^ j) (2 ^ suc k) ∙ ap (λ (z : ℕ). n * z) (sym (pow-add 2 j (suc k)))) in absurd (omega (arith, r .1))
+    let r = odd-pow m n 0 (j + suc k) o p (sym (mul-one (m * 1)) ∙ h ∙ mul-assoc n (2 ^ j) (2 ^ suc k)
+    ∙ ap (λ (z : ℕ). n * z) (sym (pow-add 2 j (suc k)))) in absurd (omega (arith, r .1))
 
 two-up : (p : ℕ) → 0 < p → 2 * p ≡ 1 → ⊥
 two-up p h e = omega arith
@@ -114,16 +122,19 @@ zero-exp : (s : Bool) (e : ℤ) → T (fits binary64 (fin s zero e)) → e ≡ p
 unfolding fits
 zero-exp s e t = flat e (eqb→eq (up e * down e) 1 t)
 
-one-form : (s : Bool) (m n : ℕ) (e d : ℤ) → T (fits binary64 (fin s m e)) → T (fits binary64 (fin s n d)) → m * up e * down d ≡ n * up d * down e → fin s m e ≡ fin s n d
+one-form : (s : Bool) (m n : ℕ) (e d : ℤ) → T (fits binary64 (fin s m e)) → T (fits binary64 (fin s n d)) → m * up e * down d ≡ n * up d * down e
+    → fin s m e ≡ fin s n d
 one-form s zero zero e d f g h = ap (λ (z : ℤ). fin s zero z) (zero-exp s e f ∙ sym (zero-exp s d g))
-one-form s zero (suc n) e d f g h = absurd (none (zero * up e * down d) (suc n * up d * down e) (zeros (up e) (down d)) h (mul-pos (mul-pos (zero-lt-suc n) (up-pos d)) (down-pos e)))
+one-form s zero (suc n) e d f g h = absurd (none (zero * up e * down d) (suc n * up d * down e) (zeros (up e) (down d)) h
+    (mul-pos (mul-pos (zero-lt-suc n) (up-pos d)) (down-pos e)))
   where
     zeros : (u d : ℕ) → 0 * u * d ≡ 0
     zeros u d = omega arith
 
     none : (a b : ℕ) → a ≡ 0 → a ≡ b → 0 < b → ⊥
     none a b z e p = omega arith
-one-form s (suc m) zero e d f g h = absurd (none (suc m * up e * down d) (zero * up d * down e) (zeros (up d) (down e)) h (mul-pos (mul-pos (zero-lt-suc m) (up-pos e)) (down-pos d)))
+one-form s (suc m) zero e d f g h = absurd (none (suc m * up e * down d) (zero * up d * down e) (zeros (up d) (down e)) h
+    (mul-pos (mul-pos (zero-lt-suc m) (up-pos e)) (down-pos d)))
   where
     zeros : (u d : ℕ) → 0 * u * d ≡ 0
     zeros u d = omega arith
@@ -148,23 +159,32 @@ no-size (suc m) u d U D h = absurd (some (suc m * u * d) h (mul-pos (mul-pos (ze
     some : (a : ℕ) → a ≡ 0 → 0 < a → ⊥
     some a e p = omega arith
 
-equal-cases : (x y : Float) → T (fits binary64 x) → T (fits binary64 y) → T (finite x) → T (finite y) → Same x y → (x ≡ y) ⊎ ((isZero x ≡ true) × (isZero y ≡ true))
+equal-cases : (x y : Float) → T (fits binary64 x) → T (fits binary64 y) → T (finite x) → T (finite y) → Same x y
+    → (x ≡ y) ⊎ ((isZero x ≡ true) × (isZero y ≡ true))
 unfolding isZero
 equal-cases nan y f g p q s = absurd p
 equal-cases (inf t) y f g p q s = absurd p
 equal-cases (fin a m e) nan f g p q s = absurd q
 equal-cases (fin a m e) (inf t) f g p q s = absurd q
-equal-cases (fin false m e) (fin false n d) f g p q s = inl (one-form false m n e d f g (cross (m * up e) (n * up d) (down e) (down d) (le-to-val (fin false m e) (fin false n d) tt tt (s .0)) (le-to-val (fin false n d) (fin false m e) tt tt (s .1))))
+equal-cases (fin false m e) (fin false n d) f g p q s = inl (one-form false m n e d f g
+    (cross (m * up e) (n * up d) (down e) (down d) (le-to-val (fin false m e) (fin false n d) tt tt (s .0))
+    (le-to-val (fin false n d) (fin false m e) tt tt (s .1))))
   where
     cross : (a b e d : ℕ) → a * d + 0 * e ≤ b * e + 0 * d → b * e + 0 * d ≤ a * d + 0 * e → a * d ≡ b * e
     cross a b e d h k = omega arith
-equal-cases (fin true m e) (fin true n d) f g p q s = inl (one-form true m n e d f g (cross (m * up e) (n * up d) (down e) (down d) (le-to-val (fin true m e) (fin true n d) tt tt (s .0)) (le-to-val (fin true n d) (fin true m e) tt tt (s .1))))
+equal-cases (fin true m e) (fin true n d) f g p q s = inl (one-form true m n e d f g
+    (cross (m * up e) (n * up d) (down e) (down d) (le-to-val (fin true m e) (fin true n d) tt tt (s .0))
+    (le-to-val (fin true n d) (fin true m e) tt tt (s .1))))
   where
     cross : (a b e d : ℕ) → 0 * d + b * e ≤ 0 * e + a * d → 0 * e + a * d ≤ 0 * d + b * e → a * d ≡ b * e
     cross a b e d h k = omega arith
 equal-cases (fin false m e) (fin true n d) f g p q s =
     let h = le-to-val (fin false m e) (fin true n d) tt tt (s .0) in
-    inr (eq-eqb m 0 (no-size m (up e) (down d) (up-pos e) (down-pos d) (first (m * up e) (n * up d) (down e) (down d) h)), eq-eqb n 0 (no-size n (up d) (down e) (up-pos d) (down-pos e) (second (m * up e) (n * up d) (down e) (down d) h)))
+    inr (
+      eq-eqb m 0 (no-size m (up e) (down d) (up-pos e) (down-pos d) (first (m * up e) (n * up d) (down e) (down d) h)),
+      eq-eqb n 0
+          (no-size n (up d) (down e) (up-pos d) (down-pos e) (second (m * up e) (n * up d) (down e) (down d) h)),
+    )
   where
     first : (a b e d : ℕ) → a * d + b * e ≤ 0 * e + 0 * d → a * d ≡ 0
     first a b e d h = omega arith
@@ -173,7 +193,11 @@ equal-cases (fin false m e) (fin true n d) f g p q s =
     second a b e d h = omega arith
 equal-cases (fin true m e) (fin false n d) f g p q s =
     let h = le-to-val (fin false n d) (fin true m e) tt tt (s .1) in
-    inr (eq-eqb m 0 (no-size m (up e) (down d) (up-pos e) (down-pos d) (second (n * up d) (m * up e) (down d) (down e) h)), eq-eqb n 0 (no-size n (up d) (down e) (up-pos d) (down-pos e) (first (n * up d) (m * up e) (down d) (down e) h)))
+    inr (
+      eq-eqb m 0 (no-size m (up e) (down d) (up-pos e) (down-pos d) (second (n * up d) (m * up e) (down d) (down e) h)),
+      eq-eqb n 0
+          (no-size n (up d) (down e) (up-pos d) (down-pos e) (first (n * up d) (m * up e) (down d) (down e) h)),
+    )
   where
     first : (a b e d : ℕ) → a * d + b * e ≤ 0 * e + 0 * d → a * d ≡ 0
     first a b e d h = omega arith
@@ -182,7 +206,8 @@ equal-cases (fin true m e) (fin false n d) f g p q s =
     second a b e d h = omega arith
 
 -- adding either of two equal values to what is not -0.0 gives one sum
-add-alike : (t x y : Float) → T (proper t) → T (fits binary64 x) → T (fits binary64 y) → T (finite x) → T (finite y) → Same x y → add binary64 t x ≡ add binary64 t y
+add-alike : (t x y : Float) → T (proper t) → T (fits binary64 x) → T (fits binary64 y) → T (finite x) → T (finite y) → Same x y
+    → add binary64 t x ≡ add binary64 t y
 unfolding isZero
 add-alike t x y p f g h k s = elim (equal-cases x y f g h k s) [
   | inl e ↦ ap (add binary64 t) e
@@ -245,7 +270,8 @@ round-proper N C P h =
     some (suc N) C U P h = zero-lt-suc N
 
     is : (N C : ℕ) → 0 < N → cond (ltb 0 N) (round binary64 true (N - 0) C) (round binary64 false (0 - N) C) ≡ round binary64 true N C
-    is N C h = ap (λ (b : Bool). cond b (round binary64 true (N - 0) C) (round binary64 false (0 - N) C)) (lt-ltb 0 N h) ∙ ap (λ (n : ℕ). round binary64 true n C) (omega arith)
+    is N C h = ap (λ (b : Bool). cond b (round binary64 true (N - 0) C) (round binary64 false (0 - N) C)) (lt-ltb 0 N h)
+        ∙ ap (λ (n : ℕ). round binary64 true n C) (omega arith)
 
 -- a value in units of 2^-1074
 units-of : (s : Bool) (m : ℕ) (e : ℤ) → T (fits binary64 (fin s m e)) → (M : ℕ) × (m * up e * 2 ^ 1074 ≡ M * down e)
@@ -253,8 +279,11 @@ units-of s m (pos k) f = (m * 2 ^ k * 2 ^ 1074, sym (mul-one (m * 2 ^ k * 2 ^ 10
 units-of s m (negsuc k) f =
     let K : suc k ≤ 1074 = small (suc k) 1074 (holds s m (negsuc k) f .1) in
     let j = 1074 - suc k in
-    let J : j + suc k ≡ 1074 = omega arith in
-    (m * 2 ^ j, ap (λ (z : ℕ). z * 2 ^ 1074) (mul-one m) ∙ ap (λ (z : ℕ). m * 2 ^ z) (sym J) ∙ ap (λ (z : ℕ). m * z) (pow-add 2 j (suc k)) ∙ sym (mul-assoc m (2 ^ j) (2 ^ suc k)))
+    let J : j + suc k ≡ 1074 = omega arith in (
+      m * 2 ^ j,
+      ap (λ (z : ℕ). z * 2 ^ 1074) (mul-one m) ∙ ap (λ (z : ℕ). m * 2 ^ z) (sym J) ∙ ap (λ (z : ℕ). m * z) (pow-add 2 j (suc k))
+          ∙ sym (mul-assoc m (2 ^ j) (2 ^ suc k)),
+    )
   where
     small : (a b : ℕ) → 2 ^ a ≤ 2 ^ b → a ≤ b
     small a b h = elim (split b a) [ inl l ↦ absurd (not-le-of-lt (pow-lt {i = b} {j = a} l) h) | inr l ↦ l ]
@@ -289,28 +318,41 @@ one-unit m u c d n M U h = go (2 ^ 1074) h
         let e = mul-le-mul-right (d * P) b in
         omega (arith, a, e)
 
-proper-sum : (a : Bool) (m : ℕ) (k : ℤ) (s : Bool) (n : ℕ) (d : ℤ) → T (fits binary64 (fin a m k)) → T (fits binary64 (fin s n d)) → T (proper (fin a m k)) → T (proper (sum binary64 a (m * up k * down d) s (n * up d * down k) (down k * down d)))
+proper-sum : (a : Bool) (m : ℕ) (k : ℤ) (s : Bool) (n : ℕ) (d : ℤ) → T (fits binary64 (fin a m k)) → T (fits binary64 (fin s n d))
+    → T (proper (fin a m k)) → T (proper (sum binary64 a (m * up k * down d) s (n * up d * down k) (down k * down d)))
 unfolding sum
-proper-sum false m k false n d f g p = plus-proper (round binary64 false (m * up k * down d + n * up d * down k) (down k * down d)) (round-plus binary64 (m * up k * down d + n * up d * down k) (down k * down d))
-proper-sum true m k true n d f g p = round-proper (m * up k * down d + n * up d * down k) (down k * down d) (mul-pos (down-pos k) (down-pos d)) (one-unit m (up k) (down k) (down d) (n * up d * down k) (proper-some m k p) (up-pos k) (holds true m k f .1))
+proper-sum false m k false n d f g p = plus-proper (round binary64 false (m * up k * down d + n * up d * down k) (down k * down d))
+    (round-plus binary64 (m * up k * down d + n * up d * down k) (down k * down d))
+proper-sum true m k true n d f g p = round-proper (m * up k * down d + n * up d * down k) (down k * down d) (mul-pos (down-pos k) (down-pos d))
+    (one-unit m (up k) (down k) (down d) (n * up d * down k) (proper-some m k p) (up-pos k) (holds true m k f .1))
 proper-sum false m k true n d f g p = go (ltb (m * up k * down d) (n * up d * down k)) (ltb→lt (m * up k * down d) (n * up d * down k))
   where
-    go : (b : Bool) → (T b → m * up k * down d < n * up d * down k) → T (proper (cond b (round binary64 true (n * up d * down k - m * up k * down d) (down k * down d)) (round binary64 false (m * up k * down d - n * up d * down k) (down k * down d))))
+    go : (b : Bool) → (T b → m * up k * down d < n * up d * down k)
+        → T (proper (cond b (round binary64 true (n * up d * down k - m * up k * down d) (down k * down d))
+        (round binary64 false (m * up k * down d - n * up d * down k) (down k * down d))))
     go true h =
         let M = units-of false m k f in
         let N = units-of true n d g in
-        round-proper (n * up d * down k - m * up k * down d) (down k * down d) (mul-pos (down-pos k) (down-pos d)) (apart-by-unit (m * up k) (n * up d) (down k) (down d) (M .0) (N .0) (down-pos k) (down-pos d) (M .1) (N .1) (h tt))
-    go false h = plus-proper (round binary64 false (m * up k * down d - n * up d * down k) (down k * down d)) (round-plus binary64 (m * up k * down d - n * up d * down k) (down k * down d))
-proper-sum true m k false n d f g p = go (ltb (m * up k * down d) (n * up d * down k)) (ltb (n * up d * down k) (m * up k * down d)) (ltb→lt (n * up d * down k) (m * up k * down d))
+        round-proper (n * up d * down k - m * up k * down d) (down k * down d) (mul-pos (down-pos k) (down-pos d))
+        (apart-by-unit (m * up k) (n * up d) (down k) (down d) (M .0) (N .0) (down-pos k) (down-pos d) (M .1) (N .1) (h tt))
+    go false h = plus-proper (round binary64 false (m * up k * down d - n * up d * down k) (down k * down d))
+        (round-plus binary64 (m * up k * down d - n * up d * down k) (down k * down d))
+proper-sum true m k false n d f g p = go (ltb (m * up k * down d) (n * up d * down k)) (ltb (n * up d * down k) (m * up k * down d))
+    (ltb→lt (n * up d * down k) (m * up k * down d))
   where
-    go : (b c : Bool) → (T c → n * up d * down k < m * up k * down d) → T (proper (cond b (round binary64 false (n * up d * down k - m * up k * down d) (down k * down d)) (round binary64 (true && c) (m * up k * down d - n * up d * down k) (down k * down d))))
-    go true c h = plus-proper (round binary64 false (n * up d * down k - m * up k * down d) (down k * down d)) (round-plus binary64 (n * up d * down k - m * up k * down d) (down k * down d))
-    go false false h = plus-proper (round binary64 false (m * up k * down d - n * up d * down k) (down k * down d)) (round-plus binary64 (m * up k * down d - n * up d * down k) (down k * down d))
+    go : (b c : Bool) → (T c → n * up d * down k < m * up k * down d)
+        → T (proper (cond b (round binary64 false (n * up d * down k - m * up k * down d) (down k * down d))
+        (round binary64 (true && c) (m * up k * down d - n * up d * down k) (down k * down d))))
+    go true c h = plus-proper (round binary64 false (n * up d * down k - m * up k * down d) (down k * down d))
+        (round-plus binary64 (n * up d * down k - m * up k * down d) (down k * down d))
+    go false false h = plus-proper (round binary64 false (m * up k * down d - n * up d * down k) (down k * down d))
+        (round-plus binary64 (m * up k * down d - n * up d * down k) (down k * down d))
     go false true h =
         let M = units-of true m k f in
         let N = units-of false n d g in
         round-proper (m * up k * down d - n * up d * down k) (down k * down d) (mul-pos (down-pos k) (down-pos d))
-        (subst (λ (c : ℕ). c ≤ (m * up k * down d - n * up d * down k) * 2 ^ 1074) (mul-comm (down d) (down k)) (apart-by-unit (n * up d) (m * up k) (down d) (down k) (N .0) (M .0) (down-pos d) (down-pos k) (N .1) (M .1) (h tt)))
+        (subst (λ (c : ℕ). c ≤ (m * up k * down d - n * up d * down k) * 2 ^ 1074) (mul-comm (down d) (down k))
+        (apart-by-unit (n * up d) (m * up k) (down d) (down k) (N .0) (M .0) (down-pos d) (down-pos k) (N .1) (M .1) (h tt)))
 
 -- what is not -0.0 does not become -0.0 by adding a finite value
 pub never-minus-zero : (t x : Float) → T (proper t) → T (fits binary64 t) → T (fits binary64 x) → T (finite x) → T (proper (add binary64 t x))
@@ -326,7 +368,8 @@ never-minus-zero (fin a m k) (fin s n d) p f g q = proper-sum a m k s n d f g p
 -- ---- the mean
 
 -- lists of equal samples have one sum, from what is not -0.0
-sum-alike : (t : Float) (xs ys : List Float) → T (proper t) → T (fits binary64 t) → AllFit xs → AllFit ys → AllFinite xs → AllFinite ys → AllSame xs ys → sumFrom t xs ≡ sumFrom t ys
+sum-alike : (t : Float) (xs ys : List Float) → T (proper t) → T (fits binary64 t) → AllFit xs → AllFit ys → AllFinite xs → AllFinite ys → AllSame xs ys
+    → sumFrom t xs ≡ sumFrom t ys
 unfolding sumFrom
 sum-alike t [] [] p f a b c d s = refl
 sum-alike t [] (y ∷ ys) p f a b c d s = absurd s

@@ -5,7 +5,8 @@ ghost use mathlib.Core.Bool.{_||_};
 ghost use Prim.Native.Nat.{_≤_};
 ghost use lib.ListN.{take, drop};
 ghost use Rattle.clocksync.specs.Offset.{offsetOf};
-ghost use Rattle.clocksync.specs.Clock.{laidOut, newOf, tickedOf, listenOf, heardOf, firstOf, otherOf, deviatesOf, offsetAfter, addedOf, settledOf, serverSecondsOf, readyOf, sampleOk, timerOk, samplesOk, soundClock};
+ghost use Rattle.clocksync.specs.Clock.{laidOut, newOf, tickedOf, listenOf, heardOf, firstOf, otherOf, deviatesOf, offsetAfter, addedOf, settledOf};
+ghost use Rattle.clocksync.specs.Clock.{serverSecondsOf, readyOf, sampleOk, timerOk, samplesOk, soundClock};
 use settings::Settings;
 
 mod mean;

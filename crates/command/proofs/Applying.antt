@@ -45,7 +45,8 @@ words-counted side h (x ∷ xs) = commands-on-command side (commandWords side xs
 pub words-other-side : (side : ℕ) → side < 2 → (xs : List Entry) → commandsOn (1 - side) (commandWords side xs) ≡ 0
 unfolding commandWords commandsOn
 words-other-side side h [] = refl
-words-other-side side h (x ∷ xs) = commands-on-command (1 - side) (commandWords side xs) side (x .handle) ∙ omega (arith, other-side side h, words-other-side side h xs)
+words-other-side side h (x ∷ xs) = commands-on-command (1 - side) (commandWords side xs) side (x .handle)
+    ∙ omega (arith, other-side side h, words-other-side side h xs)
 
 -- ---- the loop
 
@@ -59,7 +60,8 @@ pub apply-none : (side : ℕ) (p : Entry → Bool) (xs : List Entry) (m : ℕ) (
 unfolding commandWords
 apply-none side p xs m was place g = record { words = puts-none was place; most = omega arith; long = g }
 
-module _ {side : ℕ} {p : Entry → Bool} {xs : List Entry} {m : ℕ} {was : List ℕ} {place i q : ℕ} {last : List ℕ} (s : Applying side p xs m was place i q last) where
+module _ {side : ℕ} {p : Entry → Bool} {xs : List Entry} {m : ℕ} {was : List ℕ} {place i q : ℕ} {last : List ℕ}
+    (s : Applying side p xs m was place i q last) where
   -- no more words are put than entries are passed
   pub apply-few : q ≤ place + i
   apply-few = omega (arith, s .words .at, words-length side (filterB p (take i xs)), filter-short p (take i xs), length-take i xs)
@@ -68,7 +70,8 @@ module _ {side : ℕ} {p : Entry → Bool} {xs : List Entry} {m : ℕ} {was : Li
   apply-length = puts-length (s .words)
 
   module _ (d : Entry) (h : i < m) where
-    pub apply-one : p (getD xs i d) ≡ true → {w r : ℕ} {next : List ℕ} → w ≡ commandWord side (getD xs i d .handle) → Puts last q (w ∷ []) r next → Applying side p xs m was place (i + 1) r next
+    pub apply-one : p (getD xs i d) ≡ true → {w r : ℕ} {next : List ℕ} → w ≡ commandWord side (getD xs i d .handle) → Puts last q (w ∷ []) r next
+        → Applying side p xs m was place (i + 1) r next
     apply-one e {w} {r} {next} f u =
         let xs′ : commandWords side (filterB p (take i xs)) ++ (w ∷ []) ≡ commandWords side (filterB p (take (i + 1) xs)) =
         rw (filter-took p xs i d (omega arith) e, words-append side (filterB p (take i xs)) (getD xs i d ∷ []), words-one side (getD xs i d), f) in
@@ -78,5 +81,7 @@ module _ {side : ℕ} {p : Entry → Bool} {xs : List Entry} {m : ℕ} {was : Li
     apply-skip e = record { words = rw (filter-left p xs i d (omega arith) e) (s .words); most = omega arith; long = s .long }
 
 -- once it has passed them all
-pub apply-held : (b : CommandBuffer) {side : ℕ} {p : Entry → Bool} {m : ℕ} {was : List ℕ} {place i q : ℕ} {last : List ℕ} → Applying side p (b .entries) m was place i q last → i ≡ m → m ≡ length (held b) → Puts was place (commandWords side (filterB p (held b))) q last
-apply-held b {side} {p} s e f = puts-as (ap (λ (n : ℕ). commandWords side (filterB p (take n (b .entries)))) e ∙ ap (λ (l : List Entry). commandWords side (filterB p l)) (held-take b f)) (s .words)
+pub apply-held : (b : CommandBuffer) {side : ℕ} {p : Entry → Bool} {m : ℕ} {was : List ℕ} {place i q : ℕ} {last : List ℕ}
+    → Applying side p (b .entries) m was place i q last → i ≡ m → m ≡ length (held b) → Puts was place (commandWords side (filterB p (held b))) q last
+apply-held b {side} {p} s e f = puts-as (ap (λ (n : ℕ). commandWords side (filterB p (take n (b .entries)))) e
+    ∙ ap (λ (l : List Entry). commandWords side (filterB p l)) (held-take b f)) (s .words)

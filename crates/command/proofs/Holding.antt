@@ -1,4 +1,5 @@
--- A buffer and the list of its entries: what is held once a list is laid out, what a loop over the slots has passed, and what stays where some go. Assumes nothing.
+-- A buffer and the list of its entries: what is held once a list is laid out, what a loop over the slots has passed, and what stays where some go. Assumes
+-- nothing.
 use mathlib.Core.Path.{_≡_, refl, sym, ap, _∙_}
 use mathlib.Core.List.{List, [], _∷_, _++_}
 use Prim.Native.Nat.{ℕ, _≤_, _<_}
@@ -33,8 +34,10 @@ pub held-take : (b : CommandBuffer) {n : ℕ} → n ≡ length (held b) → take
 held-take b {n} e = rw e (take-length-take (b .len) (b .entries))
 
 -- what a loop has counted once it has passed them all
-pub held-counted : (b : CommandBuffer) {p : Entry → Bool} {m i k r : ℕ} → Counted p (b .entries) m i k → i ≡ m → m ≡ length (held b) → r ≡ k → r ≡ length (filterB p (held b))
-held-counted b {p} {m} {i} {k} {r} s e f g = g ∙ s .count ∙ ap (λ (n : ℕ). length (filterB p (take n (b .entries)))) e ∙ ap (λ (l : List Entry). length (filterB p l)) (held-take b f)
+pub held-counted : (b : CommandBuffer) {p : Entry → Bool} {m i k r : ℕ} → Counted p (b .entries) m i k → i ≡ m → m ≡ length (held b) → r ≡ k
+    → r ≡ length (filterB p (held b))
+held-counted b {p} {m} {i} {k} {r} s e f g = g ∙ s .count ∙ ap (λ (n : ℕ). length (filterB p (take n (b .entries)))) e
+    ∙ ap (λ (l : List Entry). length (filterB p l)) (held-take b f)
 
 -- no more are held than there are slots, nor than the count says
 pub held-long : (b : CommandBuffer) {n : ℕ} → n ≡ length (held b) → n ≤ length (b .entries)
@@ -64,7 +67,8 @@ pub as-laid : (b : CommandBuffer) → b ≡ laid (held b) (b .timestamp) → InS
 unfolding laid
 as-laid b e = record { slots = ap (λ (r : CommandBuffer). r .entries) e; count = ap (λ (r : CommandBuffer). r .len) e }
 
-pub is-laid : {xs out : List Entry} {k : ℕ} (t : Timestamp) → InSlots 64 blank xs out k → _≡_ {A = CommandBuffer} (record { entries = out; len = k; timestamp = t }) (laid xs t)
+pub is-laid : {xs out : List Entry} {k : ℕ} (t : Timestamp) → InSlots 64 blank xs out k
+    → _≡_ {A = CommandBuffer} (record { entries = out; len = k; timestamp = t }) (laid xs t)
 unfolding laid
 is-laid t l = rw (l .slots, l .count)
 

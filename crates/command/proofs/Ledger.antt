@@ -12,7 +12,8 @@ use Rattle.command.specs.declared.Entry.{Entry}
 use Rattle.command.specs.declared.CommandBuffer.{CommandBuffer}
 use Rattle.command.specs.declared.Outcome.the-variants.{Taken, OutOfRange, Full}
 use Rattle.command.specs.Lists.{filterB}
-use Rattle.command.specs.Buffer.{held, laid, inRangeOf, dueOf, laterThan, placedOf, insertedOf, takenBy, leaving, around, droppedOf, movedOf, takenOf, restOf, emptiedOf}
+use Rattle.command.specs.Buffer.{held, laid, inRangeOf, dueOf, laterThan, placedOf, insertedOf, takenBy, leaving, around, droppedOf, movedOf, takenOf}
+use Rattle.command.specs.Buffer.{restOf, emptiedOf}
 use Rattle.command.proofs.Lists.{filter-ledger, filter-none, filter-none-left, filter-short}
 use Rattle.command.proofs.Holding.{held-laid, stamp-laid, len-laid, held-len, held-leaving, stamp-leaving, leaving-none}
 
@@ -35,7 +36,8 @@ placed-length m e xs = simp length-append (omega (arith, filter-ledger (laterTha
 pub data Ways (b : CommandBuffer) (e : Entry) : Type 0 where
   is-out : inRangeOf (b .timestamp) e ≡ false → insertedOf b e ≡ record { outcome = OutOfRange; buffer = b } → Ways b e
   is-full : inRangeOf (b .timestamp) e ≡ true → 64 ≤ length (held b) → insertedOf b e ≡ record { outcome = Full; buffer = b } → Ways b e
-  is-taken : inRangeOf (b .timestamp) e ≡ true → length (held b) < 64 → insertedOf b e ≡ record { outcome = Taken; buffer = laid (placedOf (b .timestamp) e (held b)) (b .timestamp) } → Ways b e
+  is-taken : inRangeOf (b .timestamp) e ≡ true → length (held b) < 64
+      → insertedOf b e ≡ record { outcome = Taken; buffer = laid (placedOf (b .timestamp) e (held b)) (b .timestamp) } → Ways b e
 
 pub insertion-ways : (b : CommandBuffer) (e : Entry) → Ways b e
 unfolding insertedOf
@@ -85,7 +87,8 @@ moved-stamp b t = stamp-leaving (droppedOf b t) (filterB (inRangeOf t) (held b))
 -- its count stays within a bound
 pub moved-len : (b : CommandBuffer) (t : Timestamp) {n : ℕ} → b .len ≤ n → movedOf b t .buffer .len ≤ n
 unfolding movedOf
-moved-len b t {n} h = leaving-len (droppedOf b t) (filterB (inRangeOf t) (held b)) (around t b) n h (omega (arith, filter-short (inRangeOf t) (held b), held-len b))
+moved-len b t {n} h = leaving-len (droppedOf b t) (filterB (inRangeOf t) (held b)) (around t b) n h
+    (omega (arith, filter-short (inRangeOf t) (held b), held-len b))
 
 -- held before a move is what it drops and what is held after it
 pub moved-ledger : (b : CommandBuffer) (t : Timestamp) → length (held b) ≡ movedOf b t .dropped + length (held (movedOf b t .buffer))
@@ -110,7 +113,8 @@ rest-stamp b s = stamp-leaving (takenOf b s) (filterB (λ e. not (dueOf s e)) (h
 -- its count stays within a bound
 pub rest-len : (b : CommandBuffer) (s : Timestamp) {n : ℕ} → b .len ≤ n → restOf b s .len ≤ n
 unfolding restOf
-rest-len b s {n} h = leaving-len (takenOf b s) (filterB (λ e. not (dueOf s e)) (held b)) b n h (omega (arith, filter-short (λ e. not (dueOf s e)) (held b), held-len b))
+rest-len b s {n} h = leaving-len (takenOf b s) (filterB (λ e. not (dueOf s e)) (held b)) b n h
+    (omega (arith, filter-short (λ e. not (dueOf s e)) (held b), held-len b))
 
 -- held before a drain is what it takes and what is held after it
 pub drained-ledger : (b : CommandBuffer) (s : Timestamp) → length (held b) ≡ length (takenOf b s) + length (held (restOf b s))

@@ -45,17 +45,21 @@ module _ {A : Type 0} where
   filter-append p [] ys = refl
   filter-append p (x ∷ xs) ys = step (p x) (filter-append p xs ys)
     where
-      step : (t : Bool) → filterB p (xs ++ ys) ≡ filterB p xs ++ filterB p ys → cond t (x ∷ filterB p (xs ++ ys)) (filterB p (xs ++ ys)) ≡ cond t (x ∷ filterB p xs) (filterB p xs) ++ filterB p ys
+      step : (t : Bool) → filterB p (xs ++ ys) ≡ filterB p xs ++ filterB p ys
+          → cond t (x ∷ filterB p (xs ++ ys)) (filterB p (xs ++ ys)) ≡ cond t (x ∷ filterB p xs) (filterB p xs) ++ filterB p ys
       step true e = ap (λ (l : List A). x ∷ l) e
       step false e = e
 
   -- one element more that passes
-  pub filter-took : (p : A → Bool) (xs : List A) (i : ℕ) (d : A) → i < length xs → p (getD xs i d) ≡ true → filterB p (take (i + 1) xs) ≡ filterB p (take i xs) ++ (getD xs i d ∷ [])
-  filter-took p xs i d h e = rw (add-one i, take-suc xs i d, filter-append p (take i xs)) (ap (λ (t : Bool). filterB p (take i xs) ++ cond t (getD xs i d ∷ []) []) e)
+  pub filter-took : (p : A → Bool) (xs : List A) (i : ℕ) (d : A) → i < length xs → p (getD xs i d) ≡ true
+      → filterB p (take (i + 1) xs) ≡ filterB p (take i xs) ++ (getD xs i d ∷ [])
+  filter-took p xs i d h e = rw (add-one i, take-suc xs i d, filter-append p (take i xs))
+      (ap (λ (t : Bool). filterB p (take i xs) ++ cond t (getD xs i d ∷ []) []) e)
 
   -- one element more that does not
   pub filter-left : (p : A → Bool) (xs : List A) (i : ℕ) (d : A) → i < length xs → p (getD xs i d) ≡ false → filterB p (take (i + 1) xs) ≡ filterB p (take i xs)
-  filter-left p xs i d h e = rw (add-one i, take-suc xs i d, filter-append p (take i xs)) (ap (λ (t : Bool). filterB p (take i xs) ++ cond t (getD xs i d ∷ []) []) e ∙ append-nil (filterB p (take i xs)))
+  filter-left p xs i d h e = rw (add-one i, take-suc xs i d, filter-append p (take i xs))
+      (ap (λ (t : Bool). filterB p (take i xs) ++ cond t (getD xs i d ∷ []) []) e ∙ append-nil (filterB p (take i xs)))
 
   -- two tests that agree
   pub filter-ext : (p q : A → Bool) → ((x : A) → p x ≡ q x) → (xs : List A) → filterB p xs ≡ filterB q xs
@@ -72,7 +76,9 @@ module _ {A : Type 0} where
   filter-ledger p [] = refl
   filter-ledger p (x ∷ xs) = step (p x) (filter-ledger p xs)
     where
-      step : (t : Bool) → length (filterB p xs) + length (filterB (λ y. not (p y)) xs) ≡ length xs → length (cond t (x ∷ filterB p xs) (filterB p xs)) + length (cond (not t) (x ∷ filterB (λ y. not (p y)) xs) (filterB (λ y. not (p y)) xs)) ≡ suc (length xs)
+      step : (t : Bool) → length (filterB p xs) + length (filterB (λ y. not (p y)) xs) ≡ length xs
+          → length (cond t (x ∷ filterB p xs) (filterB p xs)) + length
+          (cond (not t) (x ∷ filterB (λ y. not (p y)) xs) (filterB (λ y. not (p y)) xs)) ≡ suc (length xs)
       step true e = omega arith
       step false e = omega arith
 
@@ -81,7 +87,8 @@ module _ {A : Type 0} where
   filter-none-left p [] e = refl
   filter-none-left p (x ∷ xs) e = step (p x) e (filter-none-left p xs)
     where
-      step : (t : Bool) → cond (not t) (x ∷ filterB (λ y. not (p y)) xs) (filterB (λ y. not (p y)) xs) ≡ [] → (filterB (λ y. not (p y)) xs ≡ [] → filterB p xs ≡ xs) → cond t (x ∷ filterB p xs) (filterB p xs) ≡ x ∷ xs
+      step : (t : Bool) → cond (not t) (x ∷ filterB (λ y. not (p y)) xs) (filterB (λ y. not (p y)) xs) ≡ []
+          → (filterB (λ y. not (p y)) xs ≡ [] → filterB p xs ≡ xs) → cond t (x ∷ filterB p xs) (filterB p xs) ≡ x ∷ xs
       step true e f = ap (λ (l : List A). x ∷ l) (f e)
       step false e f = let z : _≡_ {A = ℕ} 0 1 = cc in absurd (omega arith)
 
@@ -90,7 +97,8 @@ module _ {A : Type 0} where
   filter-none p [] e = refl
   filter-none p (x ∷ xs) e = step (p x) e (filter-none p xs)
     where
-      step : (t : Bool) → cond t (x ∷ filterB p xs) (filterB p xs) ≡ [] → (filterB p xs ≡ [] → filterB (λ y. not (p y)) xs ≡ xs) → cond (not t) (x ∷ filterB (λ y. not (p y)) xs) (filterB (λ y. not (p y)) xs) ≡ x ∷ xs
+      step : (t : Bool) → cond t (x ∷ filterB p xs) (filterB p xs) ≡ [] → (filterB p xs ≡ [] → filterB (λ y. not (p y)) xs ≡ xs)
+          → cond (not t) (x ∷ filterB (λ y. not (p y)) xs) (filterB (λ y. not (p y)) xs) ≡ x ∷ xs
       step false e f = ap (λ (l : List A). x ∷ l) (f e)
       step true e f = let z : _≡_ {A = ℕ} 0 1 = cc in absurd (omega arith)
 
@@ -100,7 +108,8 @@ module _ {A : Type 0} where
   filter-grows : (p : A → Bool) (xs : List A) (i j : ℕ) → i ≤ j → length (filterB p (take i xs)) ≤ length (filterB p (take j xs))
   filter-grows p xs i j h =
       let e : take i xs ++ drop i (take j xs) ≡ take j xs = rw (← take-take i j xs h) (take-append-drop i (take j xs)) in
-      let f : length (filterB p (take j xs)) ≡ length (filterB p (take i xs)) + length (filterB p (drop i (take j xs))) = ap (λ (l : List A). length (filterB p l)) (sym e) ∙ simp (filter-append, length-append) in
+      let f : length (filterB p (take j xs)) ≡ length (filterB p (take i xs)) + length (filterB p (drop i (take j xs))) =
+      ap (λ (l : List A). length (filterB p l)) (sym e) ∙ simp (filter-append, length-append) in
       omega arith
 
   -- ---- loops
@@ -112,7 +121,8 @@ module _ {A : Type 0} where
     pub most : i ≤ m
     pub long : m ≤ length xs
 
-  pub sift-none : {ys : List A} (p : A → Bool) (xs : List A) (m : ℕ) {n : ℕ} {z : A} {out : List A} {k : ℕ} → InSlots n z ys out k → length ys + length (filterB p (take m xs)) ≤ n → m ≤ length xs → Sifted ys p xs m n z 0 out k
+  pub sift-none : {ys : List A} (p : A → Bool) (xs : List A) (m : ℕ) {n : ℕ} {z : A} {out : List A} {k : ℕ} → InSlots n z ys out k
+      → length ys + length (filterB p (take m xs)) ≤ n → m ≤ length xs → Sifted ys p xs m n z 0 out k
   sift-none {ys} p xs m l h g = record { laid = rw append-nil l; room = h; most = omega arith; long = g }
 
   module _ {ys : List A} {p : A → Bool} {xs out : List A} {m n i k : ℕ} {z : A} (s : Sifted ys p xs m n z i out k) (d : A) (h : i < m) where
@@ -124,7 +134,8 @@ module _ {A : Type 0} where
         omega arith
 
     pub sift-push : p (getD xs i d) ≡ true → Sifted ys p xs m n z (i + 1) (set out k (getD xs i d)) (k + 1)
-    sift-push e = record { laid = rw (filter-took p xs i d (omega arith) e, ← append-assoc ys) (laid-push (s .laid) (getD xs i d) (sift-room e)); room = s .room; most = omega arith; long = s .long }
+    sift-push e =
+        record { laid = rw (filter-took p xs i d (omega arith) e, ← append-assoc ys) (laid-push (s .laid) (getD xs i d) (sift-room e)); room = s .room; most = omega arith; long = s .long }
 
     pub sift-skip : p (getD xs i d) ≡ false → Sifted ys p xs m n z (i + 1) out k
     sift-skip e = record { laid = rw (filter-left p xs i d (omega arith) e) (s .laid); room = s .room; most = omega arith; long = s .long }

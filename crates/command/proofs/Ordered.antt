@@ -89,18 +89,23 @@ ordered-filter p m lo (x ∷ xs) s = step (p x) (ordered-filter p m (rankIn m x)
 -- ---- the midpoint moves
 
 -- two stamps in range of both midpoints stand in the same order to both
-order-kept : (x y m t : ℕ) → 16385 ≤ rankOf m x → rankOf m x ≤ 49150 → 16385 ≤ rankOf m y → rankOf m y ≤ 49150 → 16385 ≤ rankOf t x → rankOf t x ≤ 49150 → 16385 ≤ rankOf t y → rankOf t y ≤ 49150 → rankOf m x ≤ rankOf m y → rankOf t x ≤ rankOf t y
+order-kept : (x y m t : ℕ) → 16385 ≤ rankOf m x → rankOf m x ≤ 49150 → 16385 ≤ rankOf m y → rankOf m y ≤ 49150 → 16385 ≤ rankOf t x → rankOf t x ≤ 49150
+    → 16385 ≤ rankOf t y → rankOf t y ≤ 49150 → rankOf m x ≤ rankOf m y → rankOf t x ≤ rankOf t y
 unfolding rankOf
 order-kept x y m t a b c d e f g h i = omega arith
 
-pub ordered-moved : (m t : Timestamp) (lo low : ℕ) (xs : List Entry) → ((y : Entry) → lo ≤ rankIn m y → 16385 ≤ rankIn m y → rankIn m y ≤ 49150 → 16385 ≤ rankIn t y → rankIn t y ≤ 49150 → low ≤ rankIn t y) → Ordered m lo xs → Ordered t low (filterB (inRangeOf t) xs)
+pub ordered-moved : (m t : Timestamp) (lo low : ℕ) (xs : List Entry)
+    → ((y : Entry) → lo ≤ rankIn m y → 16385 ≤ rankIn m y → rankIn m y ≤ 49150 → 16385 ≤ rankIn t y → rankIn t y ≤ 49150 → low ≤ rankIn t y)
+    → Ordered m lo xs → Ordered t low (filterB (inRangeOf t) xs)
 ordered-moved m t lo low [] f s = tt
 ordered-moved m t lo low (x ∷ xs) f s =
     step (inRangeOf t x) refl
     (λ g. ordered-moved m t (rankIn m x) (rankIn t x) xs g (s .3))
     (ordered-moved m t (rankIn m x) low xs (λ y a b c d e. f y (omega arith) b c d e) (s .3))
   where
-    step : (v : Bool) → inRangeOf t x ≡ v → (((y : Entry) → rankIn m x ≤ rankIn m y → 16385 ≤ rankIn m y → rankIn m y ≤ 49150 → 16385 ≤ rankIn t y → rankIn t y ≤ 49150 → rankIn t x ≤ rankIn t y) → Ordered t (rankIn t x) (filterB (inRangeOf t) xs)) → Ordered t low (filterB (inRangeOf t) xs) → Ordered t low (cond v (x ∷ filterB (inRangeOf t) xs) (filterB (inRangeOf t) xs))
+    step : (v : Bool) → inRangeOf t x ≡ v → (((y : Entry) → rankIn m x ≤ rankIn m y → 16385 ≤ rankIn m y → rankIn m y ≤ 49150 → 16385 ≤ rankIn t y
+        → rankIn t y ≤ 49150 → rankIn t x ≤ rankIn t y) → Ordered t (rankIn t x) (filterB (inRangeOf t) xs)) → Ordered t low (filterB (inRangeOf t) xs)
+        → Ordered t low (cond v (x ∷ filterB (inRangeOf t) xs) (filterB (inRangeOf t) xs))
     step true e r n =
         let i = in-range-tells t x e in (
           f x (s .0) (s .1) (s .2) (i .0) (i .1),
@@ -135,15 +140,24 @@ unfolding placedOf
 placed-is m e lo [] s = refl
 placed-is m e lo (x ∷ xs) s = step (decLe (rankIn m x) (rankIn m e)) (placed-is m e (rankIn m x) xs (s .3))
   where
-    step : Dec (rankIn m x ≤ rankIn m e) → filterB (λ y. not (laterThan m e y)) xs ++ (e ∷ filterB (laterThan m e) xs) ≡ insertBy (rankIn m) e xs → filterB (λ y. not (laterThan m e y)) (x ∷ xs) ++ (e ∷ filterB (laterThan m e) (x ∷ xs)) ≡ insertBy (rankIn m) e (x ∷ xs)
+    step : Dec (rankIn m x ≤ rankIn m e) → filterB (λ y. not (laterThan m e y)) xs ++ (e ∷ filterB (laterThan m e) xs) ≡ insertBy (rankIn m) e xs
+        → filterB (λ y. not (laterThan m e y)) (x ∷ xs) ++ (e ∷ filterB (laterThan m e) (x ∷ xs)) ≡ insertBy (rankIn m) e (x ∷ xs)
     step (yes h) ih = rw (up-to m e x h, le-leb (rankIn m x) (rankIn m e) h) (ap (λ (l : List Entry). x ∷ l) ih)
-    step (no h) ih = rw (beyond m e x (omega arith), lt-leb (rankIn m x) (rankIn m e) (omega arith), none-up-to m e (rankIn m x) xs (omega arith) (s .3), all-beyond m e (rankIn m x) xs (omega arith) (s .3))
+    step (no h) ih = rw (
+      beyond m e x (omega arith),
+      lt-leb (rankIn m x) (rankIn m e) (omega arith),
+      none-up-to m e (rankIn m x) xs (omega arith)
+          (s .3),
+      all-beyond m e (rankIn m x) xs (omega arith) (s .3),
+    )
 
-ordered-insertBy : (m : Timestamp) (e : Entry) (lo : ℕ) (xs : List Entry) → 16385 ≤ rankIn m e → rankIn m e ≤ 49150 → lo ≤ rankIn m e → Ordered m lo xs → Ordered m lo (insertBy (rankIn m) e xs)
+ordered-insertBy : (m : Timestamp) (e : Entry) (lo : ℕ) (xs : List Entry) → 16385 ≤ rankIn m e → rankIn m e ≤ 49150 → lo ≤ rankIn m e → Ordered m lo xs
+    → Ordered m lo (insertBy (rankIn m) e xs)
 ordered-insertBy m e lo [] a b h s = (h, a, b, tt)
 ordered-insertBy m e lo (x ∷ xs) a b h s = step (decLe (rankIn m x) (rankIn m e)) (λ g. ordered-insertBy m e (rankIn m x) xs a b g (s .3))
   where
-    step : Dec (rankIn m x ≤ rankIn m e) → (rankIn m x ≤ rankIn m e → Ordered m (rankIn m x) (insertBy (rankIn m) e xs)) → Ordered m lo (insertBy (rankIn m) e (x ∷ xs))
+    step : Dec (rankIn m x ≤ rankIn m e) → (rankIn m x ≤ rankIn m e → Ordered m (rankIn m x) (insertBy (rankIn m) e xs))
+        → Ordered m lo (insertBy (rankIn m) e (x ∷ xs))
     step (yes g) ih = rw (le-leb (rankIn m x) (rankIn m e) g) (s .0, s .1, s .2, ih g)
     step (no g) ih = rw (lt-leb (rankIn m x) (rankIn m e) (omega arith)) (h, a, b, (omega arith, s .1, s .2, s .3))
 

@@ -47,7 +47,8 @@ signed-order a b A B = elim (split a 32768) [
   ]
   | inr ha ↦ elim (split b 32768) [
     | inl lb ↦ simp (signed-high a ha, signed-low b lb) (sym (le-leb (sumOf a 32768) (sumOf b 32768) (omega arith)))
-    | inr hb ↦ simp (signed-high a ha, signed-high b hb) (same-leb (65535 - b) (65535 - a) (sumOf a 32768) (sumOf b 32768) (λ h. omega arith) (λ h. omega arith))
+    | inr hb ↦ simp (signed-high a ha, signed-high b hb) (same-leb (65535 - b) (65535 - a) (sumOf a 32768) (sumOf b 32768) (λ h. omega arith)
+        (λ h. omega arith))
   ]
 ]
 
@@ -61,8 +62,10 @@ in-range-rank m s =
     let d = differenceOf s m in
     let low : signedOf 49153 ≡ negsuc 16382 = signed-high 49153 (omega arith) in
     let high : signedOf 16382 ≡ pos 16382 = signed-low 16382 (omega arith) in
-    let a : leZ (negsuc 16382) (signedOf d) ≡ leb 16385 (sumOf d 32768) = ap (λ (z : ℤ). leZ z (signedOf d)) (sym low) ∙ signed-order 49153 d (omega arith) (difference-lt s m) in
-    let b : leZ (signedOf d) (pos 16382) ≡ leb (sumOf d 32768) 49150 = ap (λ (z : ℤ). leZ (signedOf d) z) (sym high) ∙ signed-order d 16382 (difference-lt s m) (omega arith) in
+    let a : leZ (negsuc 16382) (signedOf d) ≡ leb 16385 (sumOf d 32768) = ap (λ (z : ℤ). leZ z (signedOf d)) (sym low)
+    ∙ signed-order 49153 d (omega arith) (difference-lt s m) in
+    let b : leZ (signedOf d) (pos 16382) ≡ leb (sumOf d 32768) 49150 = ap (λ (z : ℤ). leZ (signedOf d) z) (sym high)
+    ∙ signed-order d 16382 (difference-lt s m) (omega arith) in
     ap (λ (u : Bool). u && leZ (signedOf d) (pos 16382)) a ∙ ap (λ (u : Bool). leb 16385 (sumOf d 32768) && u) b
 
 -- due, by the rank
@@ -76,7 +79,8 @@ due-rank s e =
 -- later, by the rank
 pub later-rank : (m : Timestamp) (e x : Entry) → laterThan m e x ≡ not (leb (rankIn m x) (rankIn m e))
 unfolding laterThan rankOf
-later-rank m e x = ap not (signed-order (differenceOf (x .stamp .0) (m .0)) (differenceOf (e .stamp .0) (m .0)) (difference-lt (x .stamp .0) (m .0)) (difference-lt (e .stamp .0) (m .0)))
+later-rank m e x = ap not (signed-order (differenceOf (x .stamp .0) (m .0)) (differenceOf (e .stamp .0) (m .0)) (difference-lt (x .stamp .0) (m .0))
+    (difference-lt (e .stamp .0) (m .0)))
 
 -- ---- spans
 
@@ -103,7 +107,8 @@ span-due s lo hi el eh e = rw (from-zero (rankIn s e) lo el, below-next (rankIn 
 -- up to a rank, not later
 pub span-up-to : (m : Timestamp) (x : Entry) (lo hi : ℕ) → lo ≡ 0 → hi ≡ rankIn m x + 1 → (e : Entry) → rankWithin m lo hi e ≡ not (laterThan m x e)
 unfolding spanned
-span-up-to m x lo hi el eh e = rw (from-zero (rankIn m e) lo el, below-next (rankIn m e) (rankIn m x) hi eh, later-rank m x e) (not-not (leb (rankIn m e) (rankIn m x)))
+span-up-to m x lo hi el eh e = rw (from-zero (rankIn m e) lo el, below-next (rankIn m e) (rankIn m x) hi eh, later-rank m x e)
+    (not-not (leb (rankIn m e) (rankIn m x)))
   where
     not-not : (t : Bool) → t ≡ not (not t)
     not-not true = refl

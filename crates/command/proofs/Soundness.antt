@@ -22,7 +22,8 @@ use Rattle.command.proofs.Holding.{held-laid, stamp-laid, len-laid, hel
 use Rattle.command.proofs.Ranks.{rankIn, in-range-rank, later-rank}
 use Rattle.command.proofs.Ordered.{Ordered, ordered-tells, ordered-holds, ordered-filter, ordered-moved, ordered-placed}
 use Rattle.timestamp.proofs.Tests.{apart, both}
-use Rattle.command.proofs.Ledger.{Ways, is-out, is-full, is-taken, insertion-ways, placed-length, moved-held, moved-stamp, moved-len, rest-held, rest-stamp, rest-len, emptied-held, emptied-len}
+use Rattle.command.proofs.Ledger.{Ways, is-out, is-full, is-taken, insertion-ways, placed-length, moved-held, moved-stamp, moved-len, rest-held}
+use Rattle.command.proofs.Ledger.{rest-stamp, rest-len, emptied-held, emptied-len}
 
 -- ---- the parts of soundness
 
@@ -66,7 +67,8 @@ small-append (x ∷ xs) ys h g =
 
 small-placed : (m : Timestamp) (e : Entry) (xs : List Entry) → smallHandle e ≡ true → allB smallHandle xs ≡ true → allB smallHandle (placedOf m e xs) ≡ true
 unfolding placedOf
-small-placed m e xs h g = small-append (filterB (λ x. not (laterThan m e x)) xs) (e ∷ filterB (laterThan m e) xs) (small-filter (λ x. not (laterThan m e x)) xs g) (both h (small-filter (laterThan m e) xs g))
+small-placed m e xs h g = small-append (filterB (λ x. not (laterThan m e x)) xs) (e ∷ filterB (laterThan m e) xs)
+    (small-filter (λ x. not (laterThan m e x)) xs g) (both h (small-filter (laterThan m e) xs g))
 
 -- ---- every operation
 
@@ -91,7 +93,8 @@ inserted-sound b e h s = go (insertion-ways b e)
     go (is-full i f q) = rw q s
     go (is-taken i f q) =
         let t = sound-tells b s in
-        rw q (laid-sound (placedOf (b .timestamp) e (held b)) (b .timestamp) (omega (arith, placed-length (b .timestamp) e (held b))) (ordered-placed (b .timestamp) e (held b) i (t .order)) (small-placed (b .timestamp) e (held b) (lt-ltb (e .handle) (2 ^ 24) h) (t .small)))
+        rw q (laid-sound (placedOf (b .timestamp) e (held b)) (b .timestamp) (omega (arith, placed-length (b .timestamp) e (held b)))
+        (ordered-placed (b .timestamp) e (held b) i (t .order)) (small-placed (b .timestamp) e (held b) (lt-ltb (e .handle) (2 ^ 24) h) (t .small)))
 
 pub moved-sound : (b : CommandBuffer) (t : Timestamp) → soundBuffer b ≡ true → soundBuffer (movedOf b t .buffer) ≡ true
 moved-sound b t s =
@@ -170,7 +173,8 @@ lead false o s = refl
 
 buffer-is : (b : CommandBuffer) → soundBuffer b ≡ leb (b .len) 64 && soundFrom (b .timestamp) 0 (held b)
 unfolding soundBuffer
-buffer-is b = lead (leb (b .len) 64) (orderedIn (b .timestamp) (held b)) (allB smallHandle (held b)) ∙ ap (λ (t : Bool). leb (b .len) 64 && t) (entries-are (b .timestamp) (held b))
+buffer-is b = lead (leb (b .len) 64) (orderedIn (b .timestamp) (held b)) (allB smallHandle (held b))
+    ∙ ap (λ (t : Bool). leb (b .len) 64 && t) (entries-are (b .timestamp) (held b))
 
 -- too many
 pub sound-long : (b : CommandBuffer) → 64 < b .len → false ≡ soundBuffer b
@@ -191,7 +195,8 @@ test-none b {n} slots e few =
       count = e;
       few = few;
       most = omega arith;
-      same = buffer-is b ∙ ap (λ (t : Bool). t && soundFrom (b .timestamp) 0 (held b)) (le-leb (b .len) 64 (omega arith)) ∙ ap (λ (k : ℕ). soundFrom (b .timestamp) 0 (take k (b .entries))) (sym e);
+      same = buffer-is b ∙ ap (λ (t : Bool). t && soundFrom (b .timestamp) 0 (held b)) (le-leb (b .len) 64 (omega arith))
+          ∙ ap (λ (k : ℕ). soundFrom (b .timestamp) 0 (take k (b .entries))) (sym e);
     }
 
 module _ {b : CommandBuffer} {n i lo : ℕ} (s : Testing b n i lo) where
@@ -211,4 +216,5 @@ module _ {b : CommandBuffer} {n i lo : ℕ} (s : Testing b n i lo) where
 
     -- one that passes
     pub test-next : soundRank k lo (getD (b .entries) i blank .handle) ≡ true → Testing b n (i + 1) k
-    test-next e = record { slots = s .slots; count = s .count; few = s .few; most = omega arith; same = next ∙ ap (λ (t : Bool). t && soundFrom (b .timestamp) k (drop (i + 1) (take n (b .entries)))) e }
+    test-next e =
+        record { slots = s .slots; count = s .count; few = s .few; most = omega arith; same = next ∙ ap (λ (t : Bool). t && soundFrom (b .timestamp) k (drop (i + 1) (take n (b .entries)))) e }

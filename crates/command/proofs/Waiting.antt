@@ -55,10 +55,12 @@ noneFail p xs = eqb (length (filterB (λ e. not (p e)) xs)) 0
 more : (n : ℕ) → eqb (suc n) 0 ≡ false
 more n = ne-eqb (suc n) 0 (λ e. omega arith)
 
-fails-by : (p q : Entry → Bool) (x : Entry) (xs : List Entry) (a b : Bool) → p x ≡ a → q x ≡ b → noneFail (λ e. p e && q e) xs ≡ noneFail p xs && noneFail q xs → noneFail (λ e. p e && q e) (x ∷ xs) ≡ noneFail p (x ∷ xs) && noneFail q (x ∷ xs)
+fails-by : (p q : Entry → Bool) (x : Entry) (xs : List Entry) (a b : Bool) → p x ≡ a → q x ≡ b
+    → noneFail (λ e. p e && q e) xs ≡ noneFail p xs && noneFail q xs → noneFail (λ e. p e && q e) (x ∷ xs) ≡ noneFail p (x ∷ xs) && noneFail q (x ∷ xs)
 fails-by p q x xs true true hp hq h = rw (hp, hq) h
 fails-by p q x xs true false hp hq h = rw (hp, hq) (simp more (and-false (noneFail p xs)))
-fails-by p q x xs false b hp hq h = rw hp (more (length (filterB (λ e. not (p e && q e)) xs)) ∙ ap (λ (c : Bool). c && noneFail q (x ∷ xs)) (sym (more (length (filterB (λ e. not (p e)) xs)))))
+fails-by p q x xs false b hp hq h = rw hp (more (length (filterB (λ e. not (p e && q e)) xs))
+    ∙ ap (λ (c : Bool). c && noneFail q (x ∷ xs)) (sym (more (length (filterB (λ e. not (p e)) xs)))))
 
 -- nothing fails one of two tests exactly where nothing fails either
 none-fails : (p q : Entry → Bool) (xs : List Entry) → noneFail (λ e. p e && q e) xs ≡ noneFail p xs && noneFail q xs
@@ -66,9 +68,12 @@ none-fails p q [] = refl
 none-fails p q (x ∷ xs) = fails-by p q x xs (p x) (q x) refl refl (none-fails p q xs)
 
 -- the one count decides
-pub waits-counted : (b : CommandBuffer) (t : Timestamp) {lo hi n : ℕ} → lo ≡ 32769 → hi ≡ 49151 → n ≡ length (filterB (λ e. not (rankWithin t lo hi e)) (held b)) → eqb n 0 ≡ waitsOf b t
+pub waits-counted : (b : CommandBuffer) (t : Timestamp) {lo hi n : ℕ} → lo ≡ 32769 → hi ≡ 49151
+    → n ≡ length (filterB (λ e. not (rankWithin t lo hi e)) (held b)) → eqb n 0 ≡ waitsOf b t
 unfolding waitsOf takenOf movedOf droppedOf
 waits-counted b t {lo} {hi} el eh hn =
-    ap (λ (k : ℕ). eqb k 0) (hn ∙ ap length (filter-ext (λ e. not (rankWithin t lo hi e)) (λ e. not (not (dueOf t e) && inRangeOf t e)) (λ e. ap not (span-waits t lo hi el eh e)) (held b)))
+    ap (λ (k : ℕ). eqb k 0) (hn ∙ ap length (filter-ext (λ e. not (rankWithin t lo hi e)) (λ e. not (not (dueOf t e) && inRangeOf t e))
+    (λ e. ap not (span-waits t lo hi el eh e)) (held b)))
     ∙ none-fails (λ e. not (dueOf t e)) (inRangeOf t) (held b)
-    ∙ ap (λ (l : List Entry). eqb (length l) 0 && eqb (length (filterB (λ e. not (inRangeOf t e)) (held b))) 0) (filter-ext (λ e. not (not (dueOf t e))) (dueOf t) (λ e. not-not (dueOf t e)) (held b))
+    ∙ ap (λ (l : List Entry). eqb (length l) 0 && eqb (length (filterB (λ e. not (inRangeOf t e)) (held b))) 0)
+    (filter-ext (λ e. not (not (dueOf t e))) (dueOf t) (λ e. not-not (dueOf t e)) (held b))

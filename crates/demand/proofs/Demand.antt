@@ -38,14 +38,16 @@ queued-fits : (q : Queued) → Stamp q → QueuedFits q
 queued-fits Nothing h = tt
 queued-fits (Held t n) h = h
 
-below-by : (b : Bool) (w : ClientWorldSimulations) → eqb (w .new) 0 ≡ b → w .left .commands .timestamp .0 < 65536 → w .right .commands .timestamp .0 < 65536 → (oldStampOf w .0 < 65536) × (newStampOf w .0 < 65536)
+below-by : (b : Bool) (w : ClientWorldSimulations) → eqb (w .new) 0 ≡ b → w .left .commands .timestamp .0 < 65536
+    → w .right .commands .timestamp .0 < 65536 → (oldStampOf w .0 < 65536) × (newStampOf w .0 < 65536)
 unfolding oldStampOf newStampOf oldSideOf newSideOf worldOf
 below-by true w e l r = (simp e r, simp e l)
 below-by false w e l r = (simp e l, simp e r)
 
 typed-fitting : (s : Session) → Typed s → Fitting (s .worlds)
 typed-fitting s t =
-    let b : (oldStampOf (s .worlds) .0 < 65536) × (newStampOf (s .worlds) .0 < 65536) = below-by (eqb (s .worlds .new) 0) (s .worlds) refl (t .left) (t .right) in
+    let b : (oldStampOf (s .worlds) .0 < 65536) × (newStampOf (s .worlds) .0 < 65536) =
+    below-by (eqb (s .worlds .new) 0) (s .worlds) refl (t .left) (t .right) in
     record { old = b .0; new = b .1; queued = queued-fits (s .worlds .snapshots .queued) (t .queued) }
 
 -- ---- all of it

@@ -15,7 +15,8 @@ use Rattle.session_laws.proofs.LedgerCalls.{Settles}
 use Rattle.fixed_timestepper.specs.TimeKeeper.{Event}
 use Rattle.session_state.specs.declared.Session.{Session}
 use Rattle.session_state.specs.Sound.{soundOf}
-use Rattle.demand.specs.Calls.{Call, Outcome, outcomeOf, happened, sessionOf, framesOf, catchUpsOf, ledgerIn, markedOf, loadWordsOf, markedOn, endOf, traceOf, sum}
+use Rattle.demand.specs.Calls.{Call, Outcome, outcomeOf, happened, sessionOf, framesOf, catchUpsOf, ledgerIn, markedOf, loadWordsOf, markedOn, endOf}
+use Rattle.demand.specs.Calls.{traceOf, sum}
 use Rattle.demand.specs.Demand.{framesIn, loadCountIn, wordsIn, AllRuled, AllSet, oldSteps, newSteps, Tapes, AllSound, Balanced, Told}
 use Rattle.demand.proofs.TraceLaw.{trace-most, catch-up}
 use Rattle.demand.proofs.TraceCounts.{trace-on, trace-old, steps-law, new-append, old-append}
@@ -86,10 +87,13 @@ more-holds s k cs h one r =
       settings = (a .traced .settings, subst (λ (c : Settings). AllSet c cs) (a .traced .settings) (r .settings));
       rules = (a .rules, r .rules);
       tapes = (a .tape, r .tapes);
-      marks = both-on (markedOf k) (markedOn 0 k) (markedOn 1 k) (sum markedOf cs) (sum (markedOn 0) cs) (sum (markedOn 1) cs) (steps-both (outcomeOf k .tape)) (r .marks);
+      marks = both-on (markedOf k) (markedOn 0 k) (markedOn 1 k) (sum markedOf cs) (sum (markedOn 0) cs) (sum (markedOn 1) cs)
+          (steps-both (outcomeOf k .tape)) (r .marks);
       sides = λ x hx.
-          marks-on (markedOn x k) (oldSteps x t) (newSteps x t) (sum (markedOn x) cs) (oldSteps x u) (newSteps x u) (oldSteps x (t ++ u)) (newSteps x (t ++ u)) (ap (stepsOn x) (a .tape) ∙ words-on x t zeros hx) (r .sides x hx) (old-append x t u) (new-append x t u);
-      loads = loads-on (loadWordsOf k) (loadCountIn t) (sum loadWordsOf cs) (loadCountIn u) (loadCountIn (t ++ u)) (ap snapshotWords (a .tape) ∙ tape-loads t zeros) (r .loads) (loads-join t u);
+          marks-on (markedOn x k) (oldSteps x t) (newSteps x t) (sum (markedOn x) cs) (oldSteps x u) (newSteps x u) (oldSteps x (t ++ u))
+          (newSteps x (t ++ u)) (ap (stepsOn x) (a .tape) ∙ words-on x t zeros hx) (r .sides x hx) (old-append x t u) (new-append x t u);
+      loads = loads-on (loadWordsOf k) (loadCountIn t) (sum loadWordsOf cs) (loadCountIn u) (loadCountIn (t ++ u))
+          (ap snapshotWords (a .tape) ∙ tape-loads t zeros) (r .loads) (loads-join t u);
       ledgers = λ x hx.
           let b : Settles x s (sessionOf k) (ledgerIn x (outcomeOf k)) (commandsOn x (outcomeOf k .tape)) = one .ledgers x hx (h .exists) in
           record { balance = omega (arith, b .balance, r .ledgers x hx .balance); applied = omega (arith, b .applied, r .ledgers x hx .applied) };

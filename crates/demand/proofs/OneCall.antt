@@ -94,8 +94,10 @@ joins {s} {m} {e} {f} {g} {k} {n} t u a b =
       exists = b .exists;
       fitting = b .fitting;
       frames = frames-on (framesIn t) (framesIn u) f g (framesIn (t ++ u)) (frames-append t u) (a .frames) (b .frames);
-      caught = steps-on (newSteps 0 t) (newSteps 1 t) (newSteps 0 u) (newSteps 1 u) (newSteps 0 (t ++ u)) (newSteps 1 (t ++ u)) k n (a .caught) (b .caught) (new-append 0 t u) (new-append 1 t u);
-      old = stamp-on (oldStampOf (e .worlds) .0) (oldStampOf (m .worlds) .0) (oldStampOf (s .worlds) .0) f g (distancesIn t) (distancesIn u) (distancesIn (t ++ u)) (a .old) (b .old) (distances-append t u);
+      caught = steps-on (newSteps 0 t) (newSteps 1 t) (newSteps 0 u) (newSteps 1 u) (newSteps 0 (t ++ u)) (newSteps 1 (t ++ u)) k n (a .caught)
+          (b .caught) (new-append 0 t u) (new-append 1 t u);
+      old = stamp-on (oldStampOf (e .worlds) .0) (oldStampOf (m .worlds) .0) (oldStampOf (s .worlds) .0) f g (distancesIn t) (distancesIn u)
+          (distancesIn (t ++ u)) (a .old) (b .old) (distances-append t u);
       linked = linked-append (s .settings .m) (lagIn (s .worlds)) t u (a .linked)
           (subst (λ x. Linked (s .settings .m) x u) (sym (a .last)) (subst (λ (c : Settings). Linked (c .m) (lagIn (m .worlds)) u) (a .settings) (b .linked)));
       last = last-append (lagIn (s .worlds)) t u ∙ ap (λ x. lastIn x u) (a .last) ∙ b .last;

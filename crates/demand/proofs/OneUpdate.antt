@@ -57,7 +57,8 @@ stage-exists SyncingInitialState NotDisplayed x = refl
 stage-exists SyncingInitialState (DisplayedAt f) x = refl
 stage-exists Ready t x = refl
 
-updated-accepted : (s : Session) (c : Clock) (request : Bool) (t : Scene) (r : Run) (len : ℕ) → Standing s → Read s t → Ran (s .settings) t r → Updated s len (acceptedOf s c request r len)
+updated-accepted : (s : Session) (c : Clock) (request : Bool) (t : Scene) (r : Run) (len : ℕ) → Standing s → Read s t → Ran (s .settings) t r
+    → Updated s len (acceptedOf s c request r len)
 unfolding acceptedOf
 updated-accepted s c request t r len h a i =
     record {
@@ -79,7 +80,8 @@ updated-accepted s c request t r len h a i =
     zero-more : (x y z : ℕ) → y ≡ 0 → x ≡ y + z → z ≡ x
     zero-more x y z e f = omega arith
 
-ran-played : (s : Session) (c : Clock) (delta seconds : Float) (inbox : List ℕ) → Standing s → Ran (s .settings) (sceneAfter s inbox) (playedOf s c delta seconds inbox)
+ran-played : (s : Session) (c : Clock) (delta seconds : Float) (inbox : List ℕ) → Standing s
+    → Ran (s .settings) (sceneAfter s inbox) (playedOf s c delta seconds inbox)
 unfolding playedOf
 ran-played s c delta seconds inbox h =
     let m : (1 ≤ s .settings .m) × (s .settings .m ≤ 64) = sound-m s (h .sound) in
@@ -97,13 +99,15 @@ updated s delta seconds inbox len h =
           (ran-played s (clockAfter s delta seconds inbox) delta seconds inbox h);
     })
 
-by-definition : (s : Session) (delta seconds : Float) (inbox : List ℕ) (len : ℕ) → UpdateLaw s delta seconds inbox len (updateOf s delta seconds inbox len .reply)
+by-definition : (s : Session) (delta seconds : Float) (inbox : List ℕ) (len : ℕ)
+    → UpdateLaw s delta seconds inbox len (updateOf s delta seconds inbox len .reply)
 by-definition s delta seconds inbox len =
     let a : Answer = updateOf s delta seconds inbox len in
     record {
       floats = λ f. update-fits s delta seconds inbox len f;
       sound = λ f e. update-stays-sound s delta seconds inbox len f e;
-      happens = λ k. subst (λ (es : List Event). Happens s (replied (a .reply) len) es) (trace-is s delta seconds inbox len (k .exists)) (updated s delta seconds inbox len k);
+      happens = λ k. subst (λ (es : List Event). Happens s (replied (a .reply) len) es) (trace-is s delta seconds inbox len (k .exists))
+          (updated s delta seconds inbox len k);
       ledgers = λ x p w. update-settles x s delta seconds inbox len p w;
     }
 
@@ -127,6 +131,8 @@ replies u =
     }
 
 -- an update
-pub one-update : (s : Session) (delta seconds : Float) (inbox was : List ℕ) (r : UpdateAnswer) (last : List ℕ) → Updates (updateOf s delta seconds inbox (length was) .reply) r last →
+pub one-update : (s : Session) (delta seconds : Float) (inbox was : List ℕ) (r : UpdateAnswer) (last : List ℕ)
+    → Updates (updateOf s delta seconds inbox (length was) .reply) r last →
     OneCall s (outcomeOf (Update delta seconds inbox was r last)) (happened s (Update delta seconds inbox was r last))
-one-update s delta seconds inbox was r last u = subst (UpdateLaw s delta seconds inbox (length was)) (sym (replies u)) (by-definition s delta seconds inbox (length was))
+one-update s delta seconds inbox was r last u = subst (UpdateLaw s delta seconds inbox (length was)) (sym (replies u))
+    (by-definition s delta seconds inbox (length was))

@@ -1,4 +1,5 @@
--- The calls of demand 3 are those of the code: what the contract of each call says, as the check reads it, is what `Answered` asks, and what the types of update's parameters say, as the check reads them, is what `Typed` asks. Assumes nothing.
+-- The calls of demand 3 are those of the code: what the contract of each call says, as the check reads it, is what `Answered` asks, and what the types of
+-- update's parameters say, as the check reads them, is what `Typed` asks. Assumes nothing.
 use mathlib.Core.Path.{sym, _∙_}
 use mathlib.Core.List.{List}
 use lib.ListN.{length-map}
@@ -27,12 +28,14 @@ use Rattle.demand.specs.Demand.{Stamp, Typed}
 -- ---- the answers
 
 -- update: session, delta, seconds, inbox and tape in this order
-pub update-answers : (κs : Lfts 2) (a : ArgsD update.signature κs) (r : ResD update.signature κs) (e : AtExit (endedOf 2 update-kinds.ps update-kinds.r) κs) → update-reads.Learnt κs a r e
+pub update-answers : (κs : Lfts 2) (a : ArgsD update.signature κs) (r : ResD update.signature κs)
+    (e : AtExit (endedOf 2 update-kinds.ps update-kinds.r) κs) → update-reads.Learnt κs a r e
     → Answered (a .0) (Update (a .1 .0) (a .1 .1 .0) (now (a .1 .1 .1 .0)) (now (a .1 .1 .1 .1 .0)) r (now (e .1 .1 .1 .1 .0)))
 update-answers κs a r e h = h
 
 -- issue: session and handle
-pub issue-answers : (κs : Lfts 0) (a : ArgsD issue.signature κs) (r : ResD issue.signature κs) (e : AtExit (endedOf 0 issue-kinds.ps issue-kinds.r) κs) → issue-reads.Learnt κs a r e
+pub issue-answers : (κs : Lfts 0) (a : ArgsD issue.signature κs) (r : ResD issue.signature κs) (e : AtExit (endedOf 0 issue-kinds.ps issue-kinds.r) κs)
+    → issue-reads.Learnt κs a r e
     → Answered (a .0) (Issue (a .1 .0) r)
 issue-answers κs a r e h = h
 

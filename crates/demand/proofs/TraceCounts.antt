@@ -38,7 +38,8 @@ on-by true false o n x k ea eb s h f = omega (arith, f (eqb-true o x ea))
 on-by false true o n x k ea eb s h f = omega arith
 on-by false false o n x k ea eb s h f = absurd (let p : o ≡ x → ⊥ = eqb-false o x ea in let q : n ≡ x → ⊥ = eqb-false n x eb in omega arith)
 
-frame-on : (r : Rules) (s : Scene) (x : ℕ) → x < 2 → stepsOn x (frameOf r s .words) ≡ cond (eqb (oldIn r s) x) 1 0 + cond (eqb (newIn r s) x) (stepsOn x (frameOf r s .words)) 0
+frame-on : (r : Rules) (s : Scene) (x : ℕ) → x < 2 → stepsOn x (frameOf r s .words) ≡ cond (eqb (oldIn r s) x) 1 0 + cond (eqb (newIn r s) x)
+    (stepsOn x (frameOf r s .words)) 0
 frame-on r s x h =
     on-by (eqb (oldIn r s) x) (eqb (newIn r s) x) (oldIn r s) (newIn r s) x (stepsOn x (frameOf r s .words)) refl refl (apart-in r s) h
     (λ e. ap (λ y. stepsOn y (frameOf r s .words)) (sym e) ∙ stepped r s .one)
@@ -56,7 +57,8 @@ one-new (suc (suc n)) k h = absurd (omega arith)
 
 -- the steps of the side then new, from both sides
 pub frame-new : (r : Rules) (s : Scene) →
-    cond (eqb (newIn r s) 0) (stepsOn 0 (frameOf r s .words)) 0 + cond (eqb (newIn r s) 1) (stepsOn 1 (frameOf r s .words)) 0 ≡ stepsOn (newIn r s) (frameOf r s .words)
+    cond (eqb (newIn r s) 0) (stepsOn 0 (frameOf r s .words)) 0 + cond (eqb (newIn r s) 1) (stepsOn 1 (frameOf r s .words)) 0 ≡ stepsOn (newIn r s)
+    (frameOf r s .words)
 frame-new r s = one-new (newIn r s) (λ x. stepsOn x (frameOf r s .words)) (omega (arith, apart-in r s))
 
 -- ---- along a trace

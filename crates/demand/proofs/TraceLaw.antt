@@ -71,7 +71,8 @@ last-append b (SkipFrom s x ∷ t) u = last-append (lagSkipped s x) t u
 pub trace-most : (m b : ℕ) (es : List Event) → Linked m b es → newSteps 0 es + newSteps 1 es ≤ m * framesIn es
 trace-most m b [] l = omega arith
 trace-most m b (FrameFrom r s ∷ es) l =
-    sum-of m (cond (eqb (newIn r s) 0) (stepsOn 0 (frameOf r s .words)) 0) (cond (eqb (newIn r s) 1) (stepsOn 1 (frameOf r s .words)) 0) (newSteps 0 es) (newSteps 1 es) (stepsOn (newIn r s) (frameOf r s .words)) (framesIn es)
+    sum-of m (cond (eqb (newIn r s) 0) (stepsOn 0 (frameOf r s .words)) 0) (cond (eqb (newIn r s) 1) (stepsOn 1 (frameOf r s .words)) 0) (newSteps 0 es)
+    (newSteps 1 es) (stepsOn (newIn r s) (frameOf r s .words)) (framesIn es)
     (frame-new r s) (l .0 .few) (trace-most m (lagAfter r s) es (l .1))
   where
     sum-of : (m a b p q k f : ℕ) → a + b ≡ k → k ≤ m → p + q ≤ m * f → (a + p) + (b + q) ≤ m * (1 + f)

@@ -25,7 +25,8 @@ use Rattle.client.specs.Sides.{newSideOf, oldSideOf, worldOf, oldStampOf, newSt
 use Rattle.client.specs.Status.{statusOf}
 use Rattle.client_publish.specs.Publish.{publishedNone, publishedSide, publishedMix, publishedOld, publishedBoth, publishedBlended, nearOne}
 use Rattle.client_frame.specs.declared.Rules.{Rules}
-use Rattle.client_frame.specs.Frame.{loadsOf, loadedAt, loadedOf, loadedQueued, resetNew, openedOf, steppedSide, caughtUpOf, steppedNew, unless, caughtOf, simulatedOf, blendedBy, publishedBy, shownOf, snapshotOf, frameOpened, frameOf}
+use Rattle.client_frame.specs.Frame.{loadsOf, loadedAt, loadedOf, loadedQueued, resetNew, openedOf, steppedSide, caughtUpOf, steppedNew, unless, caughtOf}
+use Rattle.client_frame.specs.Frame.{simulatedOf, blendedBy, publishedBy, shownOf, snapshotOf, frameOpened, frameOf}
 use Rattle.client_skip.specs.Skip.{resetSide, resetAlong, resetBoth, skippedOf}
 use Rattle.fixed_timestepper.specs.TimeKeeper.{Event, FrameFrom, SkipFrom}
 use Rattle.demand.specs.Demand.{loadBy, loadIn, wordsIn, countLoad, loadCountIn}
@@ -110,7 +111,8 @@ simulated-quiet : (m : ℕ) (s : Scene) → Quiet (simulatedOf m s)
 unfolding simulatedOf
 simulated-quiet m s =
     let p : Played = steppedSide s (oldSideOf (s .worlds)) in
-    quiet-then p (λ t. caughtOf m (oldStampOf (t .worlds)) t) (stepped-quiet s (oldSideOf (s .worlds))) (caught-quiet m (oldStampOf (p .scene .worlds)) (p .scene))
+    quiet-then p (λ t. caughtOf m (oldStampOf (t .worlds)) t) (stepped-quiet s (oldSideOf (s .worlds)))
+    (caught-quiet m (oldStampOf (p .scene .worlds)) (p .scene))
 
 -- ---- what is published
 
@@ -161,7 +163,8 @@ reset-new-quiet : (s : Scene) → Quiet (resetNew s)
 unfolding resetNew doneAt
 reset-new-quiet s = reset-quiet (worldOf (s .worlds) (newSideOf (s .worlds))) (oldStampOf (s .worlds)) (newSideOf (s .worlds))
 
-opened-once : (t : ReconciliationStatus) (q : Queued) (p : Float) (s : Scene) (o : Timestamp) → snapshotWords (openedOf t (loadsOf t q) p s .words) ≡ countLoad (loadBy (loadsOf t q) o)
+opened-once : (t : ReconciliationStatus) (q : Queued) (p : Float) (s : Scene) (o : Timestamp)
+    → snapshotWords (openedOf t (loadsOf t q) p s .words) ≡ countLoad (loadBy (loadsOf t q) o)
 unfolding openedOf
 opened-once AwaitingSnapshot q p s o = loaded-once s q (oldSideOf (s .worlds)) o
 opened-once (Blending t) q p s o = loads-none
@@ -173,7 +176,13 @@ frame-once : (r : Rules) (s : Scene) → snapshotWords (frameOf r s .words) ≡ 
 unfolding frameOf frameOpened snapshotOf
 frame-once r s =
     let b : Bool = blendedBy (statusOf (s .worlds)) (snapshotOf s) in
-    omega (arith, loads-then (frameOpened r s) (shownOf (r .m) b), opened-once (statusOf (s .worlds)) (s .worlds .snapshots .queued) (r .progress) s (oldStampOf (s .worlds)), shown-quiet (r .m) b (frameOpened r s .scene))
+    omega (
+      arith,
+      loads-then (frameOpened r s) (shownOf (r .m) b),
+      opened-once (statusOf (s .worlds)) (s .worlds .snapshots .queued) (r .progress) s
+          (oldStampOf (s .worlds)),
+      shown-quiet (r .m) b (frameOpened r s .scene),
+    )
 
 -- ---- the skip
 
@@ -183,12 +192,14 @@ reset-side-quiet s x t = reset-quiet (worldOf (s .worlds) x) t x
 
 along-quiet : (s : Scene) (t : Timestamp) → Quiet (resetAlong s t)
 unfolding resetAlong
-along-quiet s t = quiet-pick (eqb (newStampOf (s .worlds) .0) (oldStampOf (s .worlds) .0)) (resetSide s (newSideOf (s .worlds)) t) (still s) (reset-side-quiet s (newSideOf (s .worlds)) t) loads-none
+along-quiet s t = quiet-pick (eqb (newStampOf (s .worlds) .0) (oldStampOf (s .worlds) .0)) (resetSide s (newSideOf (s .worlds)) t) (still s)
+    (reset-side-quiet s (newSideOf (s .worlds)) t) loads-none
 
 skip-quiet : (s : Scene) (t : Timestamp) → Quiet (skippedOf s t)
 unfolding skippedOf resetBoth
 skip-quiet s t =
-    quiet-then (resetAlong s t) (λ u. resetSide u (oldSideOf (s .worlds)) t) (along-quiet s t) (reset-side-quiet (resetAlong s t .scene) (oldSideOf (s .worlds)) t)
+    quiet-then (resetAlong s t) (λ u. resetSide u (oldSideOf (s .worlds)) t) (along-quiet s t)
+    (reset-side-quiet (resetAlong s t .scene) (oldSideOf (s .worlds)) t)
 
 -- ---- along a trace
 

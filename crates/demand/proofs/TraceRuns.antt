@@ -28,7 +28,8 @@ use Rattle.session_laws.proofs.TraceFrames.{QueuedFits, Fitting, OneFrame, one-
 use Rattle.session_laws.proofs.TraceArrivals.{Alike, alike-fitting, alike-lag, post-alike, post-queued, OneSkip, one-skip}
 use Rattle.refusals.specs.declared.Stop.{Stop}
 use Rattle.refusals.specs.declared.Stop.the-variants.{Done, TooManyFrames, StatusStops}
-use Rattle.fixed_timestepper.specs.TimeKeeper.{rulesOf, Event, FrameFrom, SkipFrom, Run, ended, framed, compensatedOf, correctedOf, skipped, endsWith, advancedOf, updatedOf}
+use Rattle.fixed_timestepper.specs.TimeKeeper.{rulesOf, Event, FrameFrom, SkipFrom, Run, ended, framed, compensatedOf, correctedOf, skipped, endsWith}
+use Rattle.fixed_timestepper.specs.TimeKeeper.{advancedOf, updatedOf}
 use Rattle.fixed_timestepper.proofs.Induction.{frame, later, Runs, run-by, Ends, ended-by}
 use Rattle.demand.specs.Demand.{newIn, framesIn, distancesIn, wordsIn, Ruled, newSteps, SameWorlds, Walk}
 use Rattle.demand.proofs.TraceLaw.{Linked, lastIn, linked-append, last-append}
@@ -95,7 +96,8 @@ steps-more z y x a b m n k e f g = omega arith
 stamp-more : (z y x f d : ℕ) → y ≡ (x + 1) % 65536 → z ≡ (y + f + d) % 65536 → z ≡ (x + (1 + f) + d) % 65536
 stamp-more z y x f d e g = omega arith
 
-ran-framed : (c : Settings) (s : Scene) (r : Run) → 1 ≤ c .m → s .steps + c .m < 2 ^ 32 → Fitting (s .worlds) → Ran c (frameOf (rulesOf c) s .scene) r → Ran c s (framed (rulesOf c) s r)
+ran-framed : (c : Settings) (s : Scene) (r : Run) → 1 ≤ c .m → s .steps + c .m < 2 ^ 32 → Fitting (s .worlds) → Ran c (frameOf (rulesOf c) s .scene) r
+    → Ran c s (framed (rulesOf c) s r)
 unfolding framed
 ran-framed c s r hm hs h i =
     let f : OneFrame (rulesOf c) s (frameOf (rulesOf c) s) = one-frame (rulesOf c) s in
@@ -103,8 +105,12 @@ ran-framed c s r hm hs h i =
       rules = (refl, i .rules);
       frames = ap (λ n. 1 + n) (i .frames);
       words = ap (λ ws. frameOf (rulesOf c) s .words ++ ws) (i .words);
-      caught = steps-more (r .played .scene .steps) (frameOf (rulesOf c) s .scene .steps) (s .steps) (cond (eqb (newIn (rulesOf c) s) 0) (stepsOn 0 (frameOf (rulesOf c) s .words)) 0) (cond (eqb (newIn (rulesOf c) s) 1) (stepsOn 1 (frameOf (rulesOf c) s .words)) 0) (newSteps 0 (r .trace)) (newSteps 1 (r .trace)) (stepsOn (newIn (rulesOf c) s) (frameOf (rulesOf c) s .words)) (f .steps hs) (frame-new (rulesOf c) s) (i .caught);
-      old = stamp-more (oldStampOf (r .played .scene .worlds) .0) (oldStampOf (frameOf (rulesOf c) s .scene .worlds) .0) (oldStampOf (s .worlds) .0) (r .frames) (distancesIn (r .trace)) (f .old ∙ next-sum (oldStampOf (s .worlds) .0)) (i .old);
+      caught = steps-more (r .played .scene .steps) (frameOf (rulesOf c) s .scene .steps) (s .steps)
+          (cond (eqb (newIn (rulesOf c) s) 0) (stepsOn 0 (frameOf (rulesOf c) s .words)) 0)
+          (cond (eqb (newIn (rulesOf c) s) 1) (stepsOn 1 (frameOf (rulesOf c) s .words)) 0) (newSteps 0 (r .trace)) (newSteps 1 (r .trace))
+          (stepsOn (newIn (rulesOf c) s) (frameOf (rulesOf c) s .words)) (f .steps hs) (frame-new (rulesOf c) s) (i .caught);
+      old = stamp-more (oldStampOf (r .played .scene .worlds) .0) (oldStampOf (frameOf (rulesOf c) s .scene .worlds) .0) (oldStampOf (s .worlds) .0)
+          (r .frames) (distancesIn (r .trace)) (f .old ∙ next-sum (oldStampOf (s .worlds) .0)) (i .old);
       fitting = i .fitting;
       linked = (record { law = λ l. f .behind hm h l; few = f .few }, i .linked);
       last = i .last;
@@ -123,11 +129,13 @@ ran c hm hl =
     record {
       full = λ s o e h k. ran-ended c TooManyFrames s o h;
       done = λ n s o e h k. ran-ended c Done s o h;
-      stops = λ n s o e h k. ran-framed c s (ended StatusStops (frame c s .scene) (later c o)) hm (room-first (s .steps) (c .m) n hl k) h (ran-ended c StatusStops (frame c s .scene) (later c o) (one-frame (rulesOf c) s .fitting h));
+      stops = λ n s o e h k. ran-framed c s (ended StatusStops (frame c s .scene) (later c o)) hm (room-first (s .steps) (c .m) n hl k) h
+          (ran-ended c StatusStops (frame c s .scene) (later c o) (one-frame (rulesOf c) s .fitting h));
       goes = λ n s o r e i h k.
           let f : OneFrame (rulesOf c) s (frame c s) = one-frame (rulesOf c) s in
           let hs : s .steps + c .m < 2 ^ 32 = room-first (s .steps) (c .m) n hl k in
-          ran-framed c s r hm hs h (i (f .fitting h) (room-rest (frame c s .scene .steps) (s .steps) (c .m) (stepsOn (newIn (rulesOf c) s) (frame c s .words)) n hl (f .few) (f .steps hs) k));
+          ran-framed c s r hm hs h (i (f .fitting h) (room-rest (frame c s .scene .steps) (s .steps) (c .m)
+          (stepsOn (newIn (rulesOf c) s) (frame c s .words)) n hl (f .few) (f .steps hs) k));
     }
 
 -- ---- the skip
@@ -139,7 +147,8 @@ bits-below (negsuc n) f = omega arith
 -- the stamp that a skip sets has 16 bits
 pub corrected-below : (server timestep : Float) → correctedOf server timestep .0 < 65536
 unfolding correctedOf ceilStampOf
-corrected-below server timestep = bits-below (ceilStampOf (fromSeconds server timestep)) (record { sfits = toSigned-in 15 (ceilOf (fromSeconds server timestep)) })
+corrected-below server timestep = bits-below (ceilStampOf (fromSeconds server timestep))
+    (record { sfits = toSigned-in 15 (ceilOf (fromSeconds server timestep)) })
 
 stamp-skip : (z y x f d e : ℕ) → y ≡ (x + f + d) % 65536 → z ≡ (y + e) % 65536 → z ≡ (x + f + (d + (e + 0))) % 65536
 stamp-skip z y x f d e h g = omega arith
@@ -159,24 +168,31 @@ ran-skipped c s r server i =
     let tr : List Event = r .trace in
     let k : OneSkip u t (skippedOf u t) = one-skip u t in
     let tl : t .0 < 65536 = corrected-below server (c .timestep) in
-    let there : t .0 ≡ (oldStampOf (u .worlds) .0 + lagOf (t .0) (oldStampOf (u .worlds) .0)) % 65536 = lag-there (oldStampOf (u .worlds) .0) (t .0) (i .fitting .old) tl in
+    let there : t .0 ≡ (oldStampOf (u .worlds) .0 + lagOf (t .0) (oldStampOf (u .worlds) .0)) % 65536 =
+    lag-there (oldStampOf (u .worlds) .0) (t .0) (i .fitting .old) tl in
     let ko : oldStampOf (skippedOf u t .scene .worlds) .0 ≡ (oldStampOf (u .worlds) .0 + differenceOf (t .0) (oldStampOf (u .worlds) .0)) % 65536 =
     ap (λ (x : Timestamp). x .0) (k .old) ∙ there ∙ ap (λ n. (oldStampOf (u .worlds) .0 + n) % 65536) (lag-is (t .0) (oldStampOf (u .worlds) .0)) in
     record {
       rules = ruled-append (rulesOf c) tr es (i .rules) tt;
       frames = plus-none (framesIn (tr ++ es)) (framesIn tr) (r .frames) (frames-append tr es) (i .frames);
-      words = words-append tr es ∙ ap (λ ws. ws ++ (skippedOf u t .words ++ [])) (i .words) ∙ ap (λ ws. r .played .words ++ ws) (append-nil (skippedOf u t .words));
-      caught = steps-skip (skippedOf u t .scene .steps) (u .steps) (s .steps) (newSteps 0 tr) (newSteps 1 tr) (newSteps 0 (tr ++ es)) (newSteps 1 (tr ++ es)) (k .steps) (i .caught) (new-append 0 tr es) (new-append 1 tr es);
-      old = stamp-skip (oldStampOf (skippedOf u t .scene .worlds) .0) (oldStampOf (u .worlds) .0) (oldStampOf (s .worlds) .0) (r .frames) (distancesIn tr) (differenceOf (t .0) (oldStampOf (u .worlds) .0)) (i .old) ko ∙ ap (λ d. (oldStampOf (s .worlds) .0 + r .frames + d) % 65536) (sym (distances-append tr es));
+      words = words-append tr es ∙ ap (λ ws. ws ++ (skippedOf u t .words ++ [])) (i .words)
+          ∙ ap (λ ws. r .played .words ++ ws) (append-nil (skippedOf u t .words));
+      caught = steps-skip (skippedOf u t .scene .steps) (u .steps) (s .steps) (newSteps 0 tr) (newSteps 1 tr) (newSteps 0 (tr ++ es))
+          (newSteps 1 (tr ++ es)) (k .steps) (i .caught) (new-append 0 tr es) (new-append 1 tr es);
+      old = stamp-skip (oldStampOf (skippedOf u t .scene .worlds) .0) (oldStampOf (u .worlds) .0) (oldStampOf (s .worlds) .0) (r .frames)
+          (distancesIn tr) (differenceOf (t .0) (oldStampOf (u .worlds) .0)) (i .old) ko
+          ∙ ap (λ d. (oldStampOf (s .worlds) .0 + r .frames + d) % 65536) (sym (distances-append tr es));
       fitting = k .fitting tl (i .fitting);
       linked = linked-append (c .m) (lagIn (s .worlds)) tr es (i .linked) tt;
       last = last-append (lagIn (s .worlds)) tr es;
-      walk = walk-append (s .worlds) (u .worlds) (skippedOf u t .scene .worlds) tr es (i .walk) (same-self (u .worlds), same-self (skippedOf u t .scene .worlds));
+      walk = walk-append (s .worlds) (u .worlds) (skippedOf u t .scene .worlds) tr es (i .walk)
+          (same-self (u .worlds), same-self (skippedOf u t .scene .worlds));
     }
 
 -- ---- the end
 
-ran-ends : (c : Settings) (s : Scene) (r : Run) (w : ClientWorldSimulations) → Alike (r .played .scene .worlds) w → QueuedFits (w .snapshots .queued) → Ran c s r → Ran c s (endsWith r w)
+ran-ends : (c : Settings) (s : Scene) (r : Run) (w : ClientWorldSimulations) → Alike (r .played .scene .worlds) w → QueuedFits (w .snapshots .queued)
+    → Ran c s r → Ran c s (endsWith r w)
 ran-ends c s r w a q i =
     record {
       rules = i .rules;
@@ -195,11 +211,14 @@ ran-over c s server =
     record {
       rests = λ r i. i;
       skips = λ r i. ran-skipped c s r server i;
-      shows = λ r t lag i. ran-ends c s r (postUpdateOf (r .played .scene .worlds) t lag) (post-alike (r .played .scene .worlds) t lag) (rw (post-queued (r .played .scene .worlds) t lag) (i .fitting .queued)) i;
+      shows = λ r t lag i. ran-ends c s r (postUpdateOf (r .played .scene .worlds) t lag) (post-alike (r .played .scene .worlds) t lag)
+          (rw (post-queued (r .played .scene .worlds) t lag) (i .fitting .queued)) i;
     }
 
 -- one update of the worlds
-pub ran-updated : (c : Settings) (s : Scene) (o delta server : Float) → 1 ≤ c .m → c .m ≤ 64 → Fitting (s .worlds) → s .steps ≡ 0 → Ran c s (updatedOf c s o delta server)
+pub ran-updated : (c : Settings) (s : Scene) (o delta server : Float) → 1 ≤ c .m → c .m ≤ 64 → Fitting (s .worlds) → s .steps ≡ 0
+    → Ran c s (updatedOf c s o delta server)
 unfolding advancedOf
 ran-updated c s o delta server hm hl h e =
-    ended-by (ran-over c s server) s o delta (run-by (ran c hm hl) 65 s (sub binary64 o (compensatedOf (oldStampOf (s .worlds)) o delta server c)) h (omega arith))
+    ended-by (ran-over c s server) s o delta (run-by (ran c hm hl) 65 s (sub binary64 o (compensatedOf (oldStampOf (s .worlds)) o delta server c)) h
+    (omega arith))

@@ -1,4 +1,5 @@
--- The trace of an update by the definition is what `eventsOf` says: its frames, one after the other, and one skip exactly where the definition skips. Assumes nothing.
+-- The trace of an update by the definition is what `eventsOf` says: its frames, one after the other, and one skip exactly where the definition skips. Assumes
+-- nothing.
 use mathlib.Core.Bool.{Bool, true, false, cond}
 use mathlib.Core.List.{List, [], _∷_, _++_, append-nil}
 use mathlib.Core.Path.{_≡_, refl, ap, sym, _∙_}
@@ -11,7 +12,8 @@ use Rattle.client.specs.Sides.{oldStampOf}
 use Rattle.client_frame.specs.Frame.{frameOf, frameStops}
 use Rattle.refusals.specs.declared.Stop.{Stop}
 use Rattle.refusals.specs.declared.Stop.the-variants.{Done, TooManyFrames, StatusStops}
-use Rattle.fixed_timestepper.specs.TimeKeeper.{skippedBy, unendedOf, rulesOf, Event, FrameFrom, SkipFrom, Run, ended, framed, goesOn, whileBelow, runOf, compensatedOf, correctedOf, skipsOf, skipped, maybeSkipped, advancedOf, updatedOf}
+use Rattle.fixed_timestepper.specs.TimeKeeper.{skippedBy, unendedOf, rulesOf, Event, FrameFrom, SkipFrom, Run, ended, framed, goesOn, whileBelow, runOf}
+use Rattle.fixed_timestepper.specs.TimeKeeper.{compensatedOf, correctedOf, skipsOf, skipped, maybeSkipped, advancedOf, updatedOf}
 use Rattle.timestamp.specs.Floats.{zero64}
 use Rattle.session_state.specs.declared.Session.{Session}
 use Rattle.refusals.specs.Limits.{mostFrames}
@@ -35,7 +37,8 @@ record Shaped (c : Settings) (s : Scene) (o : Float) (r : Run) : Type 0 where
 shaped-ended : (c : Settings) (stop : Stop) (s : Scene) (o : Float) → Shaped c s o (ended stop s o)
 shaped-ended c stop s o = record { trace = refl; scene = refl; overshoot = refl }
 
-shaped-framed : (c : Settings) (s : Scene) (o : Float) (r : Run) → Shaped c (frameOf (rulesOf c) s .scene) (add binary64 o (c .timestep)) r → Shaped c s o (framed (rulesOf c) s r)
+shaped-framed : (c : Settings) (s : Scene) (o : Float) (r : Run) → Shaped c (frameOf (rulesOf c) s .scene) (add binary64 o (c .timestep)) r
+    → Shaped c s o (framed (rulesOf c) s r)
 unfolding framed
 shaped-framed c s o r h =
     let e : suc (r .frames) ≡ 1 + r .frames = omega arith in
@@ -79,11 +82,13 @@ run-count (suc n) c s o d = go (lt o zero64) (run-count n c t x) d
     x : Float
     x = add binary64 o (c .timestep)
 
-    on : (b : Bool) → (runOf n c t x .stop ≡ Done → runOf n c t x .frames ≡ framesFor n (c .timestep) x) → goesOn b t x (runOf n c t x) .stop ≡ Done → 1 + goesOn b t x (runOf n c t x) .frames ≡ suc (framesFor n (c .timestep) x)
+    on : (b : Bool) → (runOf n c t x .stop ≡ Done → runOf n c t x .frames ≡ framesFor n (c .timestep) x) → goesOn b t x (runOf n c t x) .stop ≡ Done
+        → 1 + goesOn b t x (runOf n c t x) .frames ≡ suc (framesFor n (c .timestep) x)
     on true h d = absurd (let z : _≡_ {A = ℕ} 0 1 = cc in omega arith)
     on false h d = omega (arith, h d)
 
-    go : (b : Bool) → (runOf n c t x .stop ≡ Done → runOf n c t x .frames ≡ framesFor n (c .timestep) x) → whileBelow b s o (framed (rulesOf c) s (goesOn (frameStops (rulesOf c) s) t x (runOf n c t x))) .stop ≡ Done →
+    go : (b : Bool) → (runOf n c t x .stop ≡ Done → runOf n c t x .frames ≡ framesFor n (c .timestep) x)
+        → whileBelow b s o (framed (rulesOf c) s (goesOn (frameStops (rulesOf c) s) t x (runOf n c t x))) .stop ≡ Done →
         whileBelow b s o (framed (rulesOf c) s (goesOn (frameStops (rulesOf c) s) t x (runOf n c t x))) .frames ≡ cond b (suc (framesFor n (c .timestep) x)) 0
     go true h d = on (frameStops (rulesOf c) s) h d
     go false h d = refl
@@ -106,7 +111,8 @@ ended-skipped c server s o r h =
     let b : Bool = skipsOf (oldStampOf (r .played .scene .worlds)) (r .overshoot) server c in
     record { trace = skipped-by b c server r ∙ (λ i. h .trace i ++ skipAfter c server (h .scene i) (h .overshoot i)) }
 
-ended-concluded : (stop : Stop) (c : Settings) (server : Float) (s : Scene) (o : Float) (r : Run) → r .stop ≡ stop → Shaped c s o r → skippedBy stop r server c .stop ≡ Done
+ended-concluded : (stop : Stop) (c : Settings) (server : Float) (s : Scene) (o : Float) (r : Run) → r .stop ≡ stop → Shaped c s o r
+    → skippedBy stop r server c .stop ≡ Done
     → (r .stop ≡ Done) × Ended c server s o (r .frames) (skippedBy stop r server c)
 ended-concluded Done c server s o r e h d = (e, ended-skipped c server s o r h)
 ended-concluded TooManyFrames c server s o r e h d = absurd (let z : _≡_ {A = ℕ} 0 1 = cc in omega arith)
@@ -132,7 +138,8 @@ module _ (s : Session) (delta seconds : Float) (inbox : List ℕ) (len : ℕ) wh
   unfolding refusedWith eventsOf
   pinned-refused n e = ap (λ (b : Bool). cond b (playedIn s delta seconds inbox) []) (sym (ne-eqb n 0 e))
 
-  pinned-accepted : (q : Bool) → runIn s delta seconds inbox .stop ≡ Done → Pinned s delta seconds inbox (acceptedOf s (clockAfter s delta seconds inbox) q (runIn s delta seconds inbox) len)
+  pinned-accepted : (q : Bool) → runIn s delta seconds inbox .stop ≡ Done
+      → Pinned s delta seconds inbox (acceptedOf s (clockAfter s delta seconds inbox) q (runIn s delta seconds inbox) len)
   unfolding acceptedOf eventsOf playedOf
   pinned-accepted q d = ended-updated (s .settings) (sceneAfter s inbox) (s .overshoot) delta (serverAt s delta seconds inbox) d
 

@@ -30,12 +30,14 @@ skips-is stamp overshoot server c ho hd ha hb =
     ap (le (c .skip)) (sym (ha ∙ ap absOf (hd ∙ ap (λ (t : Timestamp). driftOf t overshoot (c .timestep) server) ho))) ∙ hb
 
 -- the test as it was told
-pub skip-told : (stamp : Timestamp) (overshoot server : Float) (c : Settings) {old : Timestamp} {a b : Bool} → old ≡ stamp → a ≡ skipsOf old overshoot server c → a ≡ b → skipsOf stamp overshoot server c ≡ b
+pub skip-told : (stamp : Timestamp) (overshoot server : Float) (c : Settings) {old : Timestamp} {a b : Bool} → old ≡ stamp
+    → a ≡ skipsOf old overshoot server c → a ≡ b → skipsOf stamp overshoot server c ≡ b
 skip-told stamp overshoot server c ho ha hb = ap (λ (t : Timestamp). skipsOf t overshoot server c) (sym ho) ∙ sym ha ∙ hb
 
 -- an answer, by what the skip after the frames is
 by-run : (a : Advanced) (server : Float) (c : Settings) (q : Run) {was last : List ℕ} {r : Advanced} → q ≡ maybeSkipped (runBy a []) server c
-    → r .scene ≡ q .played .scene → r .overshoot ≡ q .overshoot → r .frames ≡ a .frames → r .stop ≡ q .stop → Puts was (a .at) (q .played .words) (r .at) last → Skips a server c was r last
+    → r .scene ≡ q .played .scene → r .overshoot ≡ q .overshoot → r .frames ≡ a .frames → r .stop ≡ q .stop
+    → Puts was (a .at) (q .played .words) (r .at) last → Skips a server c was r last
 by-run a server c q e hs ho hf hp hw =
     record {
       scene = hs ∙ ap (λ (x : Run). x .played .scene) e;
@@ -46,19 +48,23 @@ by-run a server c q e hs ho hf hp hw =
     }
 
 -- the run where there is a skip
-is-skipped : (a : Advanced) (server : Float) (c : Settings) → skipsOf (oldStampOf (a .scene .worlds)) (a .overshoot) server c ≡ true → skipped (runBy a []) server c ≡ maybeSkipped (runBy a []) server c
+is-skipped : (a : Advanced) (server : Float) (c : Settings) → skipsOf (oldStampOf (a .scene .worlds)) (a .overshoot) server c ≡ true
+    → skipped (runBy a []) server c ≡ maybeSkipped (runBy a []) server c
 unfolding maybeSkipped
 is-skipped a server c h = ap (λ (b : Bool). cond b (skipped (runBy a []) server c) (runBy a [])) (sym h)
 
 -- and where there is none
-not-skipped : (a : Advanced) (server : Float) (c : Settings) → skipsOf (oldStampOf (a .scene .worlds)) (a .overshoot) server c ≡ false → runBy a [] ≡ maybeSkipped (runBy a []) server c
+not-skipped : (a : Advanced) (server : Float) (c : Settings) → skipsOf (oldStampOf (a .scene .worlds)) (a .overshoot) server c ≡ false
+    → runBy a [] ≡ maybeSkipped (runBy a []) server c
 unfolding maybeSkipped
 not-skipped a server c h = ap (λ (b : Bool). cond b (skipped (runBy a []) server c) (runBy a [])) (sym h)
 
 -- a skip, by the calls that make it
-pub skip-made : (a : Advanced) (server : Float) (c : Settings) {was last : List ℕ} {target from difference overshoot : Float} {corrected : Timestamp} {r : Shown}
+pub skip-made : (a : Advanced) (server : Float) (c : Settings) {was last : List ℕ} {target from difference overshoot : Float} {corrected : Timestamp}
+    {r : Shown}
     → skipsOf (oldStampOf (a .scene .worlds)) (a .overshoot) server c ≡ true
-    → target ≡ fromSeconds server (c .timestep) → corrected .0 ≡ bitsOf (ceilStampOf target) → from ≡ floatOf (corrected .0) → difference ≡ floatDifferenceOf from target → overshoot ≡ asSeconds difference (c .timestep)
+    → target ≡ fromSeconds server (c .timestep) → corrected .0 ≡ bitsOf (ceilStampOf target) → from ≡ floatOf (corrected .0)
+    → difference ≡ floatDifferenceOf from target → overshoot ≡ asSeconds difference (c .timestep)
     → Plays (skippedOf (a .scene) corrected) was (a .at) r last
     → Skips a server c was (record { scene = r .scene; overshoot = overshoot; frames = a .frames; at = r .at; stop = a .stop }) last
 unfolding skipped andThen correctedOf correctedOvershoot
@@ -72,7 +78,8 @@ skip-made a server c {was} {last} {target} {from} {difference} {overshoot} {corr
     (puts-as (ap (λ (t : Timestamp). skippedOf (a .scene) t .words) e) (p .puts))
 
 -- no skip
-pub skip-none : (a : Advanced) (server : Float) (c : Settings) (was : List ℕ) → skipsOf (oldStampOf (a .scene .worlds)) (a .overshoot) server c ≡ false → Skips a server c was a was
+pub skip-none : (a : Advanced) (server : Float) (c : Settings) (was : List ℕ) → skipsOf (oldStampOf (a .scene .worlds)) (a .overshoot) server c ≡ false
+    → Skips a server c was a was
 skip-none a server c was h = by-run a server c (runBy a []) (not-skipped a server c h) refl refl refl refl (puts-none was (a .at))
 
 -- what an update ends with, by the calls that make it

@@ -1,4 +1,5 @@
--- An update of the worlds by its elementary moves: its frames, a skip after them and what it ends with. Who shows a thing of each move has it of the update. Assumes nothing.
+-- An update of the worlds by its elementary moves: its frames, a skip after them and what it ends with. Who shows a thing of each move has it of the update.
+-- Assumes nothing.
 use mathlib.Core.Path.{_≡_, refl}
 use mathlib.Core.Bool.{Bool, true, false, cond}
 use Prim.Native.Nat.{ℕ, zero, suc, _+_, _*_, _<_}
@@ -19,7 +20,8 @@ use Rattle.client_publish.specs.Ending.{postUpdateOf}
 use Rattle.timestamp.specs.Floats.{tweenOf, zero64}
 use Rattle.refusals.specs.declared.Stop.{Stop}
 use Rattle.refusals.specs.declared.Stop.the-variants.{Done, TooManyFrames, StatusStops}
-use Rattle.fixed_timestepper.specs.TimeKeeper.{compensatedOf, rulesOf, Run, ended, framed, goesOn, whileBelow, runOf, correctedOf, skipsOf, skipped, maybeSkipped, endsWith, skippedBy, advancedOf, unendedOf, updatedOf}
+use Rattle.fixed_timestepper.specs.TimeKeeper.{compensatedOf, rulesOf, Run, ended, framed, goesOn, whileBelow, runOf, correctedOf, skipsOf, skipped}
+use Rattle.fixed_timestepper.specs.TimeKeeper.{maybeSkipped, endsWith, skippedBy, advancedOf, unendedOf, updatedOf}
 
 -- the frame of a scene
 abbrev pub frame : Settings → Scene → Played
@@ -43,7 +45,8 @@ module _ {c : Settings} {R : ℕ → Scene → Float → Run → Type 0} (h : Ru
   below-by n s o r true e k = k e
   below-by n s o r false e k = h .done n s o e
 
-  goes-by : (n : ℕ) (s : Scene) (o : Float) (r : Run) (b : Bool) → lt o zero64 ≡ true → R n (frame c s .scene) (later c o) r → R (suc n) s o (framed (rulesOf c) s (goesOn b (frame c s .scene) (later c o) r))
+  goes-by : (n : ℕ) (s : Scene) (o : Float) (r : Run) (b : Bool) → lt o zero64 ≡ true → R n (frame c s .scene) (later c o) r
+      → R (suc n) s o (framed (rulesOf c) s (goesOn b (frame c s .scene) (later c o) r))
   goes-by n s o r true e k = h .stops n s o e
   goes-by n s o r false e k = h .goes n s o r e k
 
@@ -85,7 +88,8 @@ module _ {c : Settings} {server : Float} {R E : Run → Type 0} (h : Ends c serv
   unfolding updatedOf unendedOf
   ended-by s o delta k =
       let u : Run = unendedOf c s o delta server in
-      h .shows u (shapedOf (c .method) (tweenOf (u .overshoot) (c .timestep))) (bitsOf (lagFrameCountOf c)) (after-by (advancedOf c s o delta server .stop) (advancedOf c s o delta server) k)
+      h .shows u (shapedOf (c .method) (tweenOf (u .overshoot) (c .timestep))) (bitsOf (lagFrameCountOf c))
+      (after-by (advancedOf c s o delta server .stop) (advancedOf c s o delta server) k)
 
 -- ---- a law of an update
 
@@ -123,13 +127,15 @@ module _ {P : Law} {c : Settings} {one skip : ℕ} (h : Updates P c one skip) wh
       record {
         rests = λ r k. h .chains .more n (n + skip) s (r .played) (omega arith) k;
         skips = λ r k. skipped-by n s r server k;
-        shows = λ r t lag k. quiet-by (h .chains) (n + skip) s (r .played) (λ (u : Scene). withWorlds u (postUpdateOf (u .worlds) t lag)) k (h .ends (r .played .scene) t lag);
+        shows = λ r t lag k. quiet-by (h .chains) (n + skip) s (r .played) (λ (u : Scene). withWorlds u (postUpdateOf (u .worlds) t lag)) k
+            (h .ends (r .played .scene) t lag);
       }
 
   -- the worlds' part of an update
   pub updated-by : (s : Scene) (o delta server : Float) → P (65 * one + skip) s (updatedOf c s o delta server .played)
   unfolding advancedOf
-  updated-by s o delta server = ended-by (law-ends (65 * one) s server) s o delta (run-by law-runs 65 s (sub binary64 o (compensatedOf (oldStampOf (s .worlds)) o delta server c)))
+  updated-by s o delta server = ended-by (law-ends (65 * one) s server) s o delta
+      (run-by law-runs 65 s (sub binary64 o (compensatedOf (oldStampOf (s .worlds)) o delta server c)))
 
 -- ---- by its moves
 
@@ -139,7 +145,8 @@ module _ {P : Law} {reset : ℕ} (c : Chains P) (resets : (s : Scene) (side : �
   unfolding resetAlong resetSide
   along-by s t =
       let side : ℕ = newSideOf (s .worlds) in
-      either-by (P reset s) (eqb (newStampOf (s .worlds) .0) (oldStampOf (s .worlds) .0)) (resetAt s side t) (still s) (resets s side t (new-below (s .worlds))) (still-by c reset s)
+      either-by (P reset s) (eqb (newStampOf (s .worlds) .0) (oldStampOf (s .worlds) .0)) (resetAt s side t) (still s)
+      (resets s side t (new-below (s .worlds))) (still-by c reset s)
 
   pub both-by : (s : Scene) (t : Timestamp) → P (reset + reset) s (resetBoth s t)
   unfolding resetBoth resetSide

@@ -44,20 +44,24 @@ module _ (w : ClientWorldSimulations) (t : Timestamp) (o server : Float) (c : Se
   -- not one frame
   pub level-many : not p ≡ true → false ≡ levelRun w t o server c
   unfolding levelRun
-  level-many e = λ i. cond (sym (sym hp ∙ not-true p e) i) (cond (isLevel w (c .m)) (not (skipsOf (nextStamp t) (add binary64 o (c .timestep)) server c)) false) false
+  level-many e = λ i. cond (sym (sym hp ∙ not-true p e) i) (cond (isLevel w (c .m))
+      (not (skipsOf (nextStamp t) (add binary64 o (c .timestep)) server c)) false) false
 
   module _ {q : Bool} (e : not p ≡ false) (hq : q ≡ isLevel w (c .m)) where
     -- not level
     pub level-not : not q ≡ true → false ≡ levelRun w t o server c
     unfolding levelRun
-    level-not f = λ i. cond (sym (sym hp ∙ not-false p e) i) (cond (sym (sym hq ∙ not-true q f) i) (not (skipsOf (nextStamp t) (add binary64 o (c .timestep)) server c)) false) false
+    level-not f = λ i. cond (sym (sym hp ∙ not-false p e) i) (cond (sym (sym hq ∙ not-true q f) i)
+        (not (skipsOf (nextStamp t) (add binary64 o (c .timestep)) server c)) false) false
 
     -- the skip decides
-    pub level-then : {n : Timestamp} {b : Bool} → not q ≡ false → n .0 ≡ sumOf (t .0) 1 → b ≡ skipsOf n (add binary64 o (c .timestep)) server c → not b ≡ levelRun w t o server c
+    pub level-then : {n : Timestamp} {b : Bool} → not q ≡ false → n .0 ≡ sumOf (t .0) 1 → b ≡ skipsOf n (add binary64 o (c .timestep)) server c
+        → not b ≡ levelRun w t o server c
     unfolding levelRun
     level-then f hn hb =
         ap not (hb ∙ (λ i. skipsOf (record { 0 = hn i }) (add binary64 o (c .timestep)) server c))
-        ∙ (λ i. cond (sym (sym hp ∙ not-false p e) i) (cond (sym (sym hq ∙ not-false q f) i) (not (skipsOf (nextStamp t) (add binary64 o (c .timestep)) server c)) false) false)
+        ∙ (λ i. cond (sym (sym hp ∙ not-false p e) i) (cond (sym (sym hq ∙ not-false q f) i)
+        (not (skipsOf (nextStamp t) (add binary64 o (c .timestep)) server c)) false) false)
 
 -- its parts
 parts-by : (x y z : Bool) → cond x (cond y (not z) false) false ≡ true → (x ≡ true) × (y ≡ true) × (z ≡ false)
@@ -69,7 +73,8 @@ parts-by false y z h = absurd (false≢true h)
 pub level-run-parts : (w : ClientWorldSimulations) (t : Timestamp) (o server : Float) (c : Settings) {b : Bool} → b ≡ levelRun w t o server c → b ≡ true
     → (isSingle o (c .timestep) ≡ true) × (isLevel w (c .m) ≡ true) × (skipsOf (nextStamp t) (add binary64 o (c .timestep)) server c ≡ false)
 unfolding levelRun
-level-run-parts w t o server c hb e = parts-by (isSingle o (c .timestep)) (isLevel w (c .m)) (skipsOf (nextStamp t) (add binary64 o (c .timestep)) server c) (sym hb ∙ e)
+level-run-parts w t o server c hb e = parts-by (isSingle o (c .timestep)) (isLevel w (c .m))
+    (skipsOf (nextStamp t) (add binary64 o (c .timestep)) server c) (sym hb ∙ e)
 
 -- ---- the frame
 
@@ -87,7 +92,8 @@ module _ (c : Settings) (s : Scene) (o : Float) (single : isSingle o (c .timeste
   single-run : runOf 65 c s o ≡ framed (rulesOf c) s (ended Done (frame c s .scene) (add binary64 o (c .timestep)))
   single-run =
       goes-at 64 c s o (bounds .0)
-      ∙ (λ i. framed (rulesOf c) s (goesOn (level-stops (rulesOf c) s level i) (frame c s .scene) (add binary64 o (c .timestep)) (done-at 64 c (frame c s .scene) (add binary64 o (c .timestep)) (bounds .1) i)))
+      ∙ (λ i. framed (rulesOf c) s (goesOn (level-stops (rulesOf c) s level i) (frame c s .scene) (add binary64 o (c .timestep))
+      (done-at 64 c (frame c s .scene) (add binary64 o (c .timestep)) (bounds .1) i)))
 
   -- the run as the code leaves it
   pub level-advances : {f : Shown} {x : Float} {was last : List ℕ} → Plays (frame c s) was 0 f last → x ≡ add binary64 o (c .timestep)
@@ -108,11 +114,13 @@ module _ (c : Settings) (s : Scene) (o : Float) (single : isSingle o (c .timeste
   level-done h = h .stop ∙ ap (λ (r : Run). r .stop) single-run
 
   -- and there is no skip after it
-  pub level-stays : {was last : List ℕ} {a : Advanced} {t : Timestamp} {server : Float} → t ≡ oldStampOf (s .worlds) → skipsOf (nextStamp t) (add binary64 o (c .timestep)) server c ≡ false
+  pub level-stays : {was last : List ℕ} {a : Advanced} {t : Timestamp} {server : Float} → t ≡ oldStampOf (s .worlds)
+      → skipsOf (nextStamp t) (add binary64 o (c .timestep)) server c ≡ false
       → Advances (runOf 65 c s o) was a last → Skips a server c last a last
   unfolding framed
   level-stays {was} {last} {a} {t} {server} ht hk h =
       let e : a .scene ≡ frame c s .scene = h .scene ∙ ap (λ (r : Run). r .played .scene) single-run in
       let x : a .overshoot ≡ add binary64 o (c .timestep) = h .overshoot ∙ ap (λ (r : Run). r .overshoot) single-run in
-      let n : oldStampOf (a .scene .worlds) ≡ nextStamp t = ap (λ (y : Scene). oldStampOf (y .worlds)) e ∙ (λ i. record { 0 = level-stamp (rulesOf c) s level i }) ∙ ap nextStamp (sym ht) in
+      let n : oldStampOf (a .scene .worlds) ≡ nextStamp t = ap (λ (y : Scene). oldStampOf (y .worlds)) e
+      ∙ (λ i. record { 0 = level-stamp (rulesOf c) s level i }) ∙ ap nextStamp (sym ht) in
       skip-none a server c last ((λ i. skipsOf (n i) (x i) server c) ∙ hk)

@@ -39,7 +39,8 @@ running-start c from start was h =
     record { bound = omega arith; held = h; at = omega arith; len = refl; scene = refl; overshoot = refl; stop = refl; frames = omega arith; puts = λ q last k. k }
 
 -- the run is over: q is what is left, and it puts nothing more
-over-with : (c : Settings) (from : Scene) (start : Float) {was tape : List ℕ} {s : Scene} {o : Float} {p n : ℕ} (x : Stop) → Running c from start was tape s o p n → runOf (65 - n) c s o ≡ ended x s o
+over-with : (c : Settings) (from : Scene) (start : Float) {was tape : List ℕ} {s : Scene} {o : Float} {p n : ℕ} (x : Stop)
+    → Running c from start was tape s o p n → runOf (65 - n) c s o ≡ ended x s o
     → Advances (runOf 65 c from start) was (record { scene = s; overshoot = o; frames = n; at = p; stop = x }) tape
 over-with c from start {was} {tape} {s} {o} {p} {n} x r e =
     record {
@@ -52,7 +53,8 @@ over-with c from start {was} {tape} {s} {o} {p} {n} x r e =
 
 -- a frame, and then the run from the scene after it
 abbrev onward : ℕ → Settings → Scene → Float → Run
-onward k c s o = framed (rulesOf c) s (goesOn (frameStops (rulesOf c) s) (frame c s .scene) (add binary64 o (c .timestep)) (runOf k c (frame c s .scene) (add binary64 o (c .timestep))))
+onward k c s o = framed (rulesOf c) s (goesOn (frameStops (rulesOf c) s) (frame c s .scene) (add binary64 o (c .timestep))
+    (runOf k c (frame c s .scene) (add binary64 o (c .timestep))))
 
 -- the overshoot is not negative
 pub done-at : (k : ℕ) (c : Settings) (s : Scene) (o : Float) → lt o zero64 ≡ false → runOf k c s o ≡ ended Done s o
@@ -60,7 +62,8 @@ unfolding runOf
 done-at zero c s o h = ap (λ (b : Bool). whileBelow b s o (ended TooManyFrames s o)) h
 done-at (suc k) c s o h = ap (λ (b : Bool). whileBelow b s o (onward k c s o)) h
 
-pub running-done : (c : Settings) (from : Scene) (start : Float) {was tape : List ℕ} {s : Scene} {o : Float} {p n : ℕ} → Running c from start was tape s o p n → lt o zero64 ≡ false
+pub running-done : (c : Settings) (from : Scene) (start : Float) {was tape : List ℕ} {s : Scene} {o : Float} {p n : ℕ}
+    → Running c from start was tape s o p n → lt o zero64 ≡ false
     → Advances (runOf 65 c from start) was (record { scene = s; overshoot = o; frames = n; at = p; stop = Done }) tape
 running-done c from start {was} {tape} {s} {o} {p} {n} r h = over-with c from start Done r (done-at (65 - n) c s o h)
 
@@ -69,7 +72,8 @@ full-at : (c : Settings) (s : Scene) (o : Float) → lt o zero64 ≡ true → ru
 unfolding runOf
 full-at c s o h = ap (λ (b : Bool). whileBelow b s o (ended TooManyFrames s o)) h
 
-pub running-full : (c : Settings) (from : Scene) (start : Float) {was tape : List ℕ} {s : Scene} {o : Float} {p n : ℕ} → Running c from start was tape s o p n → lt o zero64 ≡ true → n ≡ 65
+pub running-full : (c : Settings) (from : Scene) (start : Float) {was tape : List ℕ} {s : Scene} {o : Float} {p n : ℕ}
+    → Running c from start was tape s o p n → lt o zero64 ≡ true → n ≡ 65
     → Advances (runOf 65 c from start) was (record { scene = s; overshoot = o; frames = n; at = p; stop = TooManyFrames }) tape
 running-full c from start {was} {tape} {s} {o} {p} {n} r h e =
     let z : 65 - n ≡ 0 = omega arith in
@@ -102,7 +106,8 @@ module _ (c : Settings) (from : Scene) (start : Float) {was tape mid : List ℕ}
 
   -- the frame, and then a run q, in place of what was left
   joined : (q : Run) → runOf (65 - n) c s o ≡ framed (rulesOf c) s q
-      → (q .played .scene ≡ runOf 65 c from start .played .scene) × (q .overshoot ≡ runOf 65 c from start .overshoot) × (q .stop ≡ runOf 65 c from start .stop) × (n + 1 + q .frames ≡ runOf 65 c from start .frames)
+      → (q .played .scene ≡ runOf 65 c from start .played .scene) × (q .overshoot ≡ runOf 65 c from start .overshoot)
+      × (q .stop ≡ runOf 65 c from start .stop) × (n + 1 + q .frames ≡ runOf 65 c from start .frames)
       × ((z : ℕ) (last : List ℕ) → Puts mid (f .at) (q .played .words) z last → Puts was 0 (runOf 65 c from start .played .words) z last)
   unfolding framed
   joined q e = (
@@ -118,7 +123,8 @@ module _ (c : Settings) (from : Scene) (start : Float) {was tape mid : List ℕ}
       → Advances (runOf 65 c from start) was (record { scene = f .scene; overshoot = x; frames = n + 1; at = f .at; stop = StatusStops }) mid
   unfolding after
   running-stops hs hx =
-      let j = joined (ended StatusStops (frame c s .scene) (add binary64 o (c .timestep))) (left-is ∙ ap (λ (b : Bool). framed (rulesOf c) s (after b)) (sym (h .stopped) ∙ hs)) in
+      let j = joined (ended StatusStops (frame c s .scene) (add binary64 o (c .timestep)))
+      (left-is ∙ ap (λ (b : Bool). framed (rulesOf c) s (after b)) (sym (h .stopped) ∙ hs)) in
       record {
         scene = h .scene ∙ j .0;
         overshoot = hx ∙ j .1;

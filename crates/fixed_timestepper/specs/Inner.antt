@@ -25,7 +25,8 @@ isSingle o timestep = cond (lt o zero64) (cond (lt (add binary64 o timestep) zer
 
 -- an update of worlds with the stamp t, from the overshoot o, plays one level frame, and there is no skip after it
 unfoldable pub levelRun : ClientWorldSimulations → Timestamp → Float → Float → Settings → Bool
-levelRun w t o server c = cond (isSingle o (c .timestep)) (cond (isLevel w (c .m)) (not (skipsOf (nextStamp t) (add binary64 o (c .timestep)) server c)) false) false
+levelRun w t o server c = cond (isSingle o (c .timestep)) (cond (isLevel w (c .m))
+    (not (skipsOf (nextStamp t) (add binary64 o (c .timestep)) server c)) false) false
 
 -- the skip after the frames of a run: what it adds to the tape, and the answer after it
 pub record Skips (a : Advanced) (server : Float) (c : Settings) (was : List ℕ) (r : Advanced) (last : List ℕ) : Type 0 where

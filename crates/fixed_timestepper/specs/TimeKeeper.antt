@@ -44,7 +44,8 @@ beyondDeadband drift timestep = cond (lt (absOf drift) (mul binary64 timestep (f
 
 -- the delta less the drift before the update, not negative
 unfoldable pub uncappedOf : Timestamp → Float → Float → Float → Float → Float
-uncappedOf stamp overshoot delta server timestep = atLeastZero (sub binary64 delta (beyondDeadband (driftOf stamp overshoot timestep (sub binary64 server delta)) timestep))
+uncappedOf stamp overshoot delta server timestep = atLeastZero
+    (sub binary64 delta (beyondDeadband (driftOf stamp overshoot timestep (sub binary64 server delta)) timestep))
 
 -- the seconds that an update plays: capped by the maximum
 unfoldable pub compensatedOf : Timestamp → Float → Float → Float → Settings → Float
@@ -155,7 +156,14 @@ endedOf c w o = postUpdateOf w (shapedOf (c .method) (tweenOf o (c .timestep))) 
 
 -- the run with other worlds
 abbrev pub endsWith : Run → ClientWorldSimulations → Run
-endsWith r w = record { played = record { scene = withWorlds (r .played .scene) w; words = r .played .words }; overshoot = r .overshoot; frames = r .frames; stop = r .stop; trace = r .trace }
+endsWith r w =
+    record {
+      played = record { scene = withWorlds (r .played .scene) w; words = r .played .words };
+      overshoot = r .overshoot;
+      frames = r .frames;
+      stop = r .stop;
+      trace = r .trace;
+    }
 
 -- a run with what an update ends with
 abbrev pub finishedOf : Settings → Run → Run

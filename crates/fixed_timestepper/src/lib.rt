@@ -3,7 +3,8 @@
 ghost use mathlib.Core.Path.{_≡_};
 ghost use mathlib.Core.Bool.{true};
 ghost use Prim.Native.Nat.{_≤_, _<_};
-ghost use Rattle.fixed_timestepper.specs.TimeKeeper.{atLeastZero, logicalOf, driftOf, beyondDeadband, compensatedOf, rulesOf, runOf, skipsOf, Advances, endedOf, unendedOf};
+ghost use Rattle.fixed_timestepper.specs.TimeKeeper.{atLeastZero, logicalOf, driftOf, beyondDeadband, compensatedOf, rulesOf, runOf, skipsOf, Advances};
+ghost use Rattle.fixed_timestepper.specs.TimeKeeper.{endedOf, unendedOf};
 ghost use Rattle.timestamp.specs.Floats.{absOf};
 ghost use Rattle.fixed_timestepper.specs.Inner.{isSingle, levelRun, Skips};
 ghost use Rattle.client_level.specs.Level.{isLevel};

@@ -83,8 +83,10 @@ pub held-diff : (f : Format) (p n k : ℕ) → k ≤ low f → p < 2 ^ prec f �
 held-diff f p n k h a b = go (ltb p n) (ltb→lt p n) (nltb→le p n)
   where
     go : (t : Bool) → (T t → p < n) → (T (not t) → n ≤ p) → Held f (diffQ p n k)
-    go true u v = held-eqv f (sgn true (n - p) (2 ^ k) (pow-pos k)) (diffQ p n k) (held-dyadic f true (n - p) k h (omega (arith, b))) (let e = difference-times n p (2 ^ k) (le-of-lt (u tt)) in (omega arith, omega arith))
-    go false u v = held-eqv f (sgn false (p - n) (2 ^ k) (pow-pos k)) (diffQ p n k) (held-dyadic f false (p - n) k h (omega (arith, a))) (let e = difference-times p n (2 ^ k) (v tt) in (omega arith, omega arith))
+    go true u v = held-eqv f (sgn true (n - p) (2 ^ k) (pow-pos k)) (diffQ p n k) (held-dyadic f true (n - p) k h (omega (arith, b)))
+        (let e = difference-times n p (2 ^ k) (le-of-lt (u tt)) in (omega arith, omega arith))
+    go false u v = held-eqv f (sgn false (p - n) (2 ^ k) (pow-pos k)) (diffQ p n k) (held-dyadic f false (p - n) k h (omega (arith, a)))
+        (let e = difference-times p n (2 ^ k) (v tt) in (omega arith, omega arith))
 
 -- ---- between two numbers
 
@@ -108,21 +110,26 @@ round-between f lo hi a z L H s h k =
     (p, q-le-trans lo (val x) (val z) (L .3 .1) (le-to-val x z (L .2) p u), q-le-trans (val z) (val y) hi (le-to-val z y p (H .2) v) (H .3 .0))
 
 -- If the exact sum lies between two held numbers, so does x + y, which is then finite.
-pub add-between : (f : Format) (lo hi : Q) (x y : Float) → Held f lo → Held f hi → T (finite x) → T (finite y) → Le lo (addQ (val x) (val y)) → Le (addQ (val x) (val y)) hi → Between lo (add f x y) hi
+pub add-between : (f : Format) (lo hi : Q) (x y : Float) → Held f lo → Held f hi → T (finite x) → T (finite y) → Le lo (addQ (val x) (val y))
+    → Le (addQ (val x) (val y)) hi → Between lo (add f x y) hi
 add-between f lo hi x y L H p q h k = round-between f lo hi (addQ (val x) (val y)) (add f x y) L H (add-is-rounded f x y p q) h k
 
 -- If the exact difference lies between two held numbers, so does x - y.
-pub sub-between : (f : Format) (lo hi : Q) (x y : Float) → Held f lo → Held f hi → T (finite x) → T (finite y) → Le lo (subQ (val x) (val y)) → Le (subQ (val x) (val y)) hi → Between lo (sub f x y) hi
+pub sub-between : (f : Format) (lo hi : Q) (x y : Float) → Held f lo → Held f hi → T (finite x) → T (finite y) → Le lo (subQ (val x) (val y))
+    → Le (subQ (val x) (val y)) hi → Between lo (sub f x y) hi
 sub-between f lo hi x y L H p q h k = round-between f lo hi (subQ (val x) (val y)) (sub f x y) L H (sub-is-rounded f x y p q) h k
 
 -- If the exact product lies between two held numbers, so does x y.
-pub mul-between : (f : Format) (lo hi : Q) (x y : Float) → Held f lo → Held f hi → T (finite x) → T (finite y) → Le lo (mulQ (val x) (val y)) → Le (mulQ (val x) (val y)) hi → Between lo (mul f x y) hi
+pub mul-between : (f : Format) (lo hi : Q) (x y : Float) → Held f lo → Held f hi → T (finite x) → T (finite y) → Le lo (mulQ (val x) (val y))
+    → Le (mulQ (val x) (val y)) hi → Between lo (mul f x y) hi
 mul-between f lo hi x y L H p q h k = round-between f lo hi (mulQ (val x) (val y)) (mul f x y) L H (mul-is-rounded f x y p q) h k
 
 -- If the exact quotient by a positive float lies between two held numbers, so does x / y.
-pub div-between : (f : Format) (lo hi : Q) (x y : Float) → Held f lo → Held f hi → T (finite x) → (q : T (positive y)) → Le lo (divQ (val x) y q) → Le (divQ (val x) y q) hi → Between lo (div f x y) hi
+pub div-between : (f : Format) (lo hi : Q) (x y : Float) → Held f lo → Held f hi → T (finite x) → (q : T (positive y)) → Le lo (divQ (val x) y q)
+    → Le (divQ (val x) y q) hi → Between lo (div f x y) hi
 div-between f lo hi x y L H p q h k = round-between f lo hi (divQ (val x) y q) (div f x y) L H (div-is-rounded f x y p q) h k
 
 -- If the exact remainder by a positive float lies between two held numbers, so does x % y.
-pub rem-between : (f : Format) (lo hi : Q) (x y : Float) → Held f lo → Held f hi → T (finite x) → T (positive y) → Le lo (remQ (val x) y) → Le (remQ (val x) y) hi → Between lo (rem f x y) hi
+pub rem-between : (f : Format) (lo hi : Q) (x y : Float) → Held f lo → Held f hi → T (finite x) → T (positive y) → Le lo (remQ (val x) y)
+    → Le (remQ (val x) y) hi → Between lo (rem f x y) hi
 rem-between f lo hi x y L H p q h k = round-between f lo hi (remQ (val x) y) (rem f x y) L H (rem-is-rounded f x y p q) h k

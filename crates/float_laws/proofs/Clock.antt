@@ -2,7 +2,8 @@
 use mathlib.Core.Path.{_≡_, refl, sym, ap, _∙_, subst}
 use mathlib.Core.List.{List, [], _∷_}
 use Prim.Native.Nat.{ℕ, zero, suc, _+_, _-_, _*_, _≤_, _<_, _^_, zero-le}
-use native.Mathlib.Nat.{le-trans, le-of-eq, le-of-lt, mul-le-mul-right, lt-of-mul-lt-mul-right, mul-assoc, mul-one, zero-mul, mul-le-mul-left, lt-of-le-of-lt, mul-le-mul}
+use native.Mathlib.Nat.{le-trans, le-of-eq, le-of-lt, mul-le-mul-right, lt-of-mul-lt-mul-right, mul-assoc, mul-one, zero-mul, mul-le-mul-left, lt-of-le-of-lt}
+use native.Mathlib.Nat.{mul-le-mul}
 use native.Mathlib.Omega.{arith}
 use mathlib.Core.Bool.{Bool, true, false, not}
 use lib.IntN.{ℤ, pos, negsuc}
@@ -36,7 +37,8 @@ AllWithin n [] = Unit {0}
 AllWithin n (x ∷ xs) = Within x n × AllWithin n xs
 
 -- k samples are in the sum already.
-sum-within : (B : ℕ) (xs : List Float) (sum : Float) (k : ℕ) → (k + length xs) * B < 2 ^ 53 → Within sum (k * B) → AllWithin B xs → Within (sumUp sum xs) ((k + length xs) * B)
+sum-within : (B : ℕ) (xs : List Float) (sum : Float) (k : ℕ) → (k + length xs) * B < 2 ^ 53 → Within sum (k * B) → AllWithin B xs
+    → Within (sumUp sum xs) ((k + length xs) * B)
 sum-within B [] sum k s a h = within-widen sum (k * B) ((k + 0) * B) (omega arith) a
 sum-within B (x ∷ xs) sum k s a h =
     let next = add binary64 sum x in
@@ -49,7 +51,8 @@ unfolding ofInt
 of-int-val n h = round-whole binary64 false n h
 
 -- The mean of 1 to 64 samples that are each within 2 ^ 33 is within 2 ^ 33, each rounding included.
-pub mean-within : (xs : List Float) → 0 < length xs → length xs ≤ 64 → AllWithin (2 ^ 33) xs → Within (div binary64 (sumUp zero64 xs) (ofInt binary64 (pos (length xs)))) (2 ^ 33)
+pub mean-within : (xs : List Float) → 0 < length xs → length xs ≤ 64 → AllWithin (2 ^ 33) xs
+    → Within (div binary64 (sumUp zero64 xs) (ofInt binary64 (pos (length xs)))) (2 ^ 33)
 mean-within xs h k a =
     let n = length xs in
     div-within (sumUp zero64 xs) (ofInt binary64 (pos n)) n _ (lit< tt) h (of-int-val n (omega arith))
@@ -58,7 +61,8 @@ mean-within xs h k a =
 -- ---- the offset of a clock message
 
 -- Of times within 2 ^ 32, the offset s - (a + b) / 2 is within 2 ^ 33, each rounding included.
-pub offset-within : (a b s : Float) → Within a (2 ^ 32) → Within b (2 ^ 32) → Within s (2 ^ 32) → Within (sub binary64 s (div binary64 (add binary64 a b) two64)) (2 ^ 33)
+pub offset-within : (a b s : Float) → Within a (2 ^ 32) → Within b (2 ^ 32) → Within s (2 ^ 32)
+    → Within (sub binary64 s (div binary64 (add binary64 a b) two64)) (2 ^ 33)
 offset-within a b s h k l =
     sub-within s (div binary64 (add binary64 a b) two64) (2 ^ 32) (2 ^ 32) (lit< tt) l
     (div-within (add binary64 a b) two64 2 (2 ^ 32) (lit< tt) (lit< tt) (refl, refl) (add-within a b (2 ^ 32) (2 ^ 32) (lit< tt) h k))
@@ -88,7 +92,8 @@ max-at m (pos k) a c = le-trans (go (leb k 971) (leb→le k 971) (nleb→lt k 97
         let L : m * 2 ^ j * 2 ^ 971 < 2 ^ 53 * 2 ^ 971 = subst (λ (x : ℕ). x < 2 ^ 53 * 2 ^ 971) E (subst (λ (x : ℕ). m * 2 ^ k < x) B c) in
         subst (λ (x : ℕ). x ≤ (2 ^ 53 - 1) * 2 ^ 971) (sym E) (mul-le-mul-right (2 ^ 971) (le-ones 53 (lt-of-mul-lt-mul-right (2 ^ 971) L)))
 max-at m (negsuc k) a c =
-    le-trans (le-of-eq (mul-one m)) (le-trans (le-ones 53 a) (le-trans (one-le (2 ^ 53 - 1) (2 ^ 971) (lit< tt)) (one-le ((2 ^ 53 - 1) * 2 ^ 971) (2 ^ suc k) (pow-pos (suc k)))))
+    le-trans (le-of-eq (mul-one m)) (le-trans (le-ones 53 a) (le-trans (one-le (2 ^ 53 - 1) (2 ^ 971) (lit< tt))
+    (one-le ((2 ^ 53 - 1) * 2 ^ 971) (2 ^ suc k) (pow-pos (suc k)))))
 
 max-says : (s : Bool) (m : ℕ) (e : ℤ) → T (fits binary64 (fin s m e)) → m * up e ≤ largest * down e
 max-says s zero e t = le-trans (le-of-eq (zero-mul (up e))) zero-le
@@ -121,8 +126,12 @@ add-finite x y t p w =
     let q = addQ (val x) (val y) in
     let s = add-is-rounded binary64 x y p (w .0) in
     between-finite (rnd binary64 (edge true)) (add binary64 x y) (rnd binary64 (edge false)) (edge-finite true) (edge-finite false)
-    (float-le-trans (rnd binary64 (edge true)) (rnd binary64 q) (add binary64 x y) (rnd-mono binary64 (edge true) q (low-side largest (2 ^ 53) (pnum x) (nnum x) (den x) (pnum y) (nnum y) (den y) (nnum-largest x t p) (within-low y (2 ^ 53) w))) (s .1))
-    (float-le-trans (add binary64 x y) (rnd binary64 q) (rnd binary64 (edge false)) (s .0) (rnd-mono binary64 q (edge false) (high-side largest (2 ^ 53) (pnum x) (nnum x) (den x) (pnum y) (nnum y) (den y) (pnum-largest x t p) (within-high y (2 ^ 53) w))))
+    (float-le-trans (rnd binary64 (edge true)) (rnd binary64 q) (add binary64 x y)
+    (rnd-mono binary64 (edge true) q (low-side largest (2 ^ 53) (pnum x) (nnum x) (den x) (pnum y) (nnum y) (den y) (nnum-largest x t p)
+    (within-low y (2 ^ 53) w))) (s .1))
+    (float-le-trans (add binary64 x y) (rnd binary64 q) (rnd binary64 (edge false)) (s .0)
+    (rnd-mono binary64 q (edge false) (high-side largest (2 ^ 53) (pnum x) (nnum x) (den x) (pnum y) (nnum y) (den y) (pnum-largest x t p)
+    (within-high y (2 ^ 53) w))))
   where
     low-side : (M k p n d q m e : ℕ) → n ≤ M * d → m ≤ q + k * e → 0 * (d * e) + (n * e + m * d) * 1 ≤ (p * e + q * d) * 1 + (M + k) * (d * e)
     low-side M k p n d q m e h i = let u = mul-le-mul-right e h in let v = mul-le-mul-right d i in omega arith

@@ -54,7 +54,8 @@ sum-is f true a false b c C = go (ltb a b) (ltb→lt a b) (nltb→le a b)
         let g = mul-le-mul-right c (h tt) in
         round-is-rnd f false (a - b) c C (sumQ true a false b c C) (omega arith, omega arith)
 
-    go : (x : Bool) → (T x → a < b) → (T (not x) → b ≤ a) → Same (cond x (round f false (b - a) c) (round f (ltb b a) (a - b) c)) (rnd f (sumQ true a false b c C))
+    go : (x : Bool) → (T x → a < b) → (T (not x) → b ≤ a) → Same (cond x (round f false (b - a) c) (round f (ltb b a) (a - b) c))
+        (rnd f (sumQ true a false b c C))
     go true h k = let e = difference-times b a c (le-of-lt (h tt)) in round-is-rnd f false (b - a) c C (sumQ true a false b c C) (omega arith, omega arith)
     go false h k = go' (ltb b a) (nltb→le b a) (k tt)
 
@@ -71,10 +72,14 @@ add-is-rounded f nan y p q = absurd p
 add-is-rounded f (inf s) y p q = absurd p
 add-is-rounded f (fin s m e) nan p q = absurd q
 add-is-rounded f (fin s m e) (inf t) p q = absurd q
-add-is-rounded f (fin false m e) (fin false n d) p q = sum-at f false (m * up e * down d) false (n * up d * down e) (down e * down d) (both-pos e d) (addQ (val (fin false m e)) (val (fin false n d))) (omega arith, omega arith)
-add-is-rounded f (fin false m e) (fin true n d) p q = sum-at f false (m * up e * down d) true (n * up d * down e) (down e * down d) (both-pos e d) (addQ (val (fin false m e)) (val (fin true n d))) (omega arith, omega arith)
-add-is-rounded f (fin true m e) (fin false n d) p q = sum-at f true (m * up e * down d) false (n * up d * down e) (down e * down d) (both-pos e d) (addQ (val (fin true m e)) (val (fin false n d))) (omega arith, omega arith)
-add-is-rounded f (fin true m e) (fin true n d) p q = sum-at f true (m * up e * down d) true (n * up d * down e) (down e * down d) (both-pos e d) (addQ (val (fin true m e)) (val (fin true n d))) (omega arith, omega arith)
+add-is-rounded f (fin false m e) (fin false n d) p q = sum-at f false (m * up e * down d) false (n * up d * down e) (down e * down d) (both-pos e d)
+    (addQ (val (fin false m e)) (val (fin false n d))) (omega arith, omega arith)
+add-is-rounded f (fin false m e) (fin true n d) p q = sum-at f false (m * up e * down d) true (n * up d * down e) (down e * down d) (both-pos e d)
+    (addQ (val (fin false m e)) (val (fin true n d))) (omega arith, omega arith)
+add-is-rounded f (fin true m e) (fin false n d) p q = sum-at f true (m * up e * down d) false (n * up d * down e) (down e * down d) (both-pos e d)
+    (addQ (val (fin true m e)) (val (fin false n d))) (omega arith, omega arith)
+add-is-rounded f (fin true m e) (fin true n d) p q = sum-at f true (m * up e * down d) true (n * up d * down e) (down e * down d) (both-pos e d)
+    (addQ (val (fin true m e)) (val (fin true n d))) (omega arith, omega arith)
 
 -- ---- the difference
 
@@ -94,10 +99,12 @@ neg-val (fin false m e) p = (q-le-refl (val (fin true m e)), q-le-refl (val (fin
 neg-val (fin true m e) p = (q-le-refl (val (fin false m e)), q-le-refl (val (fin false m e)))
 
 -- One step at a time: `omega` does not take the twelve products of both sides at once.
-add-left : (a n d b m e c k g : ℕ) → a * g + k * d ≤ c * d + n * g → (a * e + b * d) * (g * e) + (k * e + m * g) * (d * e) ≤ (c * e + b * g) * (d * e) + (n * e + m * d) * (g * e)
+add-left : (a n d b m e c k g : ℕ) → a * g + k * d ≤ c * d + n * g
+    → (a * e + b * d) * (g * e) + (k * e + m * g) * (d * e) ≤ (c * e + b * g) * (d * e) + (n * e + m * d) * (g * e)
 add-left a n d b m e c k g h = go (mul-le-mul-right (e * e) h)
   where
-    go : (a * g + k * d) * (e * e) ≤ (c * d + n * g) * (e * e) → (a * e + b * d) * (g * e) + (k * e + m * g) * (d * e) ≤ (c * e + b * g) * (d * e) + (n * e + m * d) * (g * e)
+    go : (a * g + k * d) * (e * e) ≤ (c * d + n * g) * (e * e)
+        → (a * e + b * d) * (g * e) + (k * e + m * g) * (d * e) ≤ (c * e + b * g) * (d * e) + (n * e + m * d) * (g * e)
     go x = omega arith
 
 addQ-left : (a a' b : Q) → Le a a' → Le (addQ a b) (addQ a' b)
@@ -118,8 +125,11 @@ unfolding sub
 sub-is-rounded f x y p q =
     let v = neg-val y q in
     same-trans (add f x (neg y)) (rnd f (addQ (val x) (val (neg y)))) (rnd f (subQ (val x) (val y))) (add-is-rounded f x (neg y) p (neg-finite y q))
-    (rnd-same f (addQ (val x) (val (neg y))) (subQ (val x) (val y))
-    (addQ-mono (val x) (val (neg y)) (val x) (negQ (val y)) (q-le-refl (val x)) (v .0), addQ-mono (val x) (negQ (val y)) (val x) (val (neg y)) (q-le-refl (val x)) (v .1)))
+    (rnd-same f (addQ (val x) (val (neg y))) (subQ (val x) (val y)) (
+      addQ-mono (val x) (val (neg y)) (val x) (negQ (val y)) (q-le-refl (val x)) (v .0),
+      addQ-mono (val x) (negQ (val y)) (val x) (val (neg y))
+          (q-le-refl (val x)) (v .1),
+    ))
 
 -- ---- the product
 
@@ -130,10 +140,14 @@ mul-is-rounded f nan y p q = absurd p
 mul-is-rounded f (inf s) y p q = absurd p
 mul-is-rounded f (fin s m e) nan p q = absurd q
 mul-is-rounded f (fin s m e) (inf t) p q = absurd q
-mul-is-rounded f (fin false m e) (fin false n d) p q = round-is-rnd f false (m * up e * (n * up d)) (down e * down d) (both-pos e d) (mulQ (val (fin false m e)) (val (fin false n d))) (omega arith, omega arith)
-mul-is-rounded f (fin false m e) (fin true n d) p q = round-is-rnd f true (m * up e * (n * up d)) (down e * down d) (both-pos e d) (mulQ (val (fin false m e)) (val (fin true n d))) (omega arith, omega arith)
-mul-is-rounded f (fin true m e) (fin false n d) p q = round-is-rnd f true (m * up e * (n * up d)) (down e * down d) (both-pos e d) (mulQ (val (fin true m e)) (val (fin false n d))) (omega arith, omega arith)
-mul-is-rounded f (fin true m e) (fin true n d) p q = round-is-rnd f false (m * up e * (n * up d)) (down e * down d) (both-pos e d) (mulQ (val (fin true m e)) (val (fin true n d))) (omega arith, omega arith)
+mul-is-rounded f (fin false m e) (fin false n d) p q = round-is-rnd f false (m * up e * (n * up d)) (down e * down d) (both-pos e d)
+    (mulQ (val (fin false m e)) (val (fin false n d))) (omega arith, omega arith)
+mul-is-rounded f (fin false m e) (fin true n d) p q = round-is-rnd f true (m * up e * (n * up d)) (down e * down d) (both-pos e d)
+    (mulQ (val (fin false m e)) (val (fin true n d))) (omega arith, omega arith)
+mul-is-rounded f (fin true m e) (fin false n d) p q = round-is-rnd f true (m * up e * (n * up d)) (down e * down d) (both-pos e d)
+    (mulQ (val (fin true m e)) (val (fin false n d))) (omega arith, omega arith)
+mul-is-rounded f (fin true m e) (fin true n d) p q = round-is-rnd f false (m * up e * (n * up d)) (down e * down d) (both-pos e d)
+    (mulQ (val (fin true m e)) (val (fin true n d))) (omega arith, omega arith)
 
 -- ---- the quotient and the remainder by a positive float
 

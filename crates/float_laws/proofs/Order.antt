@@ -1,4 +1,5 @@
--- The order of all floats, infinities and NaN included: it is transitive, negation reverses it, and where `<` fails for finite floats `<=` holds the other way round.
+-- The order of all floats, infinities and NaN included: it is transitive, negation reverses it, and where `<` fails for finite floats `<=` holds the other way
+-- round.
 use mathlib.Core.Path.{_≡_, refl}
 use Prim.Native.Nat.{ℕ, zero, suc, _+_, _*_, _≤_, _<_}
 use native.Mathlib.Nat.{le-of-lt, mul-pos, lt-of-not-le, le-of-suc-le-suc}
@@ -43,7 +44,8 @@ float-le-trans (fin s m e) (inf true) (fin u l c) h k = absurd h
 float-le-trans (fin s m e) (inf false) (fin u l c) h k = absurd k
 float-le-trans (fin s m e) (fin t n d) (inf true) h k = absurd k
 float-le-trans (fin s m e) (fin t n d) (inf false) h k = tt
-float-le-trans (fin s m e) (fin t n d) (fin u l c) h k = le-of-val (fin s m e) (fin u l c) tt tt (q-le-trans (val (fin s m e)) (val (fin t n d)) (val (fin u l c)) (le-to-val (fin s m e) (fin t n d) tt tt h) (le-to-val (fin t n d) (fin u l c) tt tt k))
+float-le-trans (fin s m e) (fin t n d) (fin u l c) h k = le-of-val (fin s m e) (fin u l c) tt tt
+    (q-le-trans (val (fin s m e)) (val (fin t n d)) (val (fin u l c)) (le-to-val (fin s m e) (fin t n d) tt tt h) (le-to-val (fin t n d) (fin u l c) tt tt k))
 
 -- Floats that compare equal to a third compare equal.
 pub same-trans : (x y z : Float) → Same x y → Same y z → Same x z
@@ -90,7 +92,8 @@ float-le-of-lt x y p q h = le-of-val x y p q (le-of-lt (lt-to-val x y p q h))
 
 -- Where `x < y` fails for finite floats, `y <= x` holds.
 pub float-le-of-not-lt : (x y : Float) → T (finite x) → T (finite y) → T (not (lt x y)) → T (le y x)
-float-le-of-not-lt x y p q h = le-of-val y x q p (go (pnum x) (nnum x) (den x) (pnum y) (nnum y) (den y) (λ (k : Lt (val x) (val y)). T-not (lt x y) h (lt-of-val x y p q k)))
+float-le-of-not-lt x y p q h = le-of-val y x q p (go (pnum x) (nnum x) (den x) (pnum y) (nnum y) (den y)
+    (λ (k : Lt (val x) (val y)). T-not (lt x y) h (lt-of-val x y p q k)))
   where
     go : (p n d p' n' d' : ℕ) → (p * d' + n' * d < p' * d + n * d' → ⊥) → p' * d + n * d' ≤ p * d' + n' * d
     go p n d p' n' d' h = le-of-suc-le-suc (lt-of-not-le h)

@@ -65,9 +65,11 @@ mul-unit y t ft pt h b =
 -- A finite float clamped is from 0 to 1.
 pub clamp-unit : (x : Float) → T (finite x) → T (le zero64 (clampedOf x)) × T (le (clampedOf x) one64)
 unfolding le
-clamp-unit x p = go (lt x zero64) (lt one64 x) (λ (h : T (not (lt x zero64))). float-le-of-not-lt x zero64 p tt h) (λ (h : T (not (lt one64 x))). float-le-of-not-lt one64 x tt p h)
+clamp-unit x p = go (lt x zero64) (lt one64 x) (λ (h : T (not (lt x zero64))). float-le-of-not-lt x zero64 p tt h)
+    (λ (h : T (not (lt one64 x))). float-le-of-not-lt one64 x tt p h)
   where
-    go : (a b : Bool) → (T (not a) → T (le zero64 x)) → (T (not b) → T (le x one64)) → T (le zero64 (cond a zero64 (cond b one64 x))) × T (le (cond a zero64 (cond b one64 x)) one64)
+    go : (a b : Bool) → (T (not a) → T (le zero64 x)) → (T (not b) → T (le x one64))
+        → T (le zero64 (cond a zero64 (cond b one64 x))) × T (le (cond a zero64 (cond b one64 x)) one64)
     go true b h k = (tt, tt)
     go false true h k = (tt, tt)
     go false false h k = (h tt, k tt)

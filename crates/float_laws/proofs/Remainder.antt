@@ -21,8 +21,10 @@ pub rem-within : (x y : Float) → T (fits binary64 y) → T (finite x) → T (p
 rem-within x y t p q =
     let py = positive-finite y q in
     rem-between binary64 (negQ (val y)) (val y) x y (held-neg-val binary64 y t py) (held-val binary64 y t py) p q
-    (low-side (pnum y) (nnum y) (den y) (den x) ((pnum x * den y) % (pnum y * den x)) ((nnum x * den y) % (pnum y * den x)) (positive-nnum y q) (mod-lt (nnum x * den y) (mul-pos (positive-pnum y q) (den-pos x))))
-    (high-side (pnum y) (nnum y) (den y) (den x) ((pnum x * den y) % (pnum y * den x)) ((nnum x * den y) % (pnum y * den x)) (positive-nnum y q) (mod-lt (pnum x * den y) (mul-pos (positive-pnum y q) (den-pos x))))
+    (low-side (pnum y) (nnum y) (den y) (den x) ((pnum x * den y) % (pnum y * den x)) ((nnum x * den y) % (pnum y * den x)) (positive-nnum y q)
+    (mod-lt (nnum x * den y) (mul-pos (positive-pnum y q) (den-pos x))))
+    (high-side (pnum y) (nnum y) (den y) (den x) ((pnum x * den y) % (pnum y * den x)) ((nnum x * den y) % (pnum y * den x)) (positive-nnum y q)
+    (mod-lt (pnum x * den y) (mul-pos (positive-pnum y q) (den-pos x))))
   where
     low-side : (b m e d u v : ℕ) → m ≡ 0 → v < b * d → m * (d * e) + v * e ≤ u * e + b * (d * e)
     low-side b m e d u v z h = let k = mul-le-mul-right e (le-of-lt h) in let i = ap (λ (w : ℕ). w * (d * e)) z in omega arith
@@ -40,7 +42,8 @@ rem-small x y t p q h k =
     let a : (pnum x * den y) % m ≡ pnum x * den y = mod-eq-of-lt (p-below (pnum x) (nnum x) (den x) (pnum y) (nnum y) (den y) (one-sided x) M k) in
     let b : (nnum x * den y) % m ≡ nnum x * den y = mod-eq-of-lt (n-below (pnum x) (nnum x) (den x) (pnum y) (nnum y) (den y) (one-sided x) M h) in
     same-trans (rem binary64 x y) (rnd binary64 r) x (rem-is-rounded binary64 x y p q)
-    (same-trans (rnd binary64 r) (rnd binary64 (val x)) x (rnd-same binary64 r (val x) (one-value (pnum x) (nnum x) (den x) (den y) ((pnum x * den y) % m) ((nnum x * den y) % m) a b)) (held .1, held .0))
+    (same-trans (rnd binary64 r) (rnd binary64 (val x)) x (rnd-same binary64 r (val x)
+    (one-value (pnum x) (nnum x) (den x) (den y) ((pnum x * den y) % m) ((nnum x * den y) % m) a b)) (held .1, held .0))
   where
     p-below : (p n d q m e : ℕ) → (p ≡ 0) ⊎ (n ≡ 0) → 0 < q * d → p * e + m * d < q * d + n * e → p * e < q * d
     p-below p n d q m e (inl z) D h = let i = ap (λ (y : ℕ). y * e) z in omega arith
@@ -57,7 +60,8 @@ rem-small x y t p q h k =
         (omega arith, omega arith)
 
 -- Where -y < x < y, x % y has the bounds of x.
-pub rem-keeps : (lo hi : Q) (x y : Float) → T (fits binary64 x) → T (positive y) → Lt (negQ (val y)) (val x) → Lt (val x) (val y) → Between lo x hi → Between lo (rem binary64 x y) hi
+pub rem-keeps : (lo hi : Q) (x y : Float) → T (fits binary64 x) → T (positive y) → Lt (negQ (val y)) (val x) → Lt (val x) (val y) → Between lo x hi
+    → Between lo (rem binary64 x y) hi
 rem-keeps lo hi x y t q h k b =
     let r = rem binary64 x y in
     let s = rem-small x y t (b .0) q h k in

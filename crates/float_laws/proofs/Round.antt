@@ -1,7 +1,8 @@
 -- Rounding to nearest keeps the order of fractions and leaves each value that the format holds as it is.
 use mathlib.Core.Path.{_≡_, refl, sym, ap, _∙_, subst}
 use Prim.Native.Nat.{ℕ, zero, suc, _+_, _-_, _*_, _≤_, _<_, _%_, _^_}
-use native.Mathlib.Nat.{le-refl, le-of-lt, mul-le-mul-right, mul-lt-mul-of-pos-right, not-le-of-lt, mul-assoc, mul-one, zero-mul, mul-comm, sub-zero, zero-lt-suc}
+use native.Mathlib.Nat.{le-refl, le-of-lt, mul-le-mul-right, mul-lt-mul-of-pos-right, not-le-of-lt, mul-assoc, mul-one, zero-mul, mul-comm, sub-zero}
+use native.Mathlib.Nat.{zero-lt-suc}
 use native.Mathlib.Omega.{arith}
 use mathlib.Core.Bool.{Bool, true, false, not, _&&_, cond, true≢false, false≢true}
 use lib.IntN.{ℤ, pos, negsuc}
@@ -78,12 +79,14 @@ unfolding rnd
 rnd-mono f a b h = go (ltb (a .p) (a .n)) (ltb (b .p) (b .n)) (ltb→lt (a .p) (a .n)) (nltb→le (a .p) (a .n)) (ltb→lt (b .p) (b .n)) (nltb→le (b .p) (b .n))
   where
     go : (x y : Bool) → (T x → a .p < a .n) → (T (not x) → a .n ≤ a .p) → (T y → b .p < b .n) → (T (not y) → b .n ≤ b .p)
-        → T (le (cond x (round f true (a .n - a .p) (a .d)) (round f false (a .p - a .n) (a .d))) (cond y (round f true (b .n - b .p) (b .d)) (round f false (b .p - b .n) (b .d))))
+        → T (le (cond x (round f true (a .n - a .p) (a .d)) (round f false (a .p - a .n) (a .d)))
+        (cond y (round f true (b .n - b .p) (b .d)) (round f false (b .p - b .n) (b .d))))
     go true true s t u v = round-mono-neg f (b .n - b .p) (b .d) (a .n - a .p) (a .d) (b .pos) (a .pos)
         (take (b .n) (b .p) (b .d) (a .n) (a .p) (a .d) (le-of-lt (u tt)) (le-of-lt (s tt)) (omega (arith, h)))
     go true false s t u v = round-signs f (a .n - a .p) (a .d) (b .p - b .n) (b .d) (a .pos) (b .pos)
     go false true s t u v = absurd (clash (a .p) (a .n) (a .d) (b .p) (b .n) (b .d) (a .pos) (t tt) (u tt) h)
-    go false false s t u v = round-mono f (a .p - a .n) (a .d) (b .p - b .n) (b .d) (a .pos) (b .pos) (take (a .p) (a .n) (a .d) (b .p) (b .n) (b .d) (t tt) (v tt) h)
+    go false false s t u v = round-mono f (a .p - a .n) (a .d) (b .p - b .n) (b .d) (a .pos) (b .pos)
+        (take (a .p) (a .n) (a .d) (b .p) (b .n) (b .d) (t tt) (v tt) h)
 
 -- Fractions of one number are rounded to floats that compare equal.
 pub rnd-same : (f : Format) (a b : Q) → Eqv a b → Same (rnd f a) (rnd f b)
@@ -92,14 +95,19 @@ rnd-same f a b h = (rnd-mono f a b (h .0), rnd-mono f b a (h .1))
 -- ---- a value that the format holds is rounded to itself
 
 -- What `fits` says of a value other than zero: the bounds of its significand and of its exponent at either end.
-pub fits-bounds : (f : Format) (s : Bool) (m : ℕ) (e : ℤ) → T (fits f (fin s (suc m) e)) → (suc m < 2 ^ prec f) × (down e ≤ 2 ^ low f) × (suc m * up e < 2 ^ suc (emax f) * down e)
+pub fits-bounds : (f : Format) (s : Bool) (m : ℕ) (e : ℤ) → T (fits f (fin s (suc m) e))
+    → (suc m < 2 ^ prec f) × (down e ≤ 2 ^ low f) × (suc m * up e < 2 ^ suc (emax f) * down e)
 unfolding fits
 fits-bounds f s m e t =
     let a = eqb (suc m % 2) 1 in
     let b = ltb (suc m) (2 ^ prec f) in
     let c = leb (down e) (2 ^ low f) in
-    let d = ltb (suc m * up e) (2 ^ suc (emax f) * down e) in
-    (ltb→lt (suc m) (2 ^ prec f) (and-r a b (and-l (a && b) c (and-l (a && b && c) d t))), leb→le (down e) (2 ^ low f) (and-r (a && b) c (and-l (a && b && c) d t)), ltb→lt (suc m * up e) (2 ^ suc (emax f) * down e) (and-r (a && b && c) d t))
+    let d = ltb (suc m * up e) (2 ^ suc (emax f) * down e) in (
+      ltb→lt (suc m) (2 ^ prec f) (and-r a b (and-l (a && b) c (and-l (a && b && c) d t))),
+      leb→le (down e) (2 ^ low f)
+          (and-r (a && b) c (and-l (a && b && c) d t)),
+      ltb→lt (suc m * up e) (2 ^ suc (emax f) * down e) (and-r (a && b && c) d t),
+    )
 
 pow-le-inv : (a b : ℕ) → 2 ^ a ≤ 2 ^ b → a ≤ b
 pow-le-inv a b h = go (leb a b) (leb→le a b) (nleb→lt a b)
@@ -108,10 +116,12 @@ pow-le-inv a b h = go (leb a b) (leb→le a b) (nleb→lt a b)
     go true x y = x tt
     go false x y = absurd (not-le-of-lt (pow-lt (y tt)) h)
 
-exact-pos : (f : Format) (s : Bool) (m : ℕ) (e : ℤ) → m < 2 ^ prec f → down e ≤ 2 ^ low f → m * up e < 2 ^ suc (emax f) * down e → HasValue (round f s (m * up e) (down e)) s (m * up e) (down e)
+exact-pos : (f : Format) (s : Bool) (m : ℕ) (e : ℤ) → m < 2 ^ prec f → down e ≤ 2 ^ low f → m * up e < 2 ^ suc (emax f) * down e
+    → HasValue (round f s (m * up e) (down e)) s (m * up e) (down e)
 exact-pos f s m (pos k) a b c =
     let l = low f in
-    let E : m * 2 ^ k * 2 ^ l ≡ m * 2 ^ (k + l) * 1 = mul-assoc m (2 ^ k) (2 ^ l) ∙ ap (λ (x : ℕ). m * x) (sym (pow-add 2 k l)) ∙ sym (mul-one (m * 2 ^ (k + l))) in
+    let E : m * 2 ^ k * 2 ^ l ≡ m * 2 ^ (k + l) * 1 = mul-assoc m (2 ^ k) (2 ^ l) ∙ ap (λ (x : ℕ). m * x) (sym (pow-add 2 k l))
+    ∙ sym (mul-one (m * 2 ^ (k + l))) in
     let F : m * 2 ^ (k + l) < 2 ^ (l + suc (emax f)) =
     subst (λ (x : ℕ). m * 2 ^ (k + l) < x) (mul-comm (2 ^ suc (emax f)) (2 ^ l) ∙ sym (pow-add 2 l (suc (emax f))))
     (subst (λ (x : ℕ). x < 2 ^ suc (emax f) * 2 ^ l) (E ∙ mul-one (m * 2 ^ (k + l)))
@@ -122,9 +132,11 @@ exact-pos f s m (negsuc k) a b c =
     let j = l - suc k in
     let J : j + suc k ≡ l = back l (suc k) (pow-le-inv (suc k) l b) in
     let P : 2 ^ j * 2 ^ suc k ≡ 2 ^ l = sym (pow-add 2 j (suc k)) ∙ ap (λ (x : ℕ). 2 ^ x) J in
-    let E : m * 1 * 2 ^ l ≡ m * 2 ^ j * 2 ^ suc k = ap (λ (x : ℕ). x * 2 ^ l) (mul-one m) ∙ ap (λ (x : ℕ). m * x) (sym P) ∙ sym (mul-assoc m (2 ^ j) (2 ^ suc k)) in
+    let E : m * 1 * 2 ^ l ≡ m * 2 ^ j * 2 ^ suc k = ap (λ (x : ℕ). x * 2 ^ l) (mul-one m) ∙ ap (λ (x : ℕ). m * x) (sym P)
+    ∙ sym (mul-assoc m (2 ^ j) (2 ^ suc k)) in
     let F : m * 2 ^ j < 2 ^ (l + suc (emax f)) =
-    subst (λ (x : ℕ). m * 2 ^ j < x) (mul-assoc (2 ^ suc (emax f)) (2 ^ suc k) (2 ^ j) ∙ ap (λ (x : ℕ). 2 ^ suc (emax f) * x) (mul-comm (2 ^ suc k) (2 ^ j) ∙ P) ∙ mul-comm (2 ^ suc (emax f)) (2 ^ l) ∙ sym (pow-add 2 l (suc (emax f))))
+    subst (λ (x : ℕ). m * 2 ^ j < x) (mul-assoc (2 ^ suc (emax f)) (2 ^ suc k) (2 ^ j)
+    ∙ ap (λ (x : ℕ). 2 ^ suc (emax f) * x) (mul-comm (2 ^ suc k) (2 ^ j) ∙ P) ∙ mul-comm (2 ^ suc (emax f)) (2 ^ l) ∙ sym (pow-add 2 l (suc (emax f))))
     (mul-lt-mul-of-pos-right (subst (λ (x : ℕ). x < 2 ^ suc (emax f) * 2 ^ suc k) (mul-one m) c) (pow-pos j)) in
     round-exact f s (m * 1) (2 ^ suc k) m j (pow-pos (suc k)) a F E
 
@@ -190,7 +202,8 @@ rnd-held f (fin s m e) t p =
     let r = round f s (m * up e) (down e) in
     let h = exact f s m e t in
     let v = val-sgn s m e in
-    same-trans x r (rnd f (val x)) (same-of x r (sgn s (m * up e) (down e) (down-pos e)) tt (has-value-finite r s (m * up e) (down e) h) v (has-value-eqv r s (m * up e) (down e) (down-pos e) h))
+    same-trans x r (rnd f (val x)) (same-of x r (sgn s (m * up e) (down e) (down-pos e)) tt (has-value-finite r s (m * up e) (down e) h) v
+    (has-value-eqv r s (m * up e) (down e) (down-pos e) h))
     (round-is-rnd f s (m * up e) (down e) (down-pos e) (val x) (v .1, v .0))
 
 -- A fraction that is at least a held value is rounded to a float that is at least that value.

@@ -36,7 +36,8 @@ pub skip-cycle : SkipCycle
 unfolding SkipCycle
 skip-cycle x t p h k s =
     let z = sub binary64 firstStamp x in
-    let w = sub-between binary64 (wholeQ true (2 ^ 16)) (wholeQ true (2 ^ 16 - 1)) firstStamp x (held-whole true (2 ^ 16) (lit< tt)) (held-whole true (2 ^ 16 - 1) (lit< tt)) tt p
+    let w = sub-between binary64 (wholeQ true (2 ^ 16)) (wholeQ true (2 ^ 16 - 1)) firstStamp x (held-whole true (2 ^ 16) (lit< tt))
+    (held-whole true (2 ^ 16 - 1) (lit< tt)) tt p
     (omega (arith, le-to-val x halfCycle p tt k)) (omega (arith, lt-to-val lastStamp x tt p h)) in
     mul-unit (wrap z) t (s .fits-t) (s .finite-t) (step-nonneg t s) (wrap-cycle z w)
 
@@ -75,38 +76,47 @@ above-last x t p h = go x t p (lt-to-val lastStamp x tt p h)
         omega (arith, up-one (suc m) (2 ^ j) (2 ^ suc k) P (pow-pos j) i)
 
 -- 32,767 - x is from -1 to -2 ^ -38, and wrapping leaves it there.
-past : (x : Float) → T (fits binary64 x) → T (finite x) → T (lt lastStamp x) → T (le x halfCycle) → Between (diffQ 0 (2 ^ 38) 38) (wrap (sub binary64 lastStamp x)) (diffQ 0 1 38)
+past : (x : Float) → T (fits binary64 x) → T (finite x) → T (lt lastStamp x) → T (le x halfCycle)
+    → Between (diffQ 0 (2 ^ 38) 38) (wrap (sub binary64 lastStamp x)) (diffQ 0 1 38)
 past x t p h k =
     let L = held-diff binary64 0 (2 ^ 38) 38 (lit≤ tt) (lit< tt) (lit< tt) in
     let H = held-diff binary64 0 1 38 (lit≤ tt) (lit< tt) (lit< tt) in
     wrap-near 0 (2 ^ 38) 0 1 (sub binary64 lastStamp x) L H
     (held-eqv binary64 (wholeQ false 32767) (diffQ (0 + 2 ^ 53) (2 ^ 38) 38) (held-whole false 32767 (lit< tt)) (lit≤ tt, lit≤ tt))
-    (held-eqv binary64 (diffQ (2 ^ 53 - 1) 0 38) (diffQ (0 + 2 ^ 53) 1 38) (held-diff binary64 (2 ^ 53 - 1) 0 38 (lit≤ tt) (lit< tt) (lit< tt)) (lit≤ tt, lit≤ tt))
+    (held-eqv binary64 (diffQ (2 ^ 53 - 1) 0 38) (diffQ (0 + 2 ^ 53) 1 38) (held-diff binary64 (2 ^ 53 - 1) 0 38 (lit≤ tt) (lit< tt) (lit< tt))
+    (lit≤ tt, lit≤ tt))
     (lit≤ tt) (lit< tt)
-    (sub-between binary64 (diffQ 0 (2 ^ 38) 38) (diffQ 0 1 38) lastStamp x L H tt p (omega (arith, le-to-val x halfCycle p tt k)) (omega (arith, above-last x t p h)))
+    (sub-between binary64 (diffQ 0 (2 ^ 38) 38) (diffQ 0 1 38) lastStamp x L H tt p (omega (arith, le-to-val x halfCycle p tt k))
+    (omega (arith, above-last x t p h)))
 
 -- In seconds: at most -u / 2 ^ 55, where u is the units of t.
 past-seconds : (y t : Float) → Step t → Between (diffQ 0 (2 ^ 38) 38) y (diffQ 0 1 38) → Between (wholeQ true 1) (mul binary64 y t) (diffQ 0 (unitsOf t) 55)
 past-seconds y t s b =
     let z = least-unsigned t (s .finite-t) (s .least) in
-    mul-between binary64 (wholeQ true 1) (diffQ 0 (unitsOf t) 55) y t (held-whole true 1 (lit< tt)) (held-diff binary64 0 (unitsOf t) 55 (lit≤ tt) (lit< tt) (lt-of-le-of-lt (units-most t s) (lit< tt))) (b .0) (s .finite-t)
+    mul-between binary64 (wholeQ true 1) (diffQ 0 (unitsOf t) 55) y t (held-whole true 1 (lit< tt))
+    (held-diff binary64 0 (unitsOf t) 55 (lit≤ tt) (lit< tt) (lt-of-le-of-lt (units-most t s) (lit< tt))) (b .0) (s .finite-t)
     (mul-step-low y t 1 s (omega (arith, b .1)))
     (high-side (pnum y) (nnum y) (den y) (pnum t) (nnum t) (den t) (unitsOf t) z (units-under t) (b .2))
   where
-    high-at : (p n d q e w : ℕ) → w * e ≤ q * 2 ^ 17 → p * 2 ^ 38 + 1 * d ≤ 0 * d + n * 2 ^ 38 → (p * q + n * 0) * 2 ^ 55 + w * (d * e) ≤ 0 * (d * e) + (p * 0 + n * q) * 2 ^ 55
+    high-at : (p n d q e w : ℕ) → w * e ≤ q * 2 ^ 17 → p * 2 ^ 38 + 1 * d ≤ 0 * d + n * 2 ^ 38
+        → (p * q + n * 0) * 2 ^ 55 + w * (d * e) ≤ 0 * (d * e) + (p * 0 + n * q) * 2 ^ 55
     high-at p n d q e w h k = let u = mul-le-mul-right d h in let v = mul-le-mul-right q k in omega arith
 
-    high-side : (p n d q m e w : ℕ) → m ≡ 0 → w * e ≤ q * 2 ^ 17 → p * 2 ^ 38 + 1 * d ≤ 0 * d + n * 2 ^ 38 → (p * q + n * m) * 2 ^ 55 + w * (d * e) ≤ 0 * (d * e) + (p * m + n * q) * 2 ^ 55
-    high-side p n d q m e w z h k = subst (λ (y : ℕ). (p * q + n * y) * 2 ^ 55 + w * (d * e) ≤ 0 * (d * e) + (p * y + n * q) * 2 ^ 55) (sym z) (high-at p n d q e w h k)
+    high-side : (p n d q m e w : ℕ) → m ≡ 0 → w * e ≤ q * 2 ^ 17 → p * 2 ^ 38 + 1 * d ≤ 0 * d + n * 2 ^ 38
+        → (p * q + n * m) * 2 ^ 55 + w * (d * e) ≤ 0 * (d * e) + (p * m + n * q) * 2 ^ 55
+    high-side p n d q m e w z h k = subst (λ (y : ℕ). (p * q + n * y) * 2 ^ 55 + w * (d * e) ≤ 0 * (d * e) + (p * y + n * q) * 2 ^ 55) (sym z)
+        (high-at p n d q e w h k)
 
 -- As a share of t: at most -2 ^ -39.
 past-share : (o t : Float) → Step t → Between (wholeQ true 1) o (diffQ 0 (unitsOf t) 55) → Between (wholeQ true 1024) (div binary64 o t) (diffQ 0 1 39)
 past-share o t s b =
-    div-between binary64 (wholeQ true 1024) (diffQ 0 1 39) o t (held-whole true 1024 (lit< tt)) (held-diff binary64 0 1 39 (lit≤ tt) (lit< tt) (lit< tt)) (b .0) (step-positive t s)
+    div-between binary64 (wholeQ true 1024) (diffQ 0 1 39) o t (held-whole true 1024 (lit< tt))
+    (held-diff binary64 0 1 39 (lit≤ tt) (lit< tt) (lit< tt)) (b .0) (step-positive t s)
     (div-least-low o t 1 (s .finite-t) (s .least) (step-positive t s) (omega (arith, b .1)))
     (high-side (pnum o) (nnum o) (den o) (pnum t) (den t) (unitsOf t) (units-least t s) (units-over t) (b .2))
   where
-    high-side : (p n d q e w : ℕ) → 2 ^ 7 ≤ w → q * 2 ^ 17 < suc w * e → p * 2 ^ 55 + w * d ≤ 0 * d + n * 2 ^ 55 → p * e * 2 ^ 39 + 1 * (q * d) ≤ 0 * (q * d) + n * e * 2 ^ 39
+    high-side : (p n d q e w : ℕ) → 2 ^ 7 ≤ w → q * 2 ^ 17 < suc w * e → p * 2 ^ 55 + w * d ≤ 0 * d + n * 2 ^ 55
+        → p * e * 2 ^ 39 + 1 * (q * d) ≤ 0 * (q * d) + n * e * 2 ^ 39
     high-side p n d q e w a h k =
         let u = mul-le-mul-right e k in
         let c = mul-le-mul-right e a in
@@ -115,13 +125,15 @@ past-share o t s b =
         omega arith
 
 -- Where x is above 32,767 and c is 32,767, the tween weight of the overshoot is above 1.
-pub skip-out : (x t : Float) → T (fits binary64 x) → T (finite x) → T (lt lastStamp x) → T (le x halfCycle) → Step t → T (lt one64 (tweenOf (mul binary64 (wrap (sub binary64 lastStamp x)) t) t))
+pub skip-out : (x t : Float) → T (fits binary64 x) → T (finite x) → T (lt lastStamp x) → T (le x halfCycle) → Step t
+    → T (lt one64 (tweenOf (mul binary64 (wrap (sub binary64 lastStamp x)) t) t))
 skip-out x t f p h k s =
     let y = wrap (sub binary64 lastStamp x) in
     let o = mul binary64 y t in
     let q = div binary64 o t in
     let b = past-share o t s (past-seconds y t s (past x f p h k)) in
-    let w = sub-between binary64 (diffQ (2 ^ 39 + 1) 0 39) (wholeQ false 1025) one64 q (held-diff binary64 (2 ^ 39 + 1) 0 39 (lit≤ tt) (lit< tt) (lit< tt)) (held-whole false 1025 (lit< tt)) tt (b .0)
+    let w = sub-between binary64 (diffQ (2 ^ 39 + 1) 0 39) (wholeQ false 1025) one64 q
+    (held-diff binary64 (2 ^ 39 + 1) 0 39 (lit≤ tt) (lit< tt) (lit< tt)) (held-whole false 1025 (lit< tt)) tt (b .0)
     (omega (arith, b .2)) (omega (arith, b .1)) in
     let r = sub binary64 one64 q in
     lt-of-val one64 r tt (w .0) (omega (arith, den-pos r, w .1))

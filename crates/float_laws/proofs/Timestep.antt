@@ -39,20 +39,24 @@ step-nonneg t s = float-le-trans zero64 leastStep t tt (s .least)
 
 -- The lower bound -n of x is one of the exact product.
 pub mul-step-low : (x t : Float) (n : ℕ) → Step t → nnum x ≤ pnum x + n * den x → Le (wholeQ true n) (mulQ (val x) (val t))
-mul-step-low x t n s h = low-side (pnum x) (nnum x) (den x) (pnum t) (nnum t) (den t) (least-unsigned t (s .finite-t) (s .least)) (le-to-val t one64 (s .finite-t) tt (s .most)) h
+mul-step-low x t n s h = low-side (pnum x) (nnum x) (den x) (pnum t) (nnum t) (den t) (least-unsigned t (s .finite-t) (s .least))
+    (le-to-val t one64 (s .finite-t) tt (s .most)) h
   where
     low-at : (p m d q e : ℕ) → q ≤ e → m ≤ p + n * d → 0 * (d * e) + (p * 0 + m * q) * 1 ≤ (p * q + m * 0) * 1 + n * (d * e)
     low-at p m d q e h k = let u = mul-le-mul-right q k in let v = mul-le-mul-right (n * d) h in omega arith
 
-    low-side : (p m d q r e : ℕ) → r ≡ 0 → q * 1 + 0 * e ≤ 1 * 1 * e + r * 1 → m ≤ p + n * d → 0 * (d * e) + (p * r + m * q) * 1 ≤ (p * q + m * r) * 1 + n * (d * e)
-    low-side p m d q r e z h k = subst (λ (y : ℕ). 0 * (d * e) + (p * y + m * q) * 1 ≤ (p * q + m * y) * 1 + n * (d * e)) (sym z) (low-at p m d q e (omega arith) k)
+    low-side : (p m d q r e : ℕ) → r ≡ 0 → q * 1 + 0 * e ≤ 1 * 1 * e + r * 1 → m ≤ p + n * d
+        → 0 * (d * e) + (p * r + m * q) * 1 ≤ (p * q + m * r) * 1 + n * (d * e)
+    low-side p m d q r e z h k = subst (λ (y : ℕ). 0 * (d * e) + (p * y + m * q) * 1 ≤ (p * q + m * y) * 1 + n * (d * e)) (sym z)
+        (low-at p m d q e (omega arith) k)
 
 -- 1/1024 ≤ t on numerators.
 least-reach : (t : Float) → T (finite t) → T (le leastStep t) → den t ≤ pnum t * 1024
 least-reach t p h = omega (arith, least-unsigned t p h, le-to-val leastStep t tt p h)
 
 -- The lower bound -n of x gives the lower bound -1024 n of the exact quotient.
-pub div-least-low : (x t : Float) (n : ℕ) (p : T (finite t)) → T (le leastStep t) → (q : T (positive t)) → nnum x ≤ pnum x + n * den x → Le (wholeQ true (n * 1024)) (divQ (val x) t q)
+pub div-least-low : (x t : Float) (n : ℕ) (p : T (finite t)) → T (le leastStep t) → (q : T (positive t)) → nnum x ≤ pnum x + n * den x
+    → Le (wholeQ true (n * 1024)) (divQ (val x) t q)
 div-least-low x t n p l q h = low-side (pnum x) (nnum x) (den x) (pnum t) (den t) (least-reach t p l) h
   where
     low-side : (p m d q e : ℕ) → e ≤ q * 1024 → m ≤ p + n * d → 0 * (q * d) + m * e * 1 ≤ p * e * 1 + n * 1024 * (q * d)

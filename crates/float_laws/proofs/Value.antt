@@ -18,7 +18,8 @@ pub q-le-refl : (a : Q) → Le a a
 q-le-refl a = le-refl (a .p * a .d + a .n * a .d)
 
 -- Transitivity on the numerators: both sides are brought to one denominator.
-through : (p n d p' n' d' p'' n'' d'' : ℕ) → 0 < d' → p * d' + n' * d ≤ p' * d + n * d' → p' * d'' + n'' * d' ≤ p'' * d' + n' * d'' → p * d'' + n'' * d ≤ p'' * d + n * d''
+through : (p n d p' n' d' p'' n'' d'' : ℕ) → 0 < d' → p * d' + n' * d ≤ p' * d + n * d' → p' * d'' + n'' * d' ≤ p'' * d' + n' * d''
+    → p * d'' + n'' * d ≤ p'' * d + n * d''
 through p n d p' n' d' p'' n'' d'' D h k =
     let x : (p * d' + n' * d) * d'' ≤ (p' * d + n * d') * d'' = mul-le-mul-right d'' h in
     let y : (p' * d'' + n'' * d') * d ≤ (p'' * d' + n' * d'') * d = mul-le-mul-right d k in
@@ -58,13 +59,21 @@ or-split false b t = inr t
 
 -- The form in which `le` compares two sizes of one sign.
 of-le : (a b : ℕ) (z : Bool) → a ≤ b → T (ltb a b || (eqb a b && (true || z)))
-of-le a b z h = elim (eq-or-lt-of-le h) [ inl p ↦ or-r (ltb a b) (eqb a b && true) (and-i (eqb a b) true (eq→eqb p) tt) | inr q ↦ or-l (ltb a b) (eqb a b && true) (lt→ltb a b q) ]
+of-le a b z h = elim (eq-or-lt-of-le h) [
+  | inl p ↦ or-r (ltb a b) (eqb a b && true) (and-i (eqb a b) true (eq→eqb p) tt)
+  | inr q ↦ or-l (ltb a b)
+      (eqb a b && true) (lt→ltb a b q)
+]
 
 to-le : (a b : ℕ) (z : Bool) → T (ltb a b || (eqb a b && (true || z))) → a ≤ b
 to-le a b z t = elim (or-split (ltb a b) (eqb a b && true) t) [ inl u ↦ le-of-lt (ltb→lt a b u) | inr u ↦ le-of-eq (eqb→eq a b (and-l (eqb a b) true u)) ]
 
 of-ge : (a b : ℕ) (z : Bool) → b ≤ a → T (ltb b a || (eqb a b && (true || z)))
-of-ge a b z h = elim (eq-or-lt-of-le h) [ inl p ↦ or-r (ltb b a) (eqb a b && true) (and-i (eqb a b) true (eq→eqb (sym p)) tt) | inr q ↦ or-l (ltb b a) (eqb a b && true) (lt→ltb b a q) ]
+of-ge a b z h = elim (eq-or-lt-of-le h) [
+  | inl p ↦ or-r (ltb b a) (eqb a b && true) (and-i (eqb a b) true (eq→eqb (sym p)) tt)
+  | inr q ↦ or-l (ltb b a)
+      (eqb a b && true) (lt→ltb b a q)
+]
 
 to-ge : (a b : ℕ) (z : Bool) → T (ltb b a || (eqb a b && (true || z))) → b ≤ a
 to-ge a b z t = elim (or-split (ltb b a) (eqb a b && true) t) [ inl u ↦ le-of-lt (ltb→lt b a u) | inr u ↦ le-of-eq (sym (eqb→eq a b (and-l (eqb a b) true u))) ]

@@ -43,15 +43,23 @@ zero-within n = (tt, omega arith, omega arith)
 pub within-of-tests : (z lo hi : Float) (n : ℕ) → T (finite z) → HasValue lo true n 1 → HasValue hi false n 1 → T (le lo z) → T (le z hi) → Within z n
 within-of-tests z lo hi n p v w h k =
     let a = has-value-eqv lo true n 1 (pow-pos 0) v in
-    let b = has-value-eqv hi false n 1 (pow-pos 0) w in
-    (p, q-le-trans (wholeQ true n) (val lo) (val z) (a .1) (le-to-val lo z (has-value-finite lo true n 1 v) p h), q-le-trans (val z) (val hi) (wholeQ false n) (le-to-val z hi p (has-value-finite hi false n 1 w) k) (b .0))
+    let b = has-value-eqv hi false n 1 (pow-pos 0) w in (
+      p,
+      q-le-trans (wholeQ true n) (val lo) (val z) (a .1) (le-to-val lo z (has-value-finite lo true n 1 v) p h),
+      q-le-trans (val z) (val hi)
+          (wholeQ false n) (le-to-val z hi p (has-value-finite hi false n 1 w) k) (b .0),
+    )
 
 -- What is within n is finite and passes lo ≤ z and z ≤ hi.
 pub tests-of-within : (z lo hi : Float) (n : ℕ) → HasValue lo true n 1 → HasValue hi false n 1 → Within z n → T (finite z) × T (le lo z) × T (le z hi)
 tests-of-within z lo hi n v w t =
     let a = has-value-eqv lo true n 1 (pow-pos 0) v in
-    let b = has-value-eqv hi false n 1 (pow-pos 0) w in
-    (t .0, le-of-val lo z (has-value-finite lo true n 1 v) (t .0) (q-le-trans (val lo) (wholeQ true n) (val z) (a .0) (t .1)), le-of-val z hi (t .0) (has-value-finite hi false n 1 w) (q-le-trans (val z) (wholeQ false n) (val hi) (t .2) (b .1)))
+    let b = has-value-eqv hi false n 1 (pow-pos 0) w in (
+      t .0,
+      le-of-val lo z (has-value-finite lo true n 1 v) (t .0) (q-le-trans (val lo) (wholeQ true n) (val z) (a .0) (t .1)),
+      le-of-val z hi (t .0)
+          (has-value-finite hi false n 1 w) (q-le-trans (val z) (wholeQ false n) (val hi) (t .2) (b .1)),
+    )
 
 -- ---- the operations
 

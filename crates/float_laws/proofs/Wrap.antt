@@ -25,9 +25,11 @@ fits-cycle = tt
 
 -- A remainder within a cycle is moved to 0 to a cycle.
 upward-in : (r : Float) → Within r (2 ^ 16) → Between (wholeQ false 0) (upward r) (wholeQ false (2 ^ 16))
-upward-in r w = go (lt r zero64) (λ (t : T (lt r zero64)). float-le-of-lt r zero64 (w .0) tt t) (λ (t : T (not (lt r zero64))). float-le-of-not-lt r zero64 (w .0) tt t)
+upward-in r w = go (lt r zero64) (λ (t : T (lt r zero64)). float-le-of-lt r zero64 (w .0) tt t)
+    (λ (t : T (not (lt r zero64))). float-le-of-not-lt r zero64 (w .0) tt t)
   where
-    go : (b : Bool) → (T b → T (le r zero64)) → (T (not b) → T (le zero64 r)) → Between (wholeQ false 0) (cond b (add binary64 r cycle) r) (wholeQ false (2 ^ 16))
+    go : (b : Bool) → (T b → T (le r zero64)) → (T (not b) → T (le zero64 r))
+        → Between (wholeQ false 0) (cond b (add binary64 r cycle) r) (wholeQ false (2 ^ 16))
     go true h k =
         add-between binary64 (wholeQ false 0) (wholeQ false (2 ^ 16)) r cycle (held-whole false 0 (lit< tt)) (held-whole false (2 ^ 16) (lit< tt)) (w .0) tt
         (omega (arith, w .1)) (omega (arith, le-to-val r zero64 (w .0) tt (h tt)))
@@ -56,7 +58,8 @@ upward-is r p h = go (lt r zero64) (λ (k : T (lt r zero64)). omega (arith, le-t
 
 -- What lies between two numbers nearer to 0 than half a cycle stays between them, where the format holds them and what lies half a cycle above them.
 -- The numbers are (pl - nl) / 2 ^ 38 and (ph - nh) / 2 ^ 38; half a cycle is 2 ^ 53 of these units.
-pub wrap-near : (pl nl ph nh : ℕ) (z : Float) → Held binary64 (diffQ pl nl 38) → Held binary64 (diffQ ph nh 38) → Held binary64 (diffQ (pl + 2 ^ 53) nl 38) → Held binary64 (diffQ (ph + 2 ^ 53) nh 38)
+pub wrap-near : (pl nl ph nh : ℕ) (z : Float) → Held binary64 (diffQ pl nl 38) → Held binary64 (diffQ ph nh 38)
+    → Held binary64 (diffQ (pl + 2 ^ 53) nl 38) → Held binary64 (diffQ (ph + 2 ^ 53) nh 38)
     → nl ≤ pl + 2 ^ 53 → ph < 2 ^ 53 + nh → Between (diffQ pl nl 38) z (diffQ ph nh 38) → Between (diffQ pl nl 38) (wrap z) (diffQ ph nh 38)
 wrap-near pl nl ph nh z L H L' H' a b w =
     let g = add binary64 z halfCycle in
@@ -65,7 +68,8 @@ wrap-near pl nl ph nh z L H L' H' a b w =
     let r = rem binary64 g cycle in
     let R = rem-keeps (diffQ (pl + 2 ^ 53) nl 38) (diffQ (ph + 2 ^ 53) nh 38) g cycle (add-fits binary64 z halfCycle) tt
     (g-above (pnum g) (nnum g) (den g) (den-pos g) (G .1)) (g-cycle (pnum g) (nnum g) (den g) (den-pos g) (G .2)) G in
-    subst (λ (y : Float). Between (diffQ pl nl 38) (sub binary64 y halfCycle) (diffQ ph nh 38)) (sym (upward-is r (R .0) (le-of-val zero64 r tt (R .0) (r-pos (pnum r) (nnum r) (den r) (R .1)))))
+    subst (λ (y : Float). Between (diffQ pl nl 38) (sub binary64 y halfCycle) (diffQ ph nh 38))
+    (sym (upward-is r (R .0) (le-of-val zero64 r tt (R .0) (r-pos (pnum r) (nnum r) (den r) (R .1)))))
     (sub-between binary64 (diffQ pl nl 38) (diffQ ph nh 38) r halfCycle L H (R .0) tt (omega (arith, R .1)) (omega (arith, R .2)))
   where
     r-pos : (p n d : ℕ) → (pl + 2 ^ 53) * d + n * 2 ^ 38 ≤ p * 2 ^ 38 + nl * d → 0 * 1 * d + n * 1 ≤ p * 1 + 0 * d
@@ -101,14 +105,17 @@ upward-neg r h = go (lt r zero64) h
 pub wrap-cycle : (z : Float) → Between (wholeQ true (2 ^ 16)) z (wholeQ true (2 ^ 16 - 1)) → InUnit (wrap z)
 wrap-cycle z w =
     let g = add binary64 z halfCycle in
-    let G = add-between binary64 (wholeQ true (2 ^ 15)) (wholeQ true (2 ^ 15 - 1)) z halfCycle (held-whole true (2 ^ 15) (lit< tt)) (held-whole true (2 ^ 15 - 1) (lit< tt)) (w .0) tt
+    let G = add-between binary64 (wholeQ true (2 ^ 15)) (wholeQ true (2 ^ 15 - 1)) z halfCycle (held-whole true (2 ^ 15) (lit< tt))
+    (held-whole true (2 ^ 15 - 1) (lit< tt)) (w .0) tt
     (omega (arith, w .1)) (omega (arith, w .2)) in
     let r = rem binary64 g cycle in
     let R = rem-keeps (wholeQ true (2 ^ 15)) (wholeQ true (2 ^ 15 - 1)) g cycle (add-fits binary64 z halfCycle) tt
     (omega (arith, den-pos g, G .1)) (omega (arith, den-pos g, G .2)) G in
     let r0 = lt-of-val r zero64 (R .0) tt (omega (arith, den-pos r, R .2)) in
     let u = add binary64 r cycle in
-    let U = add-between binary64 (wholeQ false (2 ^ 15)) (wholeQ false (2 ^ 15 + 1)) r cycle (held-whole false (2 ^ 15) (lit< tt)) (held-whole false (2 ^ 15 + 1) (lit< tt)) (R .0) tt
+    let U = add-between binary64 (wholeQ false (2 ^ 15)) (wholeQ false (2 ^ 15 + 1)) r cycle (held-whole false (2 ^ 15) (lit< tt))
+    (held-whole false (2 ^ 15 + 1) (lit< tt)) (R .0) tt
     (omega (arith, R .1)) (omega (arith, R .2)) in
     subst (λ (y : Float). Between (wholeQ false 0) (sub binary64 y halfCycle) (wholeQ false 1)) (sym (upward-neg r r0))
-    (sub-between binary64 (wholeQ false 0) (wholeQ false 1) u halfCycle (held-whole false 0 (lit< tt)) (held-whole false 1 (lit< tt)) (U .0) tt (omega (arith, U .1)) (omega (arith, U .2)))
+    (sub-between binary64 (wholeQ false 0) (wholeQ false 1) u halfCycle (held-whole false 0 (lit< tt)) (held-whole false 1 (lit< tt)) (U .0) tt
+    (omega (arith, U .1)) (omega (arith, U .2)))

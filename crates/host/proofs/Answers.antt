@@ -13,20 +13,16 @@ use Rattle.clocksync.specs.Mean.{meanOf}
 use Rattle.clocksync.specs.Clock.{samplesOk}
 use Rattle.host.specs.declared.MeanAnswer.{MeanAnswer}
 use Rattle.host.specs.declared.MeanAnswer.the-variants.{Mean, SettingsRefused, SamplesRefused}
-use Rattle.host.specs.Mean.{floatsOf, meanOfStored, meanAnswerOf, meanNumberOf, bufferOf, AnswersMean}
+use Rattle.host.specs.Mean.{floatsOf, judgedMean, meanOfStored, meanAnswerOf, meanNumberOf, bufferOf, AnswersMean}
 
 -- ---- the samples
 
--- the answer for the floats xs
-abbrev pub ofFloats : ℕ → List Float → MeanAnswer
-ofFloats discard xs = cond (samplesOk xs) (Mean (meanOf discard xs)) SamplesRefused
-
 -- one of the floats is not finite or beyond 2^33
-pub floats-refused : (discard : ℕ) {xs ys : List Float} → ys ≡ xs → samplesOk ys ≡ false → SamplesRefused ≡ ofFloats discard xs
+pub floats-refused : (discard : ℕ) {xs ys : List Float} → ys ≡ xs → samplesOk ys ≡ false → SamplesRefused ≡ judgedMean discard xs
 floats-refused discard {xs} e h = λ i. cond (sym (ap samplesOk (sym e) ∙ h) i) (Mean (meanOf discard xs)) SamplesRefused
 
 -- all are within
-pub floats-mean : (discard : ℕ) {xs ys : List Float} {x : Float} → ys ≡ xs → samplesOk ys ≡ true → x ≡ meanOf discard ys → Mean x ≡ ofFloats discard xs
+pub floats-mean : (discard : ℕ) {xs ys : List Float} {x : Float} → ys ≡ xs → samplesOk ys ≡ true → x ≡ meanOf discard ys → Mean x ≡ judgedMean discard xs
 floats-mean discard {xs} e h m = ap Mean (m ∙ ap (meanOf discard) e) ∙ (λ i. cond (sym (ap samplesOk (sym e) ∙ h) i) (Mean (meanOf discard xs)) SamplesRefused)
 
 -- ---- lengths
@@ -34,7 +30,7 @@ floats-mean discard {xs} e h m = ap Mean (m ∙ ap (meanOf discard) e) ∙ (λ i
 module _ (store discard : ℕ) (s : List ℕ) (room : ℕ) where
   -- the answer, by what the two tests of lengths say
   abbrev pub lengths : Bool → Bool → MeanAnswer
-  lengths a b = cond (a && b && samplesOk (floatsOf s store)) (Mean (meanOf discard (floatsOf s store))) SamplesRefused
+  lengths a b = cond (a && b) (judgedMean discard (floatsOf s store)) SamplesRefused
 
   -- (n and d: the code's counts of samples to store and to discard)
 
@@ -49,9 +45,11 @@ module _ (store discard : ℕ) (s : List ℕ) (room : ℕ) where
   room-refused e h k = λ i. lengths (sym (eq-eqb (length s) (8 * store) (h ∙ ap (λ (j : ℕ). 8 * j) e)) i) (sym (ne-eqb room 8 k) i)
 
   -- else the floats decide
-  pub lengths-pass : {n d : ℕ} {a : MeanAnswer} → n ≡ store → d ≡ discard → length s ≡ 8 * n → room ≡ 8 → a ≡ ofFloats d (floatsOf s n) → a ≡ meanOfStored store discard s room
+  pub lengths-pass : {n d : ℕ} {a : MeanAnswer} → n ≡ store → d ≡ discard → length s ≡ 8 * n → room ≡ 8 → a ≡ judgedMean d (floatsOf s n)
+      → a ≡ meanOfStored store discard s room
   unfolding meanOfStored
-  lengths-pass e f h k r = r ∙ (λ i. ofFloats (f i) (floatsOf s (e i))) ∙ (λ i. lengths (sym (eq-eqb (length s) (8 * store) (h ∙ ap (λ (j : ℕ). 8 * j) e)) i) (sym (eq-eqb room 8 k) i))
+  lengths-pass e f h k r = r ∙ (λ i. judgedMean (f i) (floatsOf s (e i)))
+      ∙ (λ i. lengths (sym (eq-eqb (length s) (8 * store) (h ∙ ap (λ (j : ℕ). 8 * j) e)) i) (sym (eq-eqb room 8 k) i))
 
   -- a mean of them is answered only where the answer has 8 bytes
   pub stored-room : (x : Float) → meanOfStored store discard s room ≡ Mean x → room ≡ 8
@@ -90,5 +88,6 @@ module _ (needed : ℕ) (rate : Float) (s : List ℕ) (room : ℕ) where
       go false e = let z : _≡_ {A = ℕ} 0 1 = cc in absurd (omega arith)
 
   -- the answer, its number and its buffer
-  pub answers : {a : MeanAnswer} {buffer : List ℕ} → a ≡ meanAnswerOf needed rate s room → buffer ≡ bufferOf room a → AnswersMean needed rate s room (meanNumberOf a) buffer
+  pub answers : {a : MeanAnswer} {buffer : List ℕ} → a ≡ meanAnswerOf needed rate s room → buffer ≡ bufferOf room a
+      → AnswersMean needed rate s room (meanNumberOf a) buffer
   answers e b = record { number = ap meanNumberOf e; bytes = b ∙ ap (bufferOf room) e }

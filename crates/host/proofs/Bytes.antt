@@ -12,7 +12,8 @@ use Rattle.host.specs.Mean.{wordAt, floatsOf}
 -- ---- eight bytes
 
 -- a list of eight elements, each written, is the eight that were written
-pub eight : (l : List ℕ) → length l ≡ 8 → (a b c d e f g h : ℕ) → set (set (set (set (set (set (set (set l 0 a) 1 b) 2 c) 3 d) 4 e) 5 f) 6 g) 7 h ≡ a ∷ b ∷ c ∷ d ∷ e ∷ f ∷ g ∷ h ∷ []
+pub eight : (l : List ℕ) → length l ≡ 8 → (a b c d e f g h : ℕ)
+    → set (set (set (set (set (set (set (set l 0 a) 1 b) 2 c) 3 d) 4 e) 5 f) 6 g) 7 h ≡ a ∷ b ∷ c ∷ d ∷ e ∷ f ∷ g ∷ h ∷ []
 eight [] p a b c d e f g h = absurd (omega arith)
 eight (x0 ∷ []) p a b c d e f g h = absurd (omega arith)
 eight (x0 ∷ x1 ∷ []) p a b c d e f g h = absurd (omega arith)

@@ -1,4 +1,5 @@
--- What the hosts' call for a mean answers: document 01, the last section, "Forms the Rust has and Rattle lacks", with refusals 1 and 8 of "Turned down by the input".
+-- What the hosts' call for a mean answers: document 01, the last section, "Forms the Rust has and Rattle lacks", with refusals 1 and 8 of "Turned down by the
+-- input".
 -- Definitions only. Assumes nothing.
 use Prim.Native.Nat.{ℕ, zero, suc, _+_, _*_, _/_, _%_, _^_}
 use mathlib.Core.Path.{_≡_}
@@ -23,7 +24,8 @@ littleOf a b c d e f g h = a + 256 * (b + 256 * (c + 256 * (d + 256 * (e + 256 *
 -- the number in the 8 bytes at a place
 abbrev pub wordAt : List ℕ → ℕ → ℕ
 wordAt s at =
-    littleOf (getD s at 0) (getD s (at + 1) 0) (getD s (at + 2) 0) (getD s (at + 3) 0) (getD s (at + 4) 0) (getD s (at + 5) 0) (getD s (at + 6) 0) (getD s (at + 7) 0)
+    littleOf (getD s at 0) (getD s (at + 1) 0) (getD s (at + 2) 0) (getD s (at + 3) 0) (getD s (at + 4) 0) (getD s (at + 5) 0) (getD s (at + 6) 0)
+    (getD s (at + 7) 0)
 
 -- the first n samples of bytes, in their order: each the binary64 of its bits, the one NaN where they are a NaN's
 unfoldable pub floatsOf : List ℕ → ℕ → List Float
@@ -45,11 +47,13 @@ bytesOf n =
 
 -- ---- the answer
 
--- refused for the samples: bytes that are not 8 times the samples to store, an answer buffer (of `room` bytes) that is not of 8, or a sample not finite or beyond 2 ^ 33; else their mean
+-- the mean of samples, d of them dropped at each extreme; refused where one is not finite or beyond 2 ^ 33
+abbrev pub judgedMean : ℕ → List Float → MeanAnswer
+judgedMean d xs = cond (samplesOk xs) (Mean (meanOf d xs)) SamplesRefused
+
+-- refused for the samples: bytes that are not 8 times the samples to store, an answer buffer (of `room` bytes) that is not of 8, or a sample; else their mean
 unfoldable pub meanOfStored : ℕ → ℕ → List ℕ → ℕ → MeanAnswer
-meanOfStored store discard s room =
-    let xs = floatsOf s store in
-    cond (eqb (length s) (8 * store) && eqb room 8 && samplesOk xs) (Mean (meanOf discard xs)) SamplesRefused
+meanOfStored store discard s room = cond (eqb (length s) (8 * store) && eqb room 8) (judgedMean discard (floatsOf s store)) SamplesRefused
 
 -- refused for the settings where needed or rate is out of range; else what the samples give
 unfoldable pub meanAnswerOf : ℕ → Float → List ℕ → ℕ → MeanAnswer

@@ -9,7 +9,7 @@ ghost use Rattle.timestamp.specs.Timestamps.{bitsOf, orderOf, orderNumber};
 ghost use Rattle.clocksync.specs.Clock.{samplesOk};
 ghost use Rattle.clocksync.specs.Mean.{meanOf};
 ghost use Rattle.host.specs.Host.{frameStampOf};
-ghost use Rattle.host.specs.Mean.{littleOf, wordAt, floatsOf, bytesOf, meanAnswerOf, AnswersMean};
+ghost use Rattle.host.specs.Mean.{littleOf, wordAt, floatsOf, bytesOf, judgedMean, meanAnswerOf, AnswersMean};
 use timestamp::Ordering;
 use timestamp::Timestamp;
 
@@ -96,7 +96,7 @@ fn mean_of_bytes(needed: u32, rate: f64, samples: &[u8], room: usize) -> MeanAns
 // The mean of the first n samples of bytes, where each is finite and within 2^33.
 fn mean_of_first(samples: &[u8], n: usize, discard: usize) -> MeanAnswer
     requires { ⌜ (n ≤ 64) × (8 * n ≤ length (now samples)) ⌝ }
-    ensures { λ r. ⌜ r ≡ cond (samplesOk (floatsOf (now (samples .entry)) n)) (MeanAnswer.Mean (meanOf discard (floatsOf (now (samples .entry)) n))) MeanAnswer.SamplesRefused ⌝ }
+    ensures { λ r. ⌜ r ≡ judgedMean discard (floatsOf (now (samples .entry)) n) ⌝ }
 {
     let floats = floats_of(samples, n);
     if !clocksync::samples_sound(floats, n) {

@@ -18,7 +18,8 @@ use Rattle.inbox.specs.declared.Time.{Time}
 use Rattle.inbox.specs.declared.Time.the-variants.{At, OutOfRange}
 use Rattle.inbox.specs.declared.Message.{Message}
 use Rattle.inbox.specs.declared.Message.the-variants.{Command, Snapshot, Clock, BadTime, WrongWord, CutShort}
-use Rattle.inbox.specs.Inbox.{lowBitsOf, isWord, stampFrom, dueWordOf, headOf, floatBitsOf, timeOk, pickTime, inboxTimeOf, pickClock, clockOf, Front, frontWith}
+use Rattle.inbox.specs.Inbox.{lowBitsOf, isWord, stampFrom, dueWordOf, headOf, floatBitsOf, timeOk, pickTime, inboxTimeOf, pickClock, clockOf, Front}
+use Rattle.inbox.specs.Inbox.{frontWith}
 use Rattle.inbox.specs.Inbox.{thenHandle, thenTime, byHead, frontOf, messagesAfter, messagesOf}
 use Rattle.inbox.proofs.Words.{word-room}
 use Rattle.inbox.proofs.Passes.{Each}
@@ -86,8 +87,10 @@ clock-bounded id s t h = go (inboxTimeOf s) (inboxTimeOf t) (time-ok s) (time-ok
     go OutOfRange y f g = tt
 
 by-head : (d : Head) (ws : List ℕ) → BoundedHead d → Bounded (byHead d ws .message)
-by-head (ForCommand s) ws h = handle-bounded (dueWordOf 4 (2 ^ 24) (drop 1 ws)) (length ws) (λ (n : ℕ). Command s n) (λ v e. (h, word-room 4 (2 ^ 24) (drop 1 ws) v (sym e)))
-by-head (ForSnapshot s) ws h = handle-bounded (dueWordOf 4 (2 ^ 24) (drop 1 ws)) (length ws) (λ (n : ℕ). Snapshot s n) (λ v e. (h, word-room 4 (2 ^ 24) (drop 1 ws) v (sym e)))
+by-head (ForCommand s) ws h = handle-bounded (dueWordOf 4 (2 ^ 24) (drop 1 ws)) (length ws) (λ (n : ℕ). Command s n)
+    (λ v e. (h, word-room 4 (2 ^ 24) (drop 1 ws) v (sym e)))
+by-head (ForSnapshot s) ws h = handle-bounded (dueWordOf 4 (2 ^ 24) (drop 1 ws)) (length ws) (λ (n : ℕ). Snapshot s n)
+    (λ v e. (h, word-room 4 (2 ^ 24) (drop 1 ws) v (sym e)))
 by-head (ForClock id) ws h =
     time-bounded (floatBitsOf (drop 1 ws)) (length ws) (λ (s : ℕ). thenTime (floatBitsOf (drop 4 ws)) (length ws) (λ (t : ℕ). frontWith (clockOf id s t) 7))
     (λ s. time-bounded (floatBitsOf (drop 4 ws)) (length ws) (λ (t : ℕ). frontWith (clockOf id s t) 7) (λ t. clock-bounded id s t h))

@@ -14,7 +14,8 @@ use Rattle.inbox.specs.declared.Bits.the-variants.{Are, BitsWrong, BitsC
 use Rattle.inbox.specs.declared.Message.{Message}
 use Rattle.inbox.specs.declared.Message.the-variants.{Command, Snapshot}
 use Rattle.inbox.specs.declared.Step.{Step}
-use Rattle.inbox.specs.Inbox.{dueWordOf, headOf, floatBitsOf, clockOf, Front, frontWith, thenHandle, thenTime, byHead, frontOf, messagesAfter, messagesOf, stepBy}
+use Rattle.inbox.specs.Inbox.{dueWordOf, headOf, floatBitsOf, clockOf, Front, frontWith, thenHandle, thenTime, byHead, frontOf, messagesAfter, messagesOf}
+use Rattle.inbox.specs.Inbox.{stepBy}
 use Rattle.inbox.specs.Inbox.{stepIn, readAt}
 
 -- ---- a message takes a word or more
@@ -34,7 +35,8 @@ head-size (ForCommand s) w ws = handle-size (dueWordOf 4 (2 ^ 24) ws) (length (w
 head-size (ForSnapshot s) w ws = handle-size (dueWordOf 4 (2 ^ 24) ws) (length (w ∷ ws)) (λ (h : ℕ). Snapshot s h) (omega arith)
 head-size (ForClock id) w ws =
     let all = length (w ∷ ws) in
-    time-size (floatBitsOf (drop 1 (w ∷ ws))) all (λ (s : ℕ). thenTime (floatBitsOf (drop 4 (w ∷ ws))) all (λ (t : ℕ). frontWith (clockOf id s t) 7)) (omega arith)
+    time-size (floatBitsOf (drop 1 (w ∷ ws))) all (λ (s : ℕ). thenTime (floatBitsOf (drop 4 (w ∷ ws))) all (λ (t : ℕ). frontWith (clockOf id s t) 7))
+    (omega arith)
     (λ s. time-size (floatBitsOf (drop 4 (w ∷ ws))) all (λ (t : ℕ). frontWith (clockOf id s t) 7) (omega arith) (λ t. omega arith))
 head-size NoHead w ws = omega arith
 

@@ -41,6 +41,7 @@ Each P [] = Unit {0}
 Each P (m ∷ ms) = P m × Each P ms
 
 -- what each message keeps a pass keeps
-pub over-keeps : {A : Type 0} {P : Message → Type 0} (K : A → Type 0) (g : A → Message → A) → ((a : A) (m : Message) → P m → K a → K (g a m)) → (a : A) (ms : List Message) → Each P ms → K a → K (over g a ms)
+pub over-keeps : {A : Type 0} {P : Message → Type 0} (K : A → Type 0) (g : A → Message → A) → ((a : A) (m : Message) → P m → K a → K (g a m))
+    → (a : A) (ms : List Message) → Each P ms → K a → K (over g a ms)
 over-keeps K g h a [] ps k = k
 over-keeps K g h a (m ∷ ms) ps k = over-keeps K g h (g a m) ms (ps .1) (h a m (ps .0) k)

@@ -94,7 +94,8 @@ lowest-with found m e f = f ∙ ap (lowestOf found) e
 lowest-over : (found : ℕ) (ms : List Message) → over lowestWith found ms ≡ lowestOf found (refusalIn ms)
 unfolding refusalIn
 lowest-over found [] = sym (lowest-none found)
-lowest-over found (m ∷ ms) = lowest-over (lowestWith found m) ms ∙ lowest-three found (messageNumberOf m) (refusalIn ms) ∙ ap (lowestOf found) (sym (refusal-next m ms))
+lowest-over found (m ∷ ms) = lowest-over (lowestWith found m) ms ∙ lowest-three found (messageNumberOf m) (refusalIn ms)
+    ∙ ap (lowestOf found) (sym (refusal-next m ms))
 
 pub lowest-folds : (words : List ℕ) (found : ℕ) → over lowestWith found (messagesOf words) ≡ lowestIn words found
 unfolding lowestIn

@@ -19,7 +19,8 @@ use Rattle.inbox.specs.declared.Time.{Time}
 use Rattle.inbox.specs.declared.Message.{Message}
 use Rattle.inbox.specs.declared.Message.the-variants.{Command, Snapshot, WrongWord, CutShort}
 use Rattle.inbox.specs.declared.Step.{Step}
-use Rattle.inbox.specs.Inbox.{lowBitsOf, isWord, stampFrom, dueWordOf, headOf, joinedOf, thenBits, floatBitsOf, inboxTimeOf, pickClock, clockOf, Front, frontWith, thenHandle, thenTime, byHead, frontOf, stepBy, stepIn, readAt}
+use Rattle.inbox.specs.Inbox.{lowBitsOf, isWord, stampFrom, dueWordOf, headOf, joinedOf, thenBits, floatBitsOf, inboxTimeOf, pickClock, clockOf, Front}
+use Rattle.inbox.specs.Inbox.{frontWith, thenHandle, thenTime, byHead, frontOf, stepBy, stepIn, readAt}
 
 -- ---- one word
 
@@ -75,7 +76,8 @@ word-room k room (w ∷ l) v e = go (eqb (w / 268435456) k) (ltb (w % 268435456)
 module _ (w : ℕ) where
   heads : (a b c : Bool) → isWord 1 (2 ^ 16) w ≡ a → isWord 2 (2 ^ 16) w ≡ b → isWord 3 (2 ^ 28) w ≡ c
       → cond a (ForCommand (stampFrom (lowBitsOf w))) (cond b (ForSnapshot (stampFrom (lowBitsOf w))) (cond c (ForClock (lowBitsOf w)) NoHead)) ≡ headOf w
-  heads a b c p q r = sym (λ i. cond (p i) (ForCommand (stampFrom (lowBitsOf w))) (cond (q i) (ForSnapshot (stampFrom (lowBitsOf w))) (cond (r i) (ForClock (lowBitsOf w)) NoHead)))
+  heads a b c p q r = sym (λ i. cond (p i) (ForCommand (stampFrom (lowBitsOf w)))
+      (cond (q i) (ForSnapshot (stampFrom (lowBitsOf w))) (cond (r i) (ForClock (lowBitsOf w)) NoHead)))
 
   -- kind 1, and a rest of 16 bits
   pub head-command : w / 268435456 ≡ 1 → w % 268435456 < 65536 → ForCommand (stampFrom (w % 268435456)) ≡ headOf w
@@ -83,11 +85,13 @@ module _ (w : ℕ) where
 
   -- kind 2, and a rest of 16 bits
   pub head-snapshot : w / 268435456 ≡ 2 → w % 268435456 < 65536 → ForSnapshot (stampFrom (w % 268435456)) ≡ headOf w
-  head-snapshot h g = heads false true false (other-kind 1 (2 ^ 16) w (λ e. omega arith)) (is-word 2 (2 ^ 16) w h g) (other-kind 3 (2 ^ 28) w (λ e. omega arith))
+  head-snapshot h g = heads false true false (other-kind 1 (2 ^ 16) w (λ e. omega arith)) (is-word 2 (2 ^ 16) w h g)
+      (other-kind 3 (2 ^ 28) w (λ e. omega arith))
 
   -- kind 3
   pub head-clock : w / 268435456 ≡ 3 → ForClock (w % 268435456) ≡ headOf w
-  head-clock h = heads false false true (other-kind 1 (2 ^ 16) w (λ e. omega arith)) (other-kind 2 (2 ^ 16) w (λ e. omega arith)) (is-word 3 (2 ^ 28) w h (omega arith))
+  head-clock h = heads false false true (other-kind 1 (2 ^ 16) w (λ e. omega arith)) (other-kind 2 (2 ^ 16) w (λ e. omega arith))
+      (is-word 3 (2 ^ 28) w h (omega arith))
 
   -- a rest of more than 16 bits, and not kind 3
   pub head-spare : (w / 268435456 ≡ 3 → ⊥) → 65536 ≤ w % 268435456 → NoHead ≡ headOf w
@@ -112,7 +116,8 @@ module _ (l : List ℕ) (at : ℕ) where
   third = dueWordOf 5 (2 ^ 28) (drop (at + 2) l)
 
   -- the three words that were read say the bits
-  pub three : (x y z : Word) → x ≡ first → y ≡ second → z ≡ third → thenBits x (λ a. thenBits y (λ b. thenBits z (λ c. Are (joinedOf a b c)))) ≡ floatBitsOf (drop at l)
+  pub three : (x y z : Word) → x ≡ first → y ≡ second → z ≡ third
+      → thenBits x (λ a. thenBits y (λ b. thenBits z (λ c. Are (joinedOf a b c)))) ≡ floatBitsOf (drop at l)
   unfolding floatBitsOf
   three x y z p q r =
       let q′ : y ≡ dueWordOf 5 (2 ^ 28) (drop 1 (drop at l)) = q ∙ ap (dueWordOf 5 (2 ^ 28)) (sym (drop-drop 1 at l)) in
@@ -162,12 +167,14 @@ module _ (l : List ℕ) (at : ℕ) where
   -- a command, or what is wrong with its handle
   pub step-command : at < length l → (s : Timestamp) (x : Word) → ForCommand s ≡ headOf w → x ≡ handle → handled x (λ (n : ℕ). Command s n) ≡ readAt l at
   step-command h s x e p =
-      handled-is h x (λ (n : ℕ). Command s n) ∙ ap (λ (y : Word). stepBy at (thenHandle y (length (drop at l)) (λ (n : ℕ). Command s n))) (p ∙ handle-is) ∙ ap (λ (d : Head). stepBy at (byHead d (drop at l))) e ∙ step-at h
+      handled-is h x (λ (n : ℕ). Command s n) ∙ ap (λ (y : Word). stepBy at (thenHandle y (length (drop at l)) (λ (n : ℕ). Command s n)))
+      (p ∙ handle-is) ∙ ap (λ (d : Head). stepBy at (byHead d (drop at l))) e ∙ step-at h
 
   -- a snapshot, or what is wrong with its handle
   pub step-snapshot : at < length l → (s : Timestamp) (x : Word) → ForSnapshot s ≡ headOf w → x ≡ handle → handled x (λ (n : ℕ). Snapshot s n) ≡ readAt l at
   step-snapshot h s x e p =
-      handled-is h x (λ (n : ℕ). Snapshot s n) ∙ ap (λ (y : Word). stepBy at (thenHandle y (length (drop at l)) (λ (n : ℕ). Snapshot s n))) (p ∙ handle-is) ∙ ap (λ (d : Head). stepBy at (byHead d (drop at l))) e ∙ step-at h
+      handled-is h x (λ (n : ℕ). Snapshot s n) ∙ ap (λ (y : Word). stepBy at (thenHandle y (length (drop at l)) (λ (n : ℕ). Snapshot s n)))
+      (p ∙ handle-is) ∙ ap (λ (d : Head). stepBy at (byHead d (drop at l))) e ∙ step-at h
 
   -- no message begins with the word
   pub step-wrong : at < length l → NoHead ≡ headOf w → ended WrongWord (length l) ≡ readAt l at
@@ -192,7 +199,8 @@ module _ (l : List ℕ) (at : ℕ) where
   timed-is h id BitsCut y = sym (ap (ended CutShort) (whole h))
 
   -- a clock message, or what is wrong with its words
-  pub step-clock : at < length l → (id : ℕ) (x y : Bits) → ForClock id ≡ headOf w → x ≡ floatBitsOf (drop (at + 1) l) → y ≡ floatBitsOf (drop (at + 4) l) → timed id x y ≡ readAt l at
+  pub step-clock : at < length l → (id : ℕ) (x y : Bits) → ForClock id ≡ headOf w → x ≡ floatBitsOf (drop (at + 1) l)
+      → y ≡ floatBitsOf (drop (at + 4) l) → timed id x y ≡ readAt l at
   step-clock h id x y e p q =
       let p′ : x ≡ floatBitsOf (drop 1 (drop at l)) = p ∙ ap floatBitsOf (sym (drop-drop 1 at l)) in
       let q′ : y ≡ floatBitsOf (drop 4 (drop at l)) = q ∙ ap floatBitsOf (sym (drop-drop 4 at l)) in

@@ -1,4 +1,5 @@
--- The words of an inbox as document 01 has them under "Inbox and tape", with refusals 3 to 6 of "Turned down by the input". A word is a natural number below 2 ^ 32.
+-- The words of an inbox as document 01 has them under "Inbox and tape", with refusals 3 to 6 of "Turned down by the input". A word is a natural number below 2
+-- ^ 32.
 -- Definitions only. Assumes nothing.
 use Prim.Native.Nat.{ℕ, zero, suc, _+_, _-_, _*_, _/_, _%_, _^_}
 use mathlib.Core.Bool.{Bool, true, false, cond, _&&_, _||_}
@@ -67,7 +68,8 @@ thenBits Missing k = BitsCut
 -- the float that a list of words starts with, by its bits: three words of kind 5
 unfoldable pub floatBitsOf : List ℕ → Bits
 floatBitsOf ws =
-    thenBits (dueWordOf 5 (2 ^ 8) ws) (λ high. thenBits (dueWordOf 5 (2 ^ 28) (drop 1 ws)) (λ middle. thenBits (dueWordOf 5 (2 ^ 28) (drop 2 ws)) (λ low. Are (joinedOf high middle low))))
+    thenBits (dueWordOf 5 (2 ^ 8) ws) (λ high. thenBits (dueWordOf 5 (2 ^ 28) (drop 1 ws))
+    (λ middle. thenBits (dueWordOf 5 (2 ^ 28) (drop 2 ws)) (λ low. Are (joinedOf high middle low))))
 
 -- a time is finite and within 2 ^ 32 on both sides of 0; a NaN is not, since it compares as false
 abbrev pub timeOk : Float → Bool
@@ -119,7 +121,8 @@ thenTime BitsCut all f = frontWith CutShort all
 abbrev pub byHead : Head → List ℕ → Front
 byHead (ForCommand s) ws = thenHandle (dueWordOf 4 handleRoom (drop 1 ws)) (length ws) (λ h. Command s h)
 byHead (ForSnapshot s) ws = thenHandle (dueWordOf 4 handleRoom (drop 1 ws)) (length ws) (λ h. Snapshot s h)
-byHead (ForClock id) ws = thenTime (floatBitsOf (drop 1 ws)) (length ws) (λ send. thenTime (floatBitsOf (drop 4 ws)) (length ws) (λ server. frontWith (clockOf id send server) 7))
+byHead (ForClock id) ws = thenTime (floatBitsOf (drop 1 ws)) (length ws)
+    (λ send. thenTime (floatBitsOf (drop 4 ws)) (length ws) (λ server. frontWith (clockOf id send server) 7))
 byHead NoHead ws = frontWith WrongWord (length ws)
 
 -- the first message of the words w ∷ ws
@@ -155,7 +158,8 @@ readAt ws at = stepIn at (drop at ws)
 
 -- ---- refusals
 
--- the number of 01 for each case: 4 a word of wrong kind, place or spare bits, 5 the inbox ends inside a message, 6 a clock time not finite or beyond 2 ^ 32, and 0 for a message
+-- the number of 01 for each case: 4 a word of wrong kind, place or spare bits, 5 the inbox ends inside a message, 6 a clock time not finite or beyond 2 ^ 32,
+-- and 0 for a message
 abbrev pub messageNumberOf : Message → ℕ
 messageNumberOf (Command s h) = accepted
 messageNumberOf (Snapshot s h) = accepted

@@ -36,7 +36,8 @@ pub hear-next-other : (a : Hearing) (m : Message) → isClock m ≡ false → a 
 hear-next-other a m e = λ i. record { heard = hear-other (a .seconds) (a .heard) m e i; seconds = a .seconds }
 
 -- a clock message is heard
-pub hear-next-clock : (a : Hearing) (m : Message) (i : ℕ) (s t : Float) {h : Heard} → m ≡ Clock i s t → h ≡ heardOf (a .seconds) (a .heard) i s t → _≡_ {A = Hearing} (record { heard = h; seconds = a .seconds }) (hearNext a m)
+pub hear-next-clock : (a : Hearing) (m : Message) (i : ℕ) (s t : Float) {h : Heard} → m ≡ Clock i s t → h ≡ heardOf (a .seconds) (a .heard) i s t
+    → _≡_ {A = Hearing} (record { heard = h; seconds = a .seconds }) (hearNext a m)
 hear-next-clock a m i s t em e = (λ j. record { heard = e j; seconds = a .seconds }) ∙ sym (ap (hearNext a) em)
 
 -- the client's time stays as it is
@@ -50,7 +51,8 @@ unfolding hearIn
 hear-folds words a = refl
 
 -- what it has heard at its end
-pub heard-end : (seconds : Float) (words : List ℕ) (start : Heard) {r : Hearing} → r ≡ hearIn words (record { heard = start; seconds = seconds }) → r .heard ≡ heardIn seconds words start
+pub heard-end : (seconds : Float) (words : List ℕ) (start : Heard) {r : Hearing} → r ≡ hearIn words (record { heard = start; seconds = seconds })
+    → r .heard ≡ heardIn seconds words start
 unfolding hearIn heardIn
 heard-end seconds words start e = ap (λ (x : Hearing). x .heard) (e ∙ hear-over (record { heard = start; seconds = seconds }) (messagesOf words))
 
@@ -96,7 +98,8 @@ pub note-next-other : (a : Noting) (m : Message) → isSnapshot m ≡ false → 
 note-next-other a m e = λ i. record { snapshots = snapshots-other (a .old) (a .snapshots) m e i; old = a .old }
 
 -- a snapshot is received
-pub note-next-snapshot : (a : Noting) (m : Message) (t : Timestamp) (h : ℕ) {s : Snapshots} → m ≡ Snapshot t h → s ≡ snapshotsOf (a .snapshots) (a .old) t h → _≡_ {A = Noting} (record { snapshots = s; old = a .old }) (noteNext a m)
+pub note-next-snapshot : (a : Noting) (m : Message) (t : Timestamp) (h : ℕ) {s : Snapshots} → m ≡ Snapshot t h
+    → s ≡ snapshotsOf (a .snapshots) (a .old) t h → _≡_ {A = Noting} (record { snapshots = s; old = a .old }) (noteNext a m)
 note-next-snapshot a m t h em e = (λ j. record { snapshots = e j; old = a .old }) ∙ sym (ap (noteNext a) em)
 
 -- a message that is no command is passed over
@@ -142,8 +145,10 @@ note-over w (WrongWord ∷ ms) = note-over w ms
 note-over w (CutShort ∷ ms) = note-over w ms
 
 -- the snapshots that the pass gives, put back: the third pass
-pub noted-end : (words : List ℕ) (w : ClientWorldSimulations) {old : Timestamp} {r : Noting} → old ≡ oldStampOf w → r ≡ noteIn words (record { snapshots = w .snapshots; old = old }) → withSnapshots w (r .snapshots) ≡ notedIn words w
+pub noted-end : (words : List ℕ) (w : ClientWorldSimulations) {old : Timestamp} {r : Noting} → old ≡ oldStampOf w
+    → r ≡ noteIn words (record { snapshots = w .snapshots; old = old }) → withSnapshots w (r .snapshots) ≡ notedIn words w
 unfolding noteIn notedIn
 noted-end words w eo e =
-    ap (λ (x : Noting). withSnapshots w (x .snapshots)) (e ∙ ap (λ (t : Timestamp). over noteNext (record { snapshots = w .snapshots; old = t }) (messagesOf words)) eo)
+    ap (λ (x : Noting). withSnapshots w (x .snapshots)) (e ∙ ap
+    (λ (t : Timestamp). over noteNext (record { snapshots = w .snapshots; old = t }) (messagesOf words)) eo)
     ∙ sym (note-over w (messagesOf words))

@@ -26,7 +26,8 @@ unfolding onceRefusalBy
 once-accepted false n s h = absurd (omega arith)
 once-accepted true n s h = go (eqb n 0) s (eqb-true n 0) (eqb-false n 0) h
   where
-    go : (b c : Bool) → (b ≡ true → n ≡ 0) → (b ≡ false → n ≡ 0 → ⊥) → cond b (cond c 0 unsoundRefusal) n ≡ 0 → (_≡_ {A = Bool} true true) × (n ≡ 0) × (c ≡ true)
+    go : (b c : Bool) → (b ≡ true → n ≡ 0) → (b ≡ false → n ≡ 0 → ⊥) → cond b (cond c 0 unsoundRefusal) n ≡ 0
+        → (_≡_ {A = Bool} true true) × (n ≡ 0) × (c ≡ true)
     go true true f g k = (refl, f refl, refl)
     go true false f g k = absurd (omega arith)
     go false c f g k = absurd (g refl k)

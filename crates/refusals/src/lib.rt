@@ -1,7 +1,8 @@
 // The numbers under which calls are turned down, the order in which each call is judged, and the limits that are whole numbers. A call hands
 // in what its tests found and gets the number that it answers, or 0. It answers to no file of crystalorb, which has no such numbers.
 ghost use mathlib.Core.Path.{_≡_};
-ghost use Rattle.refusals.specs.Refusals.{openRefusalBy, onceRefusalBy, syncingRefusalBy, arrivalRefusalBy, endRefusalBy, issueRefusalBy, reportRefusalBy};
+ghost use Rattle.refusals.specs.Refusals.{openRefusalBy, onceRefusalBy, syncingRefusalBy, arrivalRefusalBy, endRefusalBy, issueRefusalBy};
+ghost use Rattle.refusals.specs.Refusals.{reportRefusalBy};
 
 // Nothing refuses.
 pub const ACCEPTED: u32 = 0;

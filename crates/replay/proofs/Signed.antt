@@ -49,7 +49,8 @@ module _ (v : ℤ) (f : SFits w32 v) (t : leZ (pos 0) (toZ w32 (ofZ w32 v)) ≡ 
 
   pub high-cast : T (nonNeg (toZ w32 (ofZ w32 (negsuc 0 -ℤ toZ w32 (ofZ w32 v))))) × Fits w64 (natAbs (toZ w32 (ofZ w32 (negsuc 0 -ℤ toZ w32 (ofZ w32 v)))))
   unfolding High y
-  high-cast = subst (λ (z : ℤ). T (nonNeg z) × Fits w64 (natAbs z)) (sym back) (subst T (sym (high v f t .1)) tt, record { fits = omega (arith, high v f t .2) })
+  high-cast = subst (λ (z : ℤ). T (nonNeg z) × Fits w64 (natAbs z)) (sym back)
+      (subst T (sym (high v f t .1)) tt, record { fits = omega (arith, high v f t .2) })
 
   pub high-more : Fits w64 (natAbs (toZ w32 (ofZ w32 (negsuc 0 -ℤ toZ w32 (ofZ w32 v)))) + 1)
   unfolding High y

@@ -37,9 +37,11 @@ use Rattle.session_state.specs.Sound.{soundOf}
 use Rattle.inbox_passes.specs.Passes.{hasForWorlds, heardIn, receivedIn, notedIn}
 use Rattle.session_answers.specs.declared.UpdateAnswer.{UpdateAnswer}
 use Rattle.session_answers.specs.declared.ReportAnswer.{ReportAnswer}
-use Rattle.session_answers.specs.Answers.{Reply, Answer, unplayedOf, refusedWith, unlessRefused, syncedOf, sceneOf, closedOf, stageAfter, acceptedOf, Updates, unreported, reportedOf}
+use Rattle.session_answers.specs.Answers.{Reply, Answer, unplayedOf, refusedWith, unlessRefused, syncedOf, sceneOf, closedOf, stageAfter, acceptedOf, Updates}
+use Rattle.session_answers.specs.Answers.{unreported, reportedOf}
 use Rattle.session_answers.specs.Inner.{acceptedBy}
-use Rattle.session.specs.Calls.{timesOk, refusedAtOnce, heardOther, clockAfter, requestOf, clockMovedOf, clockUpdateOf, concludedOf, serverTimeBy, laggedOf, unreceived, sceneAfter, playedOf, worldsUpdateOf, updateBy, updateOf, reportRefusalOf, reportOf}
+use Rattle.session.specs.Calls.{timesOk, refusedAtOnce, heardOther, clockAfter, requestOf, clockMovedOf, clockUpdateOf, concludedOf, serverTimeBy}
+use Rattle.session.specs.Calls.{laggedOf, unreceived, sceneAfter, playedOf, worldsUpdateOf, updateBy, updateOf, reportRefusalOf, reportOf}
 use Rattle.session.specs.Inner.{endRefusalOf, concludedBy, unendedWith}
 
 -- ---- refused or not
@@ -49,17 +51,20 @@ updates-as : {x y : Reply} {r : UpdateAnswer} {last : List ℕ} → x ≡ y → 
 updates-as {x} {y} {r} {last} e h = subst (λ (z : Reply). Updates z r last) e h
 
 -- an update that is refused
-refused-is : (s : Session) (len : ℕ) (a : Answer) {m n : ℕ} {r : UpdateAnswer} {last : List ℕ} → m ≡ n → (m ≡ accepted → ⊥) → Updates (refusedWith m s len .reply) r last → Updates (unlessRefused n s len a .reply) r last
+refused-is : (s : Session) (len : ℕ) (a : Answer) {m n : ℕ} {r : UpdateAnswer} {last : List ℕ} → m ≡ n → (m ≡ accepted → ⊥)
+    → Updates (refusedWith m s len .reply) r last → Updates (unlessRefused n s len a .reply) r last
 refused-is s len a {m} {n} {r} {last} e k h =
     updates-as (λ i. cond (sym (ne-eqb n 0 (λ z. k (e ∙ z))) i) a (refusedWith (e i) s len) .reply) h
 
 -- one that is not
-accepted-by : (s : Session) (len : ℕ) (a : Answer) {m n : ℕ} {r : UpdateAnswer} {last : List ℕ} → m ≡ n → m ≡ accepted → Updates (a .reply) r last → Updates (unlessRefused n s len a .reply) r last
+accepted-by : (s : Session) (len : ℕ) (a : Answer) {m n : ℕ} {r : UpdateAnswer} {last : List ℕ} → m ≡ n → m ≡ accepted → Updates (a .reply) r last
+    → Updates (unlessRefused n s len a .reply) r last
 accepted-by s len a {m} {n} e k h = updates-as (λ i. cond (sym (eq-eqb n 0 (sym e ∙ k)) i) a (refusedWith n s len) .reply) h
 
 -- ---- refused at once
 
-pub once-is : (s : Session) (delta seconds : Float) (inbox : List ℕ) {t q : Bool} {m n : ℕ} → t ≡ timesOk delta seconds → m ≡ refusalOf inbox → q ≡ soundOf s → n ≡ onceRefusalBy t m q → n ≡ refusedAtOnce s delta seconds inbox
+pub once-is : (s : Session) (delta seconds : Float) (inbox : List ℕ) {t q : Bool} {m n : ℕ} → t ≡ timesOk delta seconds → m ≡ refusalOf inbox
+    → q ≡ soundOf s → n ≡ onceRefusalBy t m q → n ≡ refusedAtOnce s delta seconds inbox
 unfolding refusedAtOnce
 once-is s delta seconds inbox ht hm hq h = h ∙ (λ i. onceRefusalBy (ht i) (hm i) (hq i))
 
@@ -73,24 +78,29 @@ once-few s delta seconds inbox hn e =
 -- ---- an update of the clock alone
 
 -- the clock after the timer and the messages
-clock-is : (s : Session) (delta seconds : Float) (inbox : List ℕ) {start h : Heard} {t : Ticked} {c : Clock} → start ≡ listenOf (s .clock) → h ≡ heardIn seconds inbox start → t ≡ tickedOf (s .clock) (s .settings .period) delta → c ≡ settledOf (s .settings) (t .clock) h
+clock-is : (s : Session) (delta seconds : Float) (inbox : List ℕ) {start h : Heard} {t : Ticked} {c : Clock} → start ≡ listenOf (s .clock)
+    → h ≡ heardIn seconds inbox start → t ≡ tickedOf (s .clock) (s .settings .period) delta → c ≡ settledOf (s .settings) (t .clock) h
     → c ≡ clockAfter s delta seconds inbox
 clock-is s delta seconds inbox hl hh ht hc = hc ∙ (λ i. settledOf (s .settings) (ht i .clock) ((hh ∙ ap (heardIn seconds inbox) hl) i))
 
 -- whether a message of another client was heard
-other-is : (s : Session) (seconds : Float) (inbox : List ℕ) {start h : Heard} → start ≡ listenOf (s .clock) → h ≡ heardIn seconds inbox start → h .other ≡ heardOther s seconds inbox
+other-is : (s : Session) (seconds : Float) (inbox : List ℕ) {start h : Heard} → start ≡ listenOf (s .clock) → h ≡ heardIn seconds inbox start
+    → h .other ≡ heardOther s seconds inbox
 other-is s seconds inbox hl hh = ap (λ (x : Heard). x .other) (hh ∙ ap (heardIn seconds inbox) hl)
 
-module _ (s : Session) (delta seconds : Float) (inbox : List ℕ) {start heard : Heard} {p : Bool} {n : ℕ} (hl : start ≡ listenOf (s .clock)) (hh : heard ≡ heardIn seconds inbox start) (hp : p ≡ hasForWorlds inbox) (hn : n ≡ syncingRefusalBy p (heard .other)) where
+module _ (s : Session) (delta seconds : Float) (inbox : List ℕ) {start heard : Heard} {p : Bool} {n : ℕ} (hl : start ≡ listenOf (s .clock))
+    (hh : heard ≡ heardIn seconds inbox start) (hp : p ≡ hasForWorlds inbox) (hn : n ≡ syncingRefusalBy p (heard .other)) where
   -- the refusal by what arrived
   syncing-is : n ≡ syncingRefusalBy (hasForWorlds inbox) (heardOther s seconds inbox)
   syncing-is = hn ∙ (λ i. syncingRefusalBy (hp i) (other-is s seconds inbox hl hh i))
 
-  pub clock-refused : (len : ℕ) {r : UpdateAnswer} {last : List ℕ} → (n ≡ 0 → ⊥) → Updates (refusedWith n s len .reply) r last → Updates (clockUpdateOf s delta seconds inbox len .reply) r last
+  pub clock-refused : (len : ℕ) {r : UpdateAnswer} {last : List ℕ} → (n ≡ 0 → ⊥) → Updates (refusedWith n s len .reply) r last
+      → Updates (clockUpdateOf s delta seconds inbox len .reply) r last
   unfolding clockUpdateOf
   clock-refused len k h = refused-is s len (clockMovedOf s delta seconds inbox len) syncing-is k h
 
-  pub clock-moved : (len : ℕ) {t : Ticked} {c : Clock} {next : Session} {r : UpdateAnswer} {last : List ℕ} → n ≡ 0 → t ≡ tickedOf (s .clock) (s .settings .period) delta → c ≡ settledOf (s .settings) (t .clock) heard → next ≡ syncedOf s c seconds
+  pub clock-moved : (len : ℕ) {t : Ticked} {c : Clock} {next : Session} {r : UpdateAnswer} {last : List ℕ} → n ≡ 0
+      → t ≡ tickedOf (s .clock) (s .settings .period) delta → c ≡ settledOf (s .settings) (t .clock) heard → next ≡ syncedOf s c seconds
       → Updates (unplayedOf 0 next (t .request) len) r last → Updates (clockUpdateOf s delta seconds inbox len .reply) r last
   unfolding clockUpdateOf
   clock-moved len k ht hc hx h =
@@ -116,12 +126,14 @@ module _ (s : Session) (c : Clock) (request : Bool) (u : Run) {was mid : List �
   number-is = λ i. endRefusalBy (h .stop i) (weightOk (tweenOf (h .overshoot i) (s .settings .timestep))) (leb (place i) (long i))
 
   -- the accepted reply to a run is the one to the run as the code holds it
-  accepted-is : leb (length (u .played .words)) (length was) ≡ true → acceptedBy s c request a mid ≡ acceptedOf s c request (finishedOf (s .settings) u) (length was) .reply
+  accepted-is : leb (length (u .played .words)) (length was) ≡ true
+      → acceptedBy s c request a mid ≡ acceptedOf s c request (finishedOf (s .settings) u) (length was) .reply
   unfolding acceptedBy acceptedOf
   accepted-is e =
       let t : cleared mid (a .at) ≡ u .played .words ++ replicate (length was - length (u .played .words)) 0 =
       (λ i. cleared (h .puts .tape i) (place i)) ∙ cleared-after (u .played .words) was (leb-true _ _ e) in
-      let w : endedOf (s .settings) (a .scene .worlds) (a .overshoot) ≡ endedOf (s .settings) (u .played .scene .worlds) (u .overshoot) = λ i. endedOf (s .settings) (h .scene i .worlds) (h .overshoot i) in
+      let w : endedOf (s .settings) (a .scene .worlds) (a .overshoot) ≡ endedOf (s .settings) (u .played .scene .worlds) (u .overshoot) =
+      λ i. endedOf (s .settings) (h .scene i .worlds) (h .overshoot i) in
       λ i. record {
         refusal = accepted;
         session = sessionWith s (stageAfter (s .stage) (w i .published .time)) c (w i) (h .overshoot i);
@@ -136,28 +148,37 @@ module _ (s : Session) (c : Clock) (request : Bool) (u : Run) {was mid : List �
 
   -- by its refusal
   concluded-by : (b : Bool) → eqb number accepted ≡ b
-      → cond b (acceptedBy s c request a mid) (refusedWith number s (length mid) .reply) ≡ cond b (acceptedOf s c request (finishedOf (s .settings) u) (length was)) (refusedWith number s (length was)) .reply
+      → cond b (acceptedBy s c request a mid) (refusedWith number s (length mid) .reply) ≡ cond b
+      (acceptedOf s c request (finishedOf (s .settings) u) (length was)) (refusedWith number s (length was)) .reply
   unfolding number
   concluded-by true e =
-      accepted-is (end-accepted (u .stop) (weightOk (tweenOf (u .overshoot) (s .settings .timestep))) (leb (length (u .played .words)) (length was)) (eqb-true number 0 e) .2)
+      accepted-is (end-accepted (u .stop) (weightOk (tweenOf (u .overshoot) (s .settings .timestep))) (leb (length (u .played .words)) (length was))
+      (eqb-true number 0 e) .2)
   concluded-by false e = λ i. refusedWith number s (long i) .reply
 
   -- the reply to a run as the code holds it is the reply to the run with its end
   concluded-is : concludedBy s c request a mid ≡ concludedOf s c request (finishedOf (s .settings) u) (length was) .reply
   unfolding concludedBy concludedOf number
-  concluded-is = (λ i. cond (eqb (number-is i) accepted) (acceptedBy s c request a mid) (refusedWith (number-is i) s (length mid) .reply)) ∙ concluded-by (eqb number accepted) refl
+  concluded-is = (λ i. cond (eqb (number-is i) accepted) (acceptedBy s c request a mid) (refusedWith (number-is i) s (length mid) .reply))
+      ∙ concluded-by (eqb number accepted) refl
 
 -- the frames, from the parts that the code has
-pub played-by : (s : Session) (got : Received) (c : Clock) (delta seconds : Float) (inbox : List ℕ) {w : ClientWorldSimulations} {x : Float} {was last : List ℕ} {a : Advanced} → w ≡ notedIn inbox (got .scene .worlds) → x ≡ serverTimeBy (serverSecondsOf (c .offset) seconds) seconds
-    → Advances (unendedOf (s .settings) (withWorlds (got .scene) w) (s .overshoot) delta (add binary64 x (s .settings .lag))) was a last → Advances (unendedWith s got c delta seconds inbox) was a last
+pub played-by : (s : Session) (got : Received) (c : Clock) (delta seconds : Float) (inbox : List ℕ) {w : ClientWorldSimulations} {x : Float}
+    {was last : List ℕ} {a : Advanced} → w ≡ notedIn inbox (got .scene .worlds) → x ≡ serverTimeBy (serverSecondsOf (c .offset) seconds) seconds
+    → Advances (unendedOf (s .settings) (withWorlds (got .scene) w) (s .overshoot) delta (add binary64 x (s .settings .lag))) was a last
+    → Advances (unendedWith s got c delta seconds inbox) was a last
 played-by s got c delta seconds inbox {w} {x} {was} {last} {a} hw hx h =
-    subst (λ (z : Run). Advances z was a last) (λ i. unendedOf (s .settings) (withWorlds (got .scene) (hw i)) (s .overshoot) delta (add binary64 (hx i) (s .settings .lag))) h
+    subst (λ (z : Run). Advances z was a last) (λ i. unendedOf (s .settings) (withWorlds (got .scene) (hw i)) (s .overshoot) delta
+    (add binary64 (hx i) (s .settings .lag))) h
 
 -- the refusal at the end, from the parts that the code has
-pub end-is : (s : Session) (a : Advanced) (len : ℕ) {x : Float} {w f : Bool} {n : ℕ} → x ≡ tweenOf (a .overshoot) (s .settings .timestep) → w ≡ weightOk x → f ≡ leb (a .at) len → n ≡ endRefusalBy (a .stop) w f → n ≡ endRefusalOf s a len
+pub end-is : (s : Session) (a : Advanced) (len : ℕ) {x : Float} {w f : Bool} {n : ℕ} → x ≡ tweenOf (a .overshoot) (s .settings .timestep)
+    → w ≡ weightOk x → f ≡ leb (a .at) len → n ≡ endRefusalBy (a .stop) w f → n ≡ endRefusalOf s a len
 end-is s a len hx hw hf h = h ∙ (λ i. endRefusalBy (a .stop) ((hw ∙ ap weightOk hx) i) (hf i))
 
-module _ (s : Session) (delta seconds : Float) (inbox : List ℕ) {start heard : Heard} {scene : Scene} {got : Received} {n : ℕ} (hl : start ≡ listenOf (s .clock)) (hh : heard ≡ heardIn seconds inbox start) (hs : scene ≡ sceneOf s) (hg : got ≡ receivedIn inbox (noneReceived scene)) (hn : n ≡ arrivalRefusalBy (heard .other) (got .full)) where
+module _ (s : Session) (delta seconds : Float) (inbox : List ℕ) {start heard : Heard} {scene : Scene} {got : Received} {n : ℕ}
+    (hl : start ≡ listenOf (s .clock)) (hh : heard ≡ heardIn seconds inbox start) (hs : scene ≡ sceneOf s)
+    (hg : got ≡ receivedIn inbox (noneReceived scene)) (hn : n ≡ arrivalRefusalBy (heard .other) (got .full)) where
   -- what was received
   received-is : got ≡ receivedIn inbox (unreceived s)
   received-is = hg ∙ (λ i. receivedIn inbox (noneReceived (hs i)))
@@ -166,11 +187,14 @@ module _ (s : Session) (delta seconds : Float) (inbox : List ℕ) {start heard :
   arrival-is : n ≡ arrivalRefusalBy (heardOther s seconds inbox) (receivedIn inbox (unreceived s) .full)
   arrival-is = hn ∙ (λ i. arrivalRefusalBy (other-is s seconds inbox hl hh i) (received-is i .full))
 
-  pub worlds-refused : (len : ℕ) {r : UpdateAnswer} {last : List ℕ} → (n ≡ 0 → ⊥) → Updates (refusedWith n s len .reply) r last → Updates (worldsUpdateOf s delta seconds inbox len .reply) r last
+  pub worlds-refused : (len : ℕ) {r : UpdateAnswer} {last : List ℕ} → (n ≡ 0 → ⊥) → Updates (refusedWith n s len .reply) r last
+      → Updates (worldsUpdateOf s delta seconds inbox len .reply) r last
   unfolding worldsUpdateOf
   worlds-refused len k h = refused-is s len _ arrival-is k h
 
-  module _ {was mid last : List ℕ} {t : Ticked} {c : Clock} {a : Advanced} {r : UpdateAnswer} (z : n ≡ 0) (ht : t ≡ tickedOf (s .clock) (s .settings .period) delta) (hc : c ≡ settledOf (s .settings) (t .clock) heard) (ha : Advances (unendedWith s got c delta seconds inbox) was a mid) where
+  module _ {was mid last : List ℕ} {t : Ticked} {c : Clock} {a : Advanced} {r : UpdateAnswer} (z : n ≡ 0)
+      (ht : t ≡ tickedOf (s .clock) (s .settings .period) delta) (hc : c ≡ settledOf (s .settings) (t .clock) heard)
+      (ha : Advances (unendedWith s got c delta seconds inbox) was a mid) where
     worlds-played : Updates (concludedBy s c (t .request) a mid) r last → Updates (worldsUpdateOf s delta seconds inbox (length was) .reply) r last
     unfolding worldsUpdateOf playedOf updatedOf
     worlds-played h =
@@ -181,31 +205,37 @@ module _ (s : Session) (delta seconds : Float) (inbox : List ℕ) {start heard :
         accepted-by s (length was) _ arrival-is z (updates-as ((λ i. concludedBy s (k i) (ht i .request) a mid) ∙ concluded-is s d (requestOf s delta) u v) h)
 
     -- refused at its end
-    pub worlds-stopped : {m len : ℕ} → m ≡ endRefusalOf s a len → len ≡ length mid → (m ≡ 0 → ⊥) → Updates (refusedWith m s len .reply) r last → Updates (worldsUpdateOf s delta seconds inbox (length was) .reply) r last
+    pub worlds-stopped : {m len : ℕ} → m ≡ endRefusalOf s a len → len ≡ length mid → (m ≡ 0 → ⊥) → Updates (refusedWith m s len .reply) r last
+        → Updates (worldsUpdateOf s delta seconds inbox (length was) .reply) r last
     unfolding concludedBy
     worlds-stopped {m} {len} hm hx e h =
         let q : m ≡ endRefusalOf s a (length mid) = hm ∙ ap (endRefusalOf s a) hx in
         worlds-played
         (updates-as
-        ((λ i. refusedWith (q i) s (hx i) .reply) ∙ (λ i. cond (sym (ne-eqb (endRefusalOf s a (length mid)) 0 (λ y. e (q ∙ y))) i) (acceptedBy s c (t .request) a mid) (refusedWith (endRefusalOf s a (length mid)) s (length mid) .reply)))
+        ((λ i. refusedWith (q i) s (hx i) .reply) ∙ (λ i. cond (sym (ne-eqb (endRefusalOf s a (length mid)) 0 (λ y. e (q ∙ y))) i)
+        (acceptedBy s c (t .request) a mid) (refusedWith (endRefusalOf s a (length mid)) s (length mid) .reply)))
         h)
 
     -- accepted
-    pub worlds-accepted : {m len : ℕ} → m ≡ endRefusalOf s a len → len ≡ length mid → m ≡ 0 → Updates (acceptedBy s c (t .request) a mid) r last → Updates (worldsUpdateOf s delta seconds inbox (length was) .reply) r last
+    pub worlds-accepted : {m len : ℕ} → m ≡ endRefusalOf s a len → len ≡ length mid → m ≡ 0 → Updates (acceptedBy s c (t .request) a mid) r last
+        → Updates (worldsUpdateOf s delta seconds inbox (length was) .reply) r last
     unfolding concludedBy
     worlds-accepted {m} {len} hm hx e h =
         let q : m ≡ endRefusalOf s a (length mid) = hm ∙ ap (endRefusalOf s a) hx in
         worlds-played
-        (updates-as (λ i. cond (sym (eq-eqb (endRefusalOf s a (length mid)) 0 (sym q ∙ e)) i) (acceptedBy s c (t .request) a mid) (refusedWith (endRefusalOf s a (length mid)) s (length mid) .reply)) h)
+        (updates-as (λ i. cond (sym (eq-eqb (endRefusalOf s a (length mid)) 0 (sym q ∙ e)) i) (acceptedBy s c (t .request) a mid)
+        (refusedWith (endRefusalOf s a (length mid)) s (length mid) .reply)) h)
 
 -- ---- update
 
-module _ (s : Session) (delta seconds : Float) (inbox : List ℕ) (len : ℕ) {n : ℕ} {r : UpdateAnswer} {last : List ℕ} (hn : n ≡ refusedAtOnce s delta seconds inbox) where
+module _ (s : Session) (delta seconds : Float) (inbox : List ℕ) (len : ℕ) {n : ℕ} {r : UpdateAnswer} {last : List ℕ}
+    (hn : n ≡ refusedAtOnce s delta seconds inbox) where
   pub update-refused : (n ≡ 0 → ⊥) → Updates (refusedWith n s len .reply) r last → Updates (updateOf s delta seconds inbox len .reply) r last
   unfolding updateOf
   update-refused e h = refused-is s len _ hn e h
 
-  pub update-by : (x : Bool) {w : Bool} → n ≡ 0 → w ≡ hasWorlds (s .stage) → w ≡ x → Updates (updateBy x s delta seconds inbox len .reply) r last → Updates (updateOf s delta seconds inbox len .reply) r last
+  pub update-by : (x : Bool) {w : Bool} → n ≡ 0 → w ≡ hasWorlds (s .stage) → w ≡ x → Updates (updateBy x s delta seconds inbox len .reply) r last
+      → Updates (updateOf s delta seconds inbox len .reply) r last
   unfolding updateOf
   update-by x e hw k h = accepted-by s len _ hn e (updates-as (λ i. updateBy ((sym k ∙ hw) i) s delta seconds inbox len .reply) h)
 
@@ -218,7 +248,8 @@ module _ (s : Session) {p w : Bool} {n : ℕ} (hp : p ≡ soundOf s) (hw : w ≡
   pub report-refused : {r : ReportAnswer} → (n ≡ 0 → ⊥) → r ≡ unreported n → r ≡ reportOf s
   unfolding reportOf
   report-refused k h =
-      h ∙ ap unreported report-refusal ∙ (λ i. cond (sym (ne-eqb (reportRefusalOf s) 0 (λ z. k (report-refusal ∙ z))) i) (reportedOf s) (unreported (reportRefusalOf s)))
+      h ∙ ap unreported report-refusal ∙ (λ i. cond (sym (ne-eqb (reportRefusalOf s) 0 (λ z. k (report-refusal ∙ z))) i) (reportedOf s)
+      (unreported (reportRefusalOf s)))
 
   pub report-accepted : {r : ReportAnswer} → n ≡ 0 → r ≡ reportedOf s → r ≡ reportOf s
   unfolding reportOf

@@ -21,8 +21,10 @@ use Rattle.session_answers.specs.Answers.{sceneOf, unissued, issuedOf}
 use Rattle.session.specs.Issue.{entryOf, receivedNow, issueRefusalOf, issueOf}
 
 module _ (s : Session) (h : ℕ) {scene : Scene} {old stamp : Timestamp} {got : Received} {b p w y : Bool} {n : ℕ}
-    (ho : old ≡ oldStampOf (s .worlds)) (hst : stamp .0 ≡ sumOf (old .0) 1) (hs : scene ≡ sceneOf s) (hg : got ≡ receivedOf scene (record { stamp = stamp; handle = h }))
-    (hp : p ≡ soundOf s) (hb : b ≡ ltb h handleRoom) (hw : w ≡ hasWorlds (s .stage)) (hy : y ≡ isReady (s .stage)) (hn : n ≡ issueRefusalBy b p w (got .full) y) where
+    (ho : old ≡ oldStampOf (s .worlds)) (hst : stamp .0 ≡ sumOf (old .0) 1) (hs : scene ≡ sceneOf s)
+    (hg : got ≡ receivedOf scene (record { stamp = stamp; handle = h }))
+    (hp : p ≡ soundOf s) (hb : b ≡ ltb h handleRoom) (hw : w ≡ hasWorlds (s .stage)) (hy : y ≡ isReady (s .stage))
+    (hn : n ≡ issueRefusalBy b p w (got .full) y) where
   stamp-is : stamp ≡ entryOf s h .stamp
   stamp-is = λ i. record { 0 = (hst ∙ ap (λ (t : Timestamp). sumOf (t .0) 1) ho) i }
 
@@ -35,9 +37,11 @@ module _ (s : Session) (h : ℕ) {scene : Scene} {old stamp : Timestamp} {got : 
   pub issue-refused : {r : IssueAnswer} → (n ≡ 0 → ⊥) → r ≡ unissued n s → r ≡ issueOf s h
   unfolding issueOf
   issue-refused k e =
-      e ∙ (λ i. unissued (refusal-is i) s) ∙ (λ i. cond (sym (ne-eqb (issueRefusalOf s h) 0 (λ z. k (refusal-is ∙ z))) i) (issuedOf s (entryOf s h .stamp) (receivedNow s h)) (unissued (issueRefusalOf s h) s))
+      e ∙ (λ i. unissued (refusal-is i) s) ∙ (λ i. cond (sym (ne-eqb (issueRefusalOf s h) 0 (λ z. k (refusal-is ∙ z))) i)
+      (issuedOf s (entryOf s h .stamp) (receivedNow s h)) (unissued (issueRefusalOf s h) s))
 
   pub issue-accepted : {r : IssueAnswer} → n ≡ 0 → r ≡ issuedOf s stamp got → r ≡ issueOf s h
   unfolding issueOf
   issue-accepted k e =
-      e ∙ (λ i. issuedOf s (stamp-is i) (got-is i)) ∙ (λ i. cond (sym (eq-eqb (issueRefusalOf s h) 0 (sym refusal-is ∙ k)) i) (issuedOf s (entryOf s h .stamp) (receivedNow s h)) (unissued (issueRefusalOf s h) s))
+      e ∙ (λ i. issuedOf s (stamp-is i) (got-is i)) ∙ (λ i. cond (sym (eq-eqb (issueRefusalOf s h) 0 (sym refusal-is ∙ k)) i)
+      (issuedOf s (entryOf s h .stamp) (receivedNow s h)) (unissued (issueRefusalOf s h) s))

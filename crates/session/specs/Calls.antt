@@ -56,7 +56,8 @@ heardOther s seconds inbox = heardIn seconds inbox (listenOf (s .clock)) .other
 
 -- the clock after an update's timer and messages
 abbrev pub clockAfter : Session → Float → Float → List ℕ → Clock
-clockAfter s delta seconds inbox = settledOf (s .settings) (tickedOf (s .clock) (s .settings .period) delta .clock) (heardIn seconds inbox (listenOf (s .clock)))
+clockAfter s delta seconds inbox = settledOf (s .settings) (tickedOf (s .clock) (s .settings .period) delta .clock)
+    (heardIn seconds inbox (listenOf (s .clock)))
 
 -- whether a clock request goes out
 abbrev pub requestOf : Session → Float → Bool
@@ -75,7 +76,8 @@ clockUpdateOf s delta seconds inbox len =
 -- what a run comes to
 unfoldable pub concludedOf : Session → Clock → Bool → Run → ℕ → Answer
 concludedOf s c request r len =
-    unlessRefused (endRefusalBy (r .stop) (weightOk (tweenOf (r .overshoot) (s .settings .timestep))) (leb (length (r .played .words)) len)) s len (acceptedOf s c request r len)
+    unlessRefused (endRefusalBy (r .stop) (weightOk (tweenOf (r .overshoot) (s .settings .timestep))) (leb (length (r .played .words)) len)) s len
+    (acceptedOf s c request r len)
 
 -- the server's time by a clock; a clock without an offset gives the client's own
 abbrev pub serverTimeBy : ServerTime → Float → Float

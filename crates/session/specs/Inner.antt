@@ -1,4 +1,5 @@
--- What inner functions of the code give, of a run as they hold it, its words being on the tape already. No contract of a call cites this module: `concluded-is` and
+-- What inner functions of the code give, of a run as they hold it, its words being on the tape already. No contract of a call cites this module: `concluded-is`
+-- and
 -- `worlds-played` of proofs/Answering tie it to Calls. Definitions only. Assumes nothing.
 use Prim.Native.Nat.{ℕ}
 use mathlib.Core.Bool.{Bool, cond}

@@ -31,25 +31,30 @@ use Rattle.session_answers.specs.Inner.{acceptedBy}
 
 -- ---- an update that played nothing
 
-pub unplayed-is : (n : ℕ) (s : Session) (request : Bool) (was : List ℕ) {l r : Ledger} {last : List ℕ} → last ≡ cleared was 0 → l ≡ emptyLedger → r ≡ emptyLedger
-    → Updates (unplayedOf n s request (length was)) (record { refusal = n; session = s; frames = 0; steps = 0; request = request; left = l; right = r; words = 0 }) last
+pub unplayed-is : (n : ℕ) (s : Session) (request : Bool) (was : List ℕ) {l r : Ledger} {last : List ℕ} → last ≡ cleared was 0 → l ≡ emptyLedger
+    → r ≡ emptyLedger
+    → Updates (unplayedOf n s request (length was))
+    (record { refusal = n; session = s; frames = 0; steps = 0; request = request; left = l; right = r; words = 0 }) last
 unplayed-is n s request was e hl hr =
     record { refusal = refl; session = refl; frames = refl; steps = refl; request = refl; left = hl; right = hr; words = refl; tape = e ∙ cleared-all was }
 
 -- it was refused
-pub refuse-is : (n : ℕ) (s : Session) (len : ℕ) {r : UpdateAnswer} {last : List ℕ} → Updates (unplayedOf n s false len) r last → Updates (refusedWith n s len .reply) r last
+pub refuse-is : (n : ℕ) (s : Session) (len : ℕ) {r : UpdateAnswer} {last : List ℕ} → Updates (unplayedOf n s false len) r last
+    → Updates (refusedWith n s len .reply) r last
 unfolding refusedWith
 refuse-is n s len h = h
 
 -- ---- worlds are made
 
 -- there is no time
-pub synced-none : (s : Session) (c : Clock) (seconds : Float) {p : Bool} {t : ServerTime} → t ≡ serverSecondsOf (c .offset) seconds → p ≡ readyOf c → p ≡ true → t ≡ NoTime → s ≡ syncedOf s c seconds
+pub synced-none : (s : Session) (c : Clock) (seconds : Float) {p : Bool} {t : ServerTime} → t ≡ serverSecondsOf (c .offset) seconds → p ≡ readyOf c
+    → p ≡ true → t ≡ NoTime → s ≡ syncedOf s c seconds
 unfolding syncedOf
 synced-none s c seconds ht hp h e = λ i. cond (sym (sym hp ∙ h) i) (startedAt s c (sym (sym ht ∙ e) i)) (withClock s c)
 
 -- there is one: the worlds start at its stamp
-pub synced-at : (s : Session) (c : Clock) (seconds : Float) {p : Bool} {t : ServerTime} {x : Float} {st : Timestamp} {w : ClientWorldSimulations} → t ≡ serverSecondsOf (c .offset) seconds → p ≡ readyOf c → p ≡ true → t ≡ At x
+pub synced-at : (s : Session) (c : Clock) (seconds : Float) {p : Bool} {t : ServerTime} {x : Float} {st : Timestamp} {w : ClientWorldSimulations}
+    → t ≡ serverSecondsOf (c .offset) seconds → p ≡ readyOf c → p ≡ true → t ≡ At x
     → st .0 ≡ bitsOf (stampOf (fromSeconds x (s .settings .timestep))) → w ≡ newWorldsOf st
     → sessionWith s SyncingInitialState c w (fin false 0 (pos 0)) ≡ syncedOf s c seconds
 unfolding syncedOf
@@ -66,9 +71,11 @@ synced-not s c seconds hp h = λ i. cond (sym (sym hp ∙ h) i) (startedAt s c (
 -- ---- an accepted update
 
 -- an accepted update, by the calls that make it
-pub accept-is : (s : Session) (c : Clock) (request : Bool) (a : Advanced) (was : List ℕ) {last : List ℕ} {w : ClientWorldSimulations} {st : Stage} {l r : Ledger} → last ≡ cleared was (a .at) → w ≡ endedOf (s .settings) (a .scene .worlds) (a .overshoot)
+pub accept-is : (s : Session) (c : Clock) (request : Bool) (a : Advanced) (was : List ℕ) {last : List ℕ} {w : ClientWorldSimulations} {st : Stage}
+    {l r : Ledger} → last ≡ cleared was (a .at) → w ≡ endedOf (s .settings) (a .scene .worlds) (a .overshoot)
     → st ≡ stageAfter (s .stage) (w .published .time) → l ≡ closedOf (a .scene .left) (w .left .commands) → r ≡ closedOf (a .scene .right) (w .right .commands)
-    → Updates (acceptedBy s c request a was) (record { refusal = 0; session = sessionWith s st c w (a .overshoot); frames = a .frames; steps = a .scene .steps; request = request; left = l; right = r; words = a .at }) last
+    → Updates (acceptedBy s c request a was)
+    (record { refusal = 0; session = sessionWith s st c w (a .overshoot); frames = a .frames; steps = a .scene .steps; request = request; left = l; right = r; words = a .at }) last
 unfolding acceptedBy
 accept-is s c request a was hz hw hs hL hR =
     record {

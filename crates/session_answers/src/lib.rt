@@ -2,7 +2,8 @@
 // src/client/stage*.rs of crystalorb that change the stage and show the state.
 ghost use mathlib.Core.Path.{_≡_};
 ghost use lib.ListN.{length};
-ghost use Rattle.session_answers.specs.Answers.{unplayedOf, refusedWith, syncedOf, sceneOf, closedOf, stageAfter, Updates, unissued, issuedOf, unreported, reportedOf};
+ghost use Rattle.session_answers.specs.Answers.{unplayedOf, refusedWith, syncedOf, sceneOf, closedOf, stageAfter, Updates, unissued, issuedOf};
+ghost use Rattle.session_answers.specs.Answers.{unreported, reportedOf};
 ghost use Rattle.session_answers.specs.Inner.{acceptedBy};
 use client::DisplayTime;
 use client::Ledger;

@@ -32,7 +32,8 @@ unfolding offeredBase ledgerOf worldOf
 base-kept s e c = record { books = c .books; base = inserted-few (s .worlds .base) e (c .base) }
 
 -- a command is offered to the world of a side
-pub offered-kept : {h n k : ℕ} (x side : ℕ) (s : Scene) (e : Entry) → x < 2 → side < 2 → n + 1 < 2 ^ 64 → Kept x h n k s → Kept x h (n + 1) k (offeredSide s side e .scene)
+pub offered-kept : {h n k : ℕ} (x side : ℕ) (s : Scene) (e : Entry) → x < 2 → side < 2 → n + 1 < 2 ^ 64 → Kept x h n k s
+    → Kept x h (n + 1) k (offeredSide s side e .scene)
 unfolding offeredSide scheduledOf ledgerOf withLedger worldOf withWorld
 offered-kept zero zero s e p q z c =
     let b : CommandBuffer = s .worlds .left .commands in
@@ -53,7 +54,8 @@ received-kept x s e p z c =
     let r : Scene = offeredBase s e .scene in
     let t : Scene = offeredSide r (oldSideOf (s .worlds)) e .scene in
     kept-more (omega arith)
-    (offered-kept x (newSideOf (s .worlds)) t e p (new-below (s .worlds)) (omega arith) (offered-kept x (oldSideOf (s .worlds)) r e p (old-below (s .worlds)) (omega arith) (base-kept s e c)))
+    (offered-kept x (newSideOf (s .worlds)) t e p (new-below (s .worlds)) (omega arith)
+    (offered-kept x (oldSideOf (s .worlds)) r e p (old-below (s .worlds)) (omega arith) (base-kept s e c)))
 
 -- a snapshot arrives: the buffers stay
 pub notes-alike : (w : ClientWorldSimulations) (t : Timestamp) (i : ℕ) → SameBuffers w (notesOf w t i)

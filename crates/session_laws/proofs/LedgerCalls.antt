@@ -1,4 +1,5 @@
--- The ledgers of one call, for each side: held before + taken + copied = applied + left out + replaced + held after, and `applied` are its command words on the tape. Assumes nothing.
+-- The ledgers of one call, for each side: held before + taken + copied = applied + left out + replaced + held after, and `applied` are its command words on the
+-- tape. Assumes nothing.
 use mathlib.Core.Path.{_≡_, refl, ap, sym, _∙_}
 use mathlib.Core.Bool.{Bool, true, false, cond}
 use mathlib.Core.List.{List, [], _∷_}
@@ -63,7 +64,8 @@ start-kept : (x : ℕ) (s : Session) → Filled (s .worlds) → Kept x (heldAt x
 unfolding ledgerOf worldOf
 start-kept x s f = record { books = start (eqb x 0); base = f .base }
   where
-    start : (b : Bool) → Books (length (held (cond b (s .worlds .left) (s .worlds .right) .commands))) 64 0 (cond b emptyLedger emptyLedger) (length (held (cond b (s .worlds .left) (s .worlds .right) .commands)))
+    start : (b : Bool) → Books (length (held (cond b (s .worlds .left) (s .worlds .right) .commands))) 64 0 (cond b emptyLedger emptyLedger)
+        (length (held (cond b (s .worlds .left) (s .worlds .right) .commands)))
     start true = record { balance = omega arith; words = refl; most = omega (arith, f .left) }
     start false = record { balance = omega arith; words = refl; most = omega (arith, f .right) }
 
@@ -85,7 +87,8 @@ one-kept x r BadTime p z c = kept-more (omega arith) c
 one-kept x r WrongWord p z c = kept-more (omega arith) c
 one-kept x r CutShort p z c = kept-more (omega arith) c
 
-all-kept : {h n k : ℕ} (x : ℕ) (ms : List Message) (r : Received) → x < 2 → n + length ms * 2 < 2 ^ 64 → Kept x h n k (r .scene) → Kept x h (n + length ms * 2) k (over receiveOne r ms .scene)
+all-kept : {h n k : ℕ} (x : ℕ) (ms : List Message) (r : Received) → x < 2 → n + length ms * 2 < 2 ^ 64 → Kept x h n k (r .scene)
+    → Kept x h (n + length ms * 2) k (over receiveOne r ms .scene)
 all-kept x [] r p z c = kept-more (omega arith) c
 all-kept x (m ∷ ms) r p z c = kept-more (omega arith) (all-kept x ms (receiveOne r m) p (omega arith) (one-kept x r m p (omega arith) c))
 
@@ -105,23 +108,27 @@ noted-alike : (inbox : List ℕ) (w : ClientWorldSimulations) → SameBuffers w 
 unfolding notedIn
 noted-alike inbox w = all-alike (messagesOf inbox) w
 
-commands-kept : {h : ℕ} (x : ℕ) (inbox : List ℕ) (r : Received) → x < 2 → refusalOf inbox ≡ 0 → Kept x h 64 0 (r .scene) → Kept x h 8256 0 (receivedIn inbox r .scene)
+commands-kept : {h : ℕ} (x : ℕ) (inbox : List ℕ) (r : Received) → x < 2 → refusalOf inbox ≡ 0 → Kept x h 64 0 (r .scene)
+    → Kept x h 8256 0 (receivedIn inbox r .scene)
 unfolding receivedIn
 commands-kept x inbox r p e c =
     let f : length (messagesOf inbox) ≤ 4096 = omega (arith, messages-few 0 inbox, accepted-few inbox e) in
     kept-more (omega arith) (all-kept x (messagesOf inbox) r p (omega arith) c)
 
 -- the scene after the inbox of an update
-after-kept : (x : ℕ) (s : Session) (inbox : List ℕ) → x < 2 → refusalOf inbox ≡ 0 → Filled (s .worlds) → Kept x (heldAt x (s .worlds)) 8256 0 (sceneAfter s inbox)
+after-kept : (x : ℕ) (s : Session) (inbox : List ℕ) → x < 2 → refusalOf inbox ≡ 0 → Filled (s .worlds)
+    → Kept x (heldAt x (s .worlds)) 8256 0 (sceneAfter s inbox)
 after-kept x s inbox p e f =
     let r : Scene = receivedIn inbox (unreceived s) .scene in
     same-buffers-kept r (notedIn inbox (r .worlds)) (noted-alike inbox (r .worlds)) (commands-kept x inbox (unreceived s) p e (start-kept x s f))
 
 -- the frames of an update
-played-kept : (x : ℕ) (s : Session) (c : Clock) (delta seconds : Float) (inbox : List ℕ) → x < 2 → refusalOf inbox ≡ 0 → Filled (s .worlds) → KeptBy x (heldAt x (s .worlds)) 12416 0 (playedOf s c delta seconds inbox)
+played-kept : (x : ℕ) (s : Session) (c : Clock) (delta seconds : Float) (inbox : List ℕ) → x < 2 → refusalOf inbox ≡ 0 → Filled (s .worlds)
+    → KeptBy x (heldAt x (s .worlds)) 12416 0 (playedOf s c delta seconds inbox)
 unfolding playedOf
 played-kept x s c delta seconds inbox p e f =
-    updated-kept x (heldAt x (s .worlds)) p (s .settings) (sceneAfter s inbox) (s .overshoot) delta (laggedOf s c seconds) (omega arith) (after-kept x s inbox p e f)
+    updated-kept x (heldAt x (s .worlds)) p (s .settings) (sceneAfter s inbox) (s .overshoot) delta (laggedOf s c seconds) (omega arith)
+    (after-kept x s inbox p e f)
 
 -- ---- what a call answers
 
@@ -145,7 +152,9 @@ none-settles true x s marks w e = record { balance = omega arith; applied = sym 
 none-settles false x s marks w e = record { balance = omega arith; applied = sym e; stage = w }
 
 -- the ledger of a side with what it holds
-closed-settles : {n k : ℕ} (x : ℕ) (s t : Session) (u : Scene) (marks : ℕ) → x < 2 → t .worlds ≡ u .worlds → hasWorlds (t .stage) ≡ true → k ≡ marks → Kept x (heldAt x (s .worlds)) n k u → Settles x s t (cond (eqb x 0) (closedOf (u .left) (u .worlds .left .commands)) (closedOf (u .right) (u .worlds .right .commands))) marks
+closed-settles : {n k : ℕ} (x : ℕ) (s t : Session) (u : Scene) (marks : ℕ) → x < 2 → t .worlds ≡ u .worlds → hasWorlds (t .stage) ≡ true → k ≡ marks
+    → Kept x (heldAt x (s .worlds)) n k u → Settles x s t (cond (eqb x 0) (closedOf (u .left) (u .worlds .left .commands))
+    (closedOf (u .right) (u .worlds .right .commands))) marks
 unfolding ledgerOf
 closed-settles zero s t u marks p e w m c =
     record { balance = omega (arith, c .books .balance, ap (heldAt 0) e); applied = c .books .words ∙ m; stage = w }
@@ -166,7 +175,8 @@ stage-kept SyncingInitialState NotDisplayed h = refl
 stage-kept SyncingInitialState (DisplayedAt x) h = refl
 stage-kept Ready t h = refl
 
-accepted-settles : {n : ℕ} (x : ℕ) (s : Session) (c : Clock) (request : Bool) (r : Run) (len : ℕ) → x < 2 → hasWorlds (s .stage) ≡ true → KeptBy x (heldAt x (s .worlds)) n 0 r → Replied x s (acceptedOf s c request r len .reply)
+accepted-settles : {n : ℕ} (x : ℕ) (s : Session) (c : Clock) (request : Bool) (r : Run) (len : ℕ) → x < 2 → hasWorlds (s .stage) ≡ true
+    → KeptBy x (heldAt x (s .worlds)) n 0 r → Replied x s (acceptedOf s c request r len .reply)
 unfolding acceptedOf
 accepted-settles x s c request r len p w g =
     let ws : List ℕ = r .played .words in
@@ -174,7 +184,8 @@ accepted-settles x s c request r len p w g =
     (omega (arith, commands-on-append x ws (replicate (len - length ws) 0), commands-on-zeros x (len - length ws))) g
 
 -- update: from a session whose worlds exist, sound or not
-pub update-settles : (x : ℕ) (s : Session) (delta seconds : Float) (inbox : List ℕ) (len : ℕ) → x < 2 → hasWorlds (s .stage) ≡ true → Replied x s (updateOf s delta seconds inbox len .reply)
+pub update-settles : (x : ℕ) (s : Session) (delta seconds : Float) (inbox : List ℕ) (len : ℕ) → x < 2 → hasWorlds (s .stage) ≡ true
+    → Replied x s (updateOf s delta seconds inbox len .reply)
 update-settles x s delta seconds inbox len p w =
     update-by-ways {P = λ a. Replied x s (a .reply)} s delta seconds inbox len
     (record {
@@ -194,4 +205,5 @@ unissued-settles n x s w = none-settles (eqb x 0) x s 0 w refl
 pub issue-settles : (x : ℕ) (s : Session) (i : ℕ) → x < 2 → hasWorlds (s .stage) ≡ true → Issued x s (issueOf s i)
 issue-settles x s i p w =
     issue-by-ways (Issued x s) s i (λ n k. unissued-settles n x s w)
-    (λ h f. closed-settles x s (withWorldsOf s (receivedNow s i .scene .worlds)) (receivedNow s i .scene) 0 p refl w refl (received-kept x (sceneOf s) (entryOf s i) p (omega arith) (start-kept x s (sound-filled s f))))
+    (λ h f. closed-settles x s (withWorldsOf s (receivedNow s i .scene .worlds)) (receivedNow s i .scene) 0 p refl w refl
+    (received-kept x (sceneOf s) (entryOf s i) p (omega arith) (start-kept x s (sound-filled s f))))

@@ -39,7 +39,9 @@ quiet-kept : {x h n k : ℕ} {s : Scene} → Kept x h n k s → Kept x h (n + 0)
 quiet-kept {x} c = kept-more (omega arith) (kept-as (omega (arith, none-on x)) c)
 
 -- two things
-then-kept : {x h n : ℕ} (k : ℕ) (p : Played) (f : Scene → Played) → Kept x h n (k + commandsOn x (p .words) + commandsOn x (f (p .scene) .words)) (f (p .scene) .scene) → Kept x h n (k + commandsOn x (andThen p f .words)) (andThen p f .scene)
+then-kept : {x h n : ℕ} (k : ℕ) (p : Played) (f : Scene → Played)
+    → Kept x h n (k + commandsOn x (p .words) + commandsOn x (f (p .scene) .words)) (f (p .scene) .scene)
+    → Kept x h n (k + commandsOn x (andThen p f .words)) (andThen p f .scene)
 unfolding andThen
 then-kept {x} k p f c = kept-as (omega (arith, commands-on-append x (p .words) (f (p .scene) .words))) c
 
@@ -53,7 +55,8 @@ rest-few : (b : CommandBuffer) (t : Timestamp) → length (held b) ≤ 64 → le
 rest-few b t h = omega (arith, drained-ledger b t)
 
 -- a snapshot is loaded into a side
-loaded-kept : {h n k : ℕ} (x side : ℕ) (s : Scene) (t : Timestamp) (i : ℕ) → x < 2 → side < 2 → n + 64 < 2 ^ 64 → Kept x h n k s → Kept x h (n + 64) (k + commandsOn x (loadedOf s side t i .words)) (loadedOf s side t i .scene)
+loaded-kept : {h n k : ℕ} (x side : ℕ) (s : Scene) (t : Timestamp) (i : ℕ) → x < 2 → side < 2 → n + 64 < 2 ^ 64 → Kept x h n k s
+    → Kept x h (n + 64) (k + commandsOn x (loadedOf s side t i .words)) (loadedOf s side t i .scene)
 unfolding loadedOf loadedAt loadOf readiedWith ledgerOf withLedger worldOf withWorld
 loaded-kept zero zero s t i p q z c =
     let b : CommandBuffer = restOf (s .worlds .base) t in
@@ -63,8 +66,10 @@ loaded-kept (suc zero) (suc zero) s t i p q z c =
     let b : CommandBuffer = restOf (s .worlds .base) t in
     let m : length (held b) ≤ 64 = rest-few (s .worlds .base) t (c .base) in
     record { books = books-as (omega (arith, snapshot-none 1 1 i)) refl (books-loads (s .right) (length (held b)) (movedOf b t .dropped) (length (held (movedOf b t .buffer))) z m (moved-ledger b t) (c .books)); base = m }
-loaded-kept zero (suc zero) s t i p q z c = record { books = books-more (omega arith) (books-as (omega (arith, snapshot-none 0 1 i)) refl (c .books)); base = rest-few (s .worlds .base) t (c .base) }
-loaded-kept (suc zero) zero s t i p q z c = record { books = books-more (omega arith) (books-as (omega (arith, snapshot-none 1 0 i)) refl (c .books)); base = rest-few (s .worlds .base) t (c .base) }
+loaded-kept zero (suc zero) s t i p q z c =
+    record { books = books-more (omega arith) (books-as (omega (arith, snapshot-none 0 1 i)) refl (c .books)); base = rest-few (s .worlds .base) t (c .base) }
+loaded-kept (suc zero) zero s t i p q z c =
+    record { books = books-more (omega arith) (books-as (omega (arith, snapshot-none 1 0 i)) refl (c .books)); base = rest-few (s .worlds .base) t (c .base) }
 loaded-kept zero (suc (suc side)) s t i p q z c = absurd (omega arith)
 loaded-kept (suc zero) (suc (suc side)) s t i p q z c = absurd (omega arith)
 loaded-kept (suc (suc x)) side s t i p q z c = absurd (omega arith)
@@ -111,13 +116,15 @@ balances-chains x h =
 
 module _ (x h : ℕ) (below : x < 2) where
   -- a reset of a side
-  reset-kept : {n k : ℕ} (s : Scene) (side : ℕ) (t : Timestamp) → side < 2 → n < 2 ^ 64 → Kept x h n k s → Kept x h n (k + commandsOn x (resetAt s side t .words)) (resetAt s side t .scene)
+  reset-kept : {n k : ℕ} (s : Scene) (side : ℕ) (t : Timestamp) → side < 2 → n < 2 ^ 64 → Kept x h n k s
+      → Kept x h n (k + commandsOn x (resetAt s side t .words)) (resetAt s side t .scene)
   unfolding doneAt
   reset-kept s side t q z c =
       done-kept x side s (resetOf (worldOf (s .worlds) side) t side) below q z (reset-spends (worldOf (s .worlds) side) t side q) c
 
   -- a step of a side
-  stepped-kept : {n k : ℕ} (s : Scene) (side : ℕ) → side < 2 → n < 2 ^ 64 → Kept x h n k s → Kept x h n (k + commandsOn x (steppedSide s side .words)) (steppedSide s side .scene)
+  stepped-kept : {n k : ℕ} (s : Scene) (side : ℕ) → side < 2 → n < 2 ^ 64 → Kept x h n k s
+      → Kept x h n (k + commandsOn x (steppedSide s side .words)) (steppedSide s side .scene)
   unfolding steppedSide doneAt
   stepped-kept s side q z c = done-kept x side s (stepOf (worldOf (s .worlds) side) side) below q z (step-spends (worldOf (s .worlds) side) side q) c
 
@@ -148,12 +155,14 @@ module _ (x h : ℕ) (below : x < 2) where
           loads = λ s side t i q most k z c. loaded-kept x side s t i below q z c;
           resets = λ s side t q most k z c. kept-more (omega arith) (reset-kept s side t q (omega arith) c);
           weighs = λ s t most k z c. quiet-kept (same-buffers-kept s _ (record { left = refl; right = refl; base = refl }) c);
-          shows = λ s l w most k z c. kept-more (omega arith) (kept-as (omega (arith, told-none x w)) (same-buffers-kept s _ (record { left = refl; right = refl; base = refl }) c));
+          shows = λ s l w most k z c. kept-more (omega arith)
+              (kept-as (omega (arith, told-none x w)) (same-buffers-kept s _ (record { left = refl; right = refl; base = refl }) c));
         };
         empties = λ s most k z c. quiet-kept (emptied-kept s c);
         ends = λ s t lag most k z c. quiet-kept (post-kept s t lag c);
       }
 
   -- the worlds' part of an update: at most 65 × 64 are copied
-  pub updated-kept : {n k : ℕ} (c : Settings) (s : Scene) (o delta server : Float) → n + 4160 < 2 ^ 64 → Kept x h n k s → KeptBy x h (n + 4160) k (updatedOf c s o delta server)
+  pub updated-kept : {n k : ℕ} (c : Settings) (s : Scene) (o delta server : Float) → n + 4160 < 2 ^ 64 → Kept x h n k s
+      → KeptBy x h (n + 4160) k (updatedOf c s o delta server)
   updated-kept {n} {k} c s o delta server z g = kept-more (omega arith) (updated-by (moves-by balances-moves c) s o delta server n k (omega arith) g)

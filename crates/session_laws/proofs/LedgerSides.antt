@@ -47,7 +47,13 @@ step-spends w side h =
     record {
       entries = omega (arith, drained-ledger (w .commands) n, moved-ledger (restOf (w .commands) n) n);
       same = omega (arith, commands-on-append side ws (stepWord side ∷ []), mark-none side side, words-counted side h (takenOf (w .commands) n));
-      other = omega (arith, commands-on-append (1 - side) ws (stepWord side ∷ []), mark-none side (1 - side), words-other-side side h (takenOf (w .commands) n));
+      other = omega (
+        arith,
+        commands-on-append (1 - side) ws (stepWord side ∷ []),
+        mark-none side (1 - side),
+        words-other-side side h
+            (takenOf (w .commands) n),
+      );
     }
 
 -- a reset
@@ -89,7 +95,8 @@ pub kept-more : {x h n m k : ℕ} {s : Scene} → n ≤ m → Kept x h n k s →
 kept-more e c = record { books = books-more e (c .books); base = c .base }
 
 -- something is done to the world of a side
-pub done-kept : {h n k : ℕ} (x side : ℕ) (s : Scene) (d : Done) → x < 2 → side < 2 → n < 2 ^ 64 → Spends (worldOf (s .worlds) side) side d → Kept x h n k s → Kept x h n (k + commandsOn x (d .words)) (doneAt s side d .scene)
+pub done-kept : {h n k : ℕ} (x side : ℕ) (s : Scene) (d : Done) → x < 2 → side < 2 → n < 2 ^ 64 → Spends (worldOf (s .worlds) side) side d
+    → Kept x h n k s → Kept x h n (k + commandsOn x (d .words)) (doneAt s side d .scene)
 unfolding doneAt putOf ledgerOf withLedger worldOf withWorld
 done-kept {h} {n} {k} zero zero s d p q z e c =
     record { books = books-as (omega (arith, e .same)) refl (books-applies (s .left) (d .applied) (d .leftout) (entriesOf (d .world)) z (e .entries) (c .books)); base = c .base }

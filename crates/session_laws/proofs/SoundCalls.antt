@@ -107,7 +107,8 @@ module _ (s : Session) (delta seconds : Float) (inbox : List ℕ) (g : Given s d
   after-sound : soundClock (s .settings) (clockAfter s delta seconds inbox) ≡ true
   after-sound = let f = sound-facts s (g .sound) in clock-after-sound s delta seconds inbox (g .fit) (f .settings) (g .times) (f .clock)
 
-  started-sound : (o : Offset) → clockAfter s delta seconds inbox .offset ≡ o → readyOf (clockAfter s delta seconds inbox) ≡ true → soundOf (startedAt s (clockAfter s delta seconds inbox) (serverSecondsOf o seconds)) ≡ true
+  started-sound : (o : Offset) → clockAfter s delta seconds inbox .offset ≡ o → readyOf (clockAfter s delta seconds inbox) ≡ true
+      → soundOf (startedAt s (clockAfter s delta seconds inbox) (serverSecondsOf o seconds)) ≡ true
   unfolding connectedOf
   started-sound NoOffset e r = not-true (sym (ap (λ (o : Offset). bothOf o (clockAfter s delta seconds inbox .id)) e) ∙ r)
   started-sound (Seconds x) e r =
@@ -140,7 +141,9 @@ module _ (s : Session) (delta seconds : Float) (inbox : List ℕ) (g : Given s d
   unfolding syncedOf
   synced-sound e = go (readyOf (clockAfter s delta seconds inbox)) refl
     where
-      go : (b : Bool) → readyOf (clockAfter s delta seconds inbox) ≡ b → soundOf (cond b (startedAt s (clockAfter s delta seconds inbox) (serverSecondsOf (clockAfter s delta seconds inbox .offset) seconds)) (withClock s (clockAfter s delta seconds inbox))) ≡ true
+      go : (b : Bool) → readyOf (clockAfter s delta seconds inbox) ≡ b
+          → soundOf (cond b (startedAt s (clockAfter s delta seconds inbox) (serverSecondsOf (clockAfter s delta seconds inbox .offset) seconds))
+          (withClock s (clockAfter s delta seconds inbox))) ≡ true
       go true r = started-sound (clockAfter s delta seconds inbox .offset) refl r
       go false r = waiting-sound e r
 
@@ -160,7 +163,8 @@ module _ (s : Session) (delta seconds : Float) (inbox : List ℕ) (g : Given s d
   unfolding syncedOf
   synced-fit = go (readyOf (clockAfter s delta seconds inbox))
     where
-      go : (b : Bool) → FloatsFit (cond b (startedAt s (clockAfter s delta seconds inbox) (serverSecondsOf (clockAfter s delta seconds inbox .offset) seconds)) (withClock s (clockAfter s delta seconds inbox)))
+      go : (b : Bool) → FloatsFit (cond b (startedAt s (clockAfter s delta seconds inbox)
+          (serverSecondsOf (clockAfter s delta seconds inbox .offset) seconds)) (withClock s (clockAfter s delta seconds inbox)))
       go true = started-fit (clockAfter s delta seconds inbox .offset)
       go false = after-fit (withClock s (clockAfter s delta seconds inbox)) refl refl
 
@@ -190,7 +194,8 @@ stage-ready SyncingInitialState c n h = h
 stage-ready Ready c n h = h
 
 module _ (s : Session) (delta seconds : Float) (inbox : List ℕ) (g : Given s delta seconds) (n : s .stage ≡ SyncingClock → ⊥) where
-  accepted-good : (request : Bool) (len : ℕ) → runIn s delta seconds inbox .stop ≡ Done → weightOk (tweenOf (runIn s delta seconds inbox .overshoot) (s .settings .timestep)) ≡ true
+  accepted-good : (request : Bool) (len : ℕ) → runIn s delta seconds inbox .stop ≡ Done
+      → weightOk (tweenOf (runIn s delta seconds inbox .overshoot) (s .settings .timestep)) ≡ true
       → Good (acceptedOf s (clockAfter s delta seconds inbox) request (runIn s delta seconds inbox) len .reply .session)
   unfolding acceptedOf playedOf
   accepted-good request len e ok =
@@ -205,7 +210,8 @@ module _ (s : Session) (delta seconds : Float) (inbox : List ℕ) (g : Given s d
         sound = facts-sound _ (record {
           settings = f .settings;
           clock = k;
-          connected = stage-connected (s .stage) (r .played .scene .worlds .published .time) c n (clock-after-ready s delta seconds inbox (stage-ready (s .stage) (s .clock) n (f .connected)));
+          connected = stage-connected (s .stage) (r .played .scene .worlds .published .time) c n
+              (clock-after-ready s delta seconds inbox (stage-ready (s .stage) (s .clock) n (f .connected)));
           kept = updated-kept (s .settings) (f .settings) t (s .overshoot) delta server (scene-after-kept s inbox (f .kept));
           weighed = updated-weighed (s .settings) (f .settings) t (s .overshoot) delta server (scene-after-weighed s inbox (f .weighed));
           overshoot = updated-overshoot (s .settings) (f .settings) (g .fit .timestep) t (s .overshoot) delta server w (f .overshoot) e ok;
@@ -215,12 +221,14 @@ module _ (s : Session) (delta seconds : Float) (inbox : List ℕ) (g : Given s d
 
 -- ---- update
 
-update-good : (s : Session) (delta seconds : Float) (inbox : List ℕ) (len : ℕ) → FloatsFit s → updateOf s delta seconds inbox len .reply .refusal ≡ 0 → Good (updateOf s delta seconds inbox len .reply .session)
+update-good : (s : Session) (delta seconds : Float) (inbox : List ℕ) (len : ℕ) → FloatsFit s → updateOf s delta seconds inbox len .reply .refusal ≡ 0
+    → Good (updateOf s delta seconds inbox len .reply .session)
 update-good s delta seconds inbox len f =
     update-by-ways {P = λ a. a .reply .refusal ≡ 0 → Good (a .reply .session)} s delta seconds inbox len
     (record {
       refuses = λ n k e. refused-not n s len k e;
-      syncs = λ j w e. record { sound = synced-sound s delta seconds inbox (given j) (without-worlds (s .stage) w); fit = synced-fit s delta seconds inbox (given j) };
+      syncs = λ j w e. record
+          { sound = synced-sound s delta seconds inbox (given j) (without-worlds (s .stage) w); fit = synced-fit s delta seconds inbox (given j) };
       plays = λ j w d ok e. accepted-good s delta seconds inbox (given j) (λ z. not-false (sym w ∙ ap hasWorlds z)) (requestOf s delta) len d ok;
     })
   where
@@ -253,7 +261,8 @@ update-back s delta seconds inbox len =
     (record { refuses = λ n k. refused-back n s len; syncs = λ j w. accepted refl; plays = λ j w d ok. accepted refl })
 
 -- what the types say of the session goes on holding, refused or not
-pub update-fits : (s : Session) (delta seconds : Float) (inbox : List ℕ) (len : ℕ) → FloatsFit s → FloatsFit (updateOf s delta seconds inbox len .reply .session)
+pub update-fits : (s : Session) (delta seconds : Float) (inbox : List ℕ) (len : ℕ) → FloatsFit s
+    → FloatsFit (updateOf s delta seconds inbox len .reply .session)
 update-fits s delta seconds inbox len f = go (update-back s delta seconds inbox len)
   where
     go : Back s (updateOf s delta seconds inbox len) → FloatsFit (updateOf s delta seconds inbox len .reply .session)
@@ -261,7 +270,8 @@ update-fits s delta seconds inbox len f = go (update-back s delta seconds inbox 
     go (handed-back e) = subst FloatsFit (sym e) f
 
 -- a sound session is followed by a sound one, refused or not
-pub update-stays-sound : (s : Session) (delta seconds : Float) (inbox : List ℕ) (len : ℕ) → FloatsFit s → soundOf s ≡ true → soundOf (updateOf s delta seconds inbox len .reply .session) ≡ true
+pub update-stays-sound : (s : Session) (delta seconds : Float) (inbox : List ℕ) (len : ℕ) → FloatsFit s → soundOf s ≡ true
+    → soundOf (updateOf s delta seconds inbox len .reply .session) ≡ true
 update-stays-sound s delta seconds inbox len f h = go (update-back s delta seconds inbox len)
   where
     go : Back s (updateOf s delta seconds inbox len) → soundOf (updateOf s delta seconds inbox len .reply .session) ≡ true
@@ -270,7 +280,8 @@ update-stays-sound s delta seconds inbox len f h = go (update-back s delta secon
 
 -- ---- issue
 
-received-good : (s : Session) (h : ℕ) → h < handleRoom → soundOf s ≡ true → soundOf (withWorldsOf s (receivedOf (sceneOf s) (entryOf s h) .scene .worlds)) ≡ true
+received-good : (s : Session) (h : ℕ) → h < handleRoom → soundOf s ≡ true
+    → soundOf (withWorldsOf s (receivedOf (sceneOf s) (entryOf s h) .scene .worlds)) ≡ true
 received-good s h i k =
     let f = sound-facts s k in
     let w = receivedOf (sceneOf s) (entryOf s h) .scene .worlds in

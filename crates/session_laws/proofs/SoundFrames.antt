@@ -1,4 +1,5 @@
--- Worlds stay sound through a frame, a skip and what every update ends with. The weight moves in Blending alone, and there the stamps stay equal: the old world steps once, and the new one once after it. Assumes nothing.
+-- Worlds stay sound through a frame, a skip and what every update ends with. The weight moves in Blending alone, and there the stamps stay equal: the old world
+-- steps once, and the new one once after it. Assumes nothing.
 use mathlib.Core.Path.{_≡_, refl, sym, ap, _∙_, subst}
 use mathlib.Core.Bool.{Bool, true, false, cond}
 use Prim.Native.Nat.{ℕ, zero, suc, _+_, _-_, _*_, _%_, _<_, _≤_}
@@ -36,7 +37,10 @@ use Rattle.fixed_timestepper.proofs.Induction.{Updates, both-by, AllMoves}
 use Rattle.client_frame.specs.declared.Rules.{Rules}
 use Rattle.client_skip.specs.Skip.{resetSide, resetAlong, skipsBack, emptiedBase, resetBoth, skippedOf}
 use Rattle.client_publish.specs.Ending.{postUpdateOf}
-use Rattle.session_laws.proofs.SoundWorlds.{Kept, Weighed, is-nought, is-even, side-sound, old-at-old, new-at-old, new-at-new, old-at-new, put-old-side, weighed-as, base-kept, base-weighed, published-kept, published-weighed, weight-kept, weight-weighed, done-worlds, done-kept, done-weight, step-init, step-sound, step-stamp, reset-init, reset-sound, reset-stamp, loaded-kept, loaded-weighed}
+use Rattle.session_laws.proofs.SoundWorlds.{Kept, Weighed, is-nought, is-even, side-sound, old-at-old, new-at-old, new-at-new, old-at-new, put-old-side}
+use Rattle.session_laws.proofs.SoundWorlds.{weighed-as, base-kept, base-weighed, published-kept, published-weighed, weight-kept, weight-weighed}
+use Rattle.session_laws.proofs.SoundWorlds.{done-worlds, done-kept, done-weight, step-init, step-sound, step-stamp, reset-init, reset-sound, reset-stamp}
+use Rattle.session_laws.proofs.SoundWorlds.{loaded-kept, loaded-weighed}
 
 -- ---- the buffers, the queued snapshot and the initialisation
 
@@ -141,7 +145,8 @@ caught-one m o s e =
     ∙ ap (λ (p : Played). p .scene) (caught-there m o t a (omega arith))
 
 -- equal stamps are equal after the steps of a frame
-simulated-even : (m : ℕ) (s : Scene) → oldStampOf (s .worlds) .0 ≡ newStampOf (s .worlds) .0 → oldStampOf (simulatedOf (suc m) s .scene .worlds) .0 ≡ newStampOf (simulatedOf (suc m) s .scene .worlds) .0
+simulated-even : (m : ℕ) (s : Scene) → oldStampOf (s .worlds) .0 ≡ newStampOf (s .worlds) .0
+    → oldStampOf (simulatedOf (suc m) s .scene .worlds) .0 ≡ newStampOf (simulatedOf (suc m) s .scene .worlds) .0
 unfolding simulatedOf andThen
 simulated-even m s e =
     let t = steppedSide s (oldSideOf (s .worlds)) .scene in
@@ -150,20 +155,23 @@ simulated-even m s e =
     let b : newStampOf (t .worlds) .0 ≡ newStampOf (s .worlds) .0 = ap (λ (x : Timestamp). x .0) (new-stepped-old s) in
     let c : o .0 ≡ sumOf (newStampOf (t .worlds) .0) 1 = a ∙ ap (λ (x : ℕ). sumOf x 1) (e ∙ sym b) in
     let d : caughtOf (suc m) o t .scene ≡ steppedNew t .scene = caught-one m o t c in
-    ap (λ (u : Scene). oldStampOf (u .worlds) .0) d ∙ ap (λ (x : Timestamp). x .0) (old-stepped-new t) ∙ c ∙ sym (ap (λ (x : Timestamp). x .0) (new-stepped-new t)) ∙ sym (ap (λ (u : Scene). newStampOf (u .worlds) .0) d)
+    ap (λ (u : Scene). oldStampOf (u .worlds) .0) d ∙ ap (λ (x : Timestamp). x .0) (old-stepped-new t) ∙ c
+    ∙ sym (ap (λ (x : Timestamp). x .0) (new-stepped-new t)) ∙ sym (ap (λ (u : Scene). newStampOf (u .worlds) .0) d)
 
 -- ---- the weight
 
 -- the steps of worlds leave it
 weight-steps : Steps (Same (λ (w : ClientWorldSimulations). w .weight)) 0
 unfolding steppedSide
-weight-steps = record { chains = same-chains (λ (w : ClientWorldSimulations). w .weight); steps = λ s side l. done-weight s side (stepOf (worldOf (s .worlds) side) side); counts = λ s. refl }
+weight-steps =
+    record { chains = same-chains (λ (w : ClientWorldSimulations). w .weight); steps = λ s side l. done-weight s side (stepOf (worldOf (s .worlds) side) side); counts = λ s. refl }
 
 simulated-weighed : (m : ℕ) (s : Scene) → 1 ≤ m → Weighed (s .worlds) → Weighed (simulatedOf m s .scene .worlds)
 simulated-weighed zero s l h = absurd (omega arith)
 simulated-weighed (suc m) s l (is-nought h) = is-nought (subst (λ (t : Float). T (eq t zero64)) (sym (simulated-by weight-steps (suc m) s)) h)
 simulated-weighed (suc m) s l (is-even e a b) =
-    is-even (simulated-even m s e) (subst (λ (t : Float). T (le zero64 t)) (sym (simulated-by weight-steps (suc m) s)) a) (subst (λ (t : Float). T (le t one64)) (sym (simulated-by weight-steps (suc m) s)) b)
+    is-even (simulated-even m s e) (subst (λ (t : Float). T (le zero64 t)) (sym (simulated-by weight-steps (suc m) s)) a)
+    (subst (λ (t : Float). T (le t one64)) (sym (simulated-by weight-steps (suc m) s)) b)
 
 -- in Blending the stamps are equal
 blending-by : (a l v q : Bool) (t u : Float) → statusBy a l v q t ≡ Blending u → a ≡ true
@@ -175,7 +183,8 @@ blending-by false l false false t u e = absurd (let z : _≡_ {A = ℕ} 0 1 = cc
 blending-even : (w : ClientWorldSimulations) (u : Float) → statusOf w ≡ Blending u → oldStampOf w .0 ≡ newStampOf w .0
 unfolding statusOf
 blending-even w u e =
-    sym (eqb-true (newStampOf w .0) (oldStampOf w .0) (blending-by (eqb (newStampOf w .0) (oldStampOf w .0)) (lt (w .weight) one64) (overshotOf (newStampOf w) (oldStampOf w)) (newerOf (w .snapshots .queued) (newStampOf w)) (w .weight) u e))
+    sym (eqb-true (newStampOf w .0) (oldStampOf w .0) (blending-by (eqb (newStampOf w .0) (oldStampOf w .0)) (lt (w .weight) one64)
+    (overshotOf (newStampOf w) (oldStampOf w)) (newerOf (w .snapshots .queued) (newStampOf w)) (w .weight) u e))
 
 -- a weight is from 0 to 1
 nought-low : (x : Float) → T (eq x zero64) → T (le zero64 x) × T (le x one64)
@@ -197,10 +206,12 @@ weighed-unit w (is-even e a b) = (a, b)
 unit-within : (x : Float) → T (le zero64 x) → T (le x one64) → Within x 1
 unfolding le
 unit-within x a b =
-    within-of-tests x (fin true 1 (pos 0)) one64 1 (between-finite zero64 x one64 tt tt a b) (refl, refl) (refl, refl) (float-le-trans (fin true 1 (pos 0)) zero64 x tt a) b
+    within-of-tests x (fin true 1 (pos 0)) one64 1 (between-finite zero64 x one64 tt tt a b) (refl, refl) (refl, refl)
+    (float-le-trans (fin true 1 (pos 0)) zero64 x tt a) b
 
 -- moved on by a progress within 1,024 it is from 0 to 1
-clamped-unit : (x p : Float) → T (le zero64 x) → T (le x one64) → Within p 1024 → T (le zero64 (clampedOf (add binary64 x p))) × T (le (clampedOf (add binary64 x p)) one64)
+clamped-unit : (x p : Float) → T (le zero64 x) → T (le x one64) → Within p 1024
+    → T (le zero64 (clampedOf (add binary64 x p))) × T (le (clampedOf (add binary64 x p)) one64)
 clamped-unit x p a b h = clamp-unit (add binary64 x p) (add-within x p 1 1024 (lit< tt) (unit-within x a b) h .0)
 
 -- a reset of the new world to the old stamp
@@ -208,14 +219,17 @@ reset-new-weighed : (s : Scene) → Weighed (s .worlds) → Weighed (resetNew s 
 unfolding resetNew
 reset-new-weighed s h = go h
   where
-    go : Weighed (s .worlds) → Weighed (doneAt s (newSideOf (s .worlds)) (resetOf (worldOf (s .worlds) (newSideOf (s .worlds))) (oldStampOf (s .worlds)) (newSideOf (s .worlds))) .scene .worlds)
+    go : Weighed (s .worlds) → Weighed (doneAt s (newSideOf (s .worlds))
+        (resetOf (worldOf (s .worlds) (newSideOf (s .worlds))) (oldStampOf (s .worlds)) (newSideOf (s .worlds))) .scene .worlds)
     go (is-nought z) = is-nought (subst (λ (t : Float). T (eq t zero64)) (sym (done-weight s _ _)) z)
     go (is-even e a b) =
         let side = newSideOf (s .worlds) in
         let d = resetOf (worldOf (s .worlds) side) (oldStampOf (s .worlds)) side in
         let o = ap oldStampOf (done-worlds s side d) ∙ old-at-new (s .worlds) (d .world) in
-        let n = ap newStampOf (done-worlds s side d) ∙ new-at-new (s .worlds) (d .world) ∙ reset-stamp (worldOf (s .worlds) side) (oldStampOf (s .worlds)) side in
-        is-even (ap (λ (x : Timestamp). x .0) (o ∙ sym n)) (subst (λ (t : Float). T (le zero64 t)) (sym (done-weight s side d)) a) (subst (λ (t : Float). T (le t one64)) (sym (done-weight s side d)) b)
+        let n = ap newStampOf (done-worlds s side d) ∙ new-at-new (s .worlds) (d .world)
+        ∙ reset-stamp (worldOf (s .worlds) side) (oldStampOf (s .worlds)) side in
+        is-even (ap (λ (x : Timestamp). x .0) (o ∙ sym n)) (subst (λ (t : Float). T (le zero64 t)) (sym (done-weight s side d)) a)
+        (subst (λ (t : Float). T (le t one64)) (sym (done-weight s side d)) b)
 
 -- a weight that moves on
 blended-weighed : (s : Scene) (p t : Float) → Within p 1024 → statusOf (s .worlds) ≡ Blending t → Weighed (s .worlds) → Weighed (blendedOn s p .worlds)
@@ -242,13 +256,15 @@ weighed-parts rules l i =
 -- the new world goes along where the stamps are equal: the side of each world stays, and the new stamp is t
 along-even : (s : Scene) (t : Timestamp) → oldStampOf (s .worlds) .0 ≡ newStampOf (s .worlds) .0 → resetAlong s t ≡ resetSide s (newSideOf (s .worlds)) t
 unfolding resetAlong
-along-even s t e = ap (λ (b : Bool). cond b (resetSide s (newSideOf (s .worlds)) t) (still s)) (eq-eqb (newStampOf (s .worlds) .0) (oldStampOf (s .worlds) .0) (sym e))
+along-even s t e = ap (λ (b : Bool). cond b (resetSide s (newSideOf (s .worlds)) t) (still s))
+    (eq-eqb (newStampOf (s .worlds) .0) (oldStampOf (s .worlds) .0) (sym e))
 
 both-weight : (s : Scene) (t : Timestamp) → resetBoth s t .scene .worlds .weight ≡ s .worlds .weight
 both-weight s t = both-by {reset = 0} (weight-steps .chains) (λ u side x l. done-weight u side (resetOf (worldOf (u .worlds) side) x side)) s t
 
 -- equal stamps are both t after it
-both-even : (s : Scene) (t : Timestamp) → oldStampOf (s .worlds) .0 ≡ newStampOf (s .worlds) .0 → oldStampOf (resetBoth s t .scene .worlds) ≡ newStampOf (resetBoth s t .scene .worlds)
+both-even : (s : Scene) (t : Timestamp) → oldStampOf (s .worlds) .0 ≡ newStampOf (s .worlds) .0
+    → oldStampOf (resetBoth s t .scene .worlds) ≡ newStampOf (resetBoth s t .scene .worlds)
 unfolding resetBoth andThen resetSide
 both-even s t e =
     let n = newSideOf (s .worlds) in
@@ -261,14 +277,16 @@ both-even s t e =
     let c : resetSide (resetAlong s t .scene) (oldSideOf (s .worlds)) t .scene ≡ doneAt u o f .scene =
     ap (λ (p : Played). resetSide (p .scene) (oldSideOf (s .worlds)) t .scene) a ∙ ap (λ (x : ℕ). doneAt u x (resetOf (worldOf (u .worlds) x) t x) .scene) b in
     let x : newStampOf (u .worlds) ≡ t = ap newStampOf (done-worlds s n d) ∙ new-at-new (s .worlds) (d .world) ∙ reset-stamp (worldOf (s .worlds) n) t n in
-    let y : oldStampOf (doneAt u o f .scene .worlds) ≡ t = ap oldStampOf (done-worlds u o f) ∙ old-at-old (u .worlds) (f .world) ∙ reset-stamp (worldOf (u .worlds) o) t o in
+    let y : oldStampOf (doneAt u o f .scene .worlds) ≡ t = ap oldStampOf (done-worlds u o f) ∙ old-at-old (u .worlds) (f .world)
+    ∙ reset-stamp (worldOf (u .worlds) o) t o in
     let z : newStampOf (doneAt u o f .scene .worlds) ≡ t = ap newStampOf (done-worlds u o f) ∙ new-at-old (u .worlds) (f .world) ∙ x in
     ap (λ (v : Scene). oldStampOf (v .worlds)) c ∙ y ∙ sym z ∙ sym (ap (λ (v : Scene). newStampOf (v .worlds)) c)
 
 both-weighed : (s : Scene) (t : Timestamp) → Weighed (s .worlds) → Weighed (resetBoth s t .scene .worlds)
 both-weighed s t (is-nought h) = is-nought (subst (λ (x : Float). T (eq x zero64)) (sym (both-weight s t)) h)
 both-weighed s t (is-even e a b) =
-    is-even (ap (λ (x : Timestamp). x .0) (both-even s t e)) (subst (λ (x : Float). T (le zero64 x)) (sym (both-weight s t)) a) (subst (λ (x : Float). T (le x one64)) (sym (both-weight s t)) b)
+    is-even (ap (λ (x : Timestamp). x .0) (both-even s t e)) (subst (λ (x : Float). T (le zero64 x)) (sym (both-weight s t)) a)
+    (subst (λ (x : Float). T (le x one64)) (sym (both-weight s t)) b)
 
 emptied-base-weighed : (b : Bool) (s : Scene) → Weighed (s .worlds) → Weighed (emptiedBase b s .worlds)
 emptied-base-weighed true s k = base-weighed (s .worlds) (emptiedOf (s .worlds .base)) k

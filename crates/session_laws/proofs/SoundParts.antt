@@ -43,7 +43,8 @@ use Rattle.client.specs.declared.ClientWorldSimulations.{ClientWorldSimulations
 use Rattle.client.specs.declared.Received.{Received}
 use Rattle.client.specs.Sides.{newSideOf, oldSideOf, worldOf, oldStampOf, newStampOf}
 use Rattle.session_laws.specs.Soundness.{FloatsFit}
-use Rattle.session_laws.proofs.SoundWorlds.{SmallQueued, InitOrder, Kept, Weighed, is-nought, is-even, received-kept, received-weighed, noted-kept, noted-weighed}
+use Rattle.session_laws.proofs.SoundWorlds.{SmallQueued, InitOrder, Kept, Weighed, is-nought, is-even, received-kept, received-weighed, noted-kept}
+use Rattle.session_laws.proofs.SoundWorlds.{noted-weighed}
 use Rattle.session_laws.proofs.SoundFrames.{weighed-unit}
 use Rattle.session_laws.proofs.SoundRuns.{InStep}
 use Rattle.session_state.specs.declared.Session.{Session}
@@ -68,7 +69,8 @@ unfolding weightSound
 weight-tells w h = go (eqb (oldStampOf w .0) (newStampOf w .0)) (eqb-true (oldStampOf w .0) (newStampOf w .0)) h
   where
     go : (b : Bool) → (b ≡ true → oldStampOf w .0 ≡ newStampOf w .0) → cond b (between zero64 one64 (w .weight)) (eq (w .weight) zero64) ≡ true → Weighed w
-    go true e i = let a = apart (le zero64 (w .weight)) (le (w .weight) one64) i in is-even (e refl) (holds-true (le zero64 (w .weight)) (a .0)) (holds-true (le (w .weight) one64) (a .1))
+    go true e i = let a = apart (le zero64 (w .weight)) (le (w .weight) one64) i in
+        is-even (e refl) (holds-true (le zero64 (w .weight)) (a .0)) (holds-true (le (w .weight) one64) (a .1))
     go false e i = is-nought (holds-true (eq (w .weight) zero64) i)
 
 weight-holds : (w : ClientWorldSimulations) → Weighed w → weightSound w ≡ true
@@ -84,7 +86,8 @@ weight-holds w h = by h
 
     by : Weighed w → cond (eqb (oldStampOf w .0) (newStampOf w .0)) (between zero64 one64 (w .weight)) (eq (w .weight) zero64) ≡ true
     by (is-nought i) = go (eqb (oldStampOf w .0) (newStampOf w .0)) i
-    by (is-even e a b) = ap (λ (x : Bool). cond x (between zero64 one64 (w .weight)) (eq (w .weight) zero64)) (eq-eqb (oldStampOf w .0) (newStampOf w .0) e) ∙ unit
+    by (is-even e a b) = ap (λ (x : Bool). cond x (between zero64 one64 (w .weight)) (eq (w .weight) zero64))
+        (eq-eqb (oldStampOf w .0) (newStampOf w .0) e) ∙ unit
 
 implied : (a b : Bool) → cond a b true ≡ true → a ≡ true → b ≡ true
 implied true b h e = h
@@ -98,7 +101,8 @@ init-tells : (w : ClientWorldSimulations) → initSound w ≡ true → InitOrder
 unfolding initSound worldOf oldSideOf newSideOf
 init-tells w h = go (eqb (w .new) 0) h
   where
-    go : (b : Bool) → cond (cond (eqb (cond b 1 0) 0) (w .left) (w .right) .init) (cond (eqb (cond b 0 1) 0) (w .left) (w .right) .init) true ≡ true → InitOrder b (w .left .init) (w .right .init)
+    go : (b : Bool) → cond (cond (eqb (cond b 1 0) 0) (w .left) (w .right) .init) (cond (eqb (cond b 0 1) 0) (w .left) (w .right) .init) true ≡ true
+        → InitOrder b (w .left .init) (w .right .init)
     go true i = implied (w .right .init) (w .left .init) i
     go false i = implied (w .left .init) (w .right .init) i
 
@@ -106,7 +110,8 @@ init-holds : (w : ClientWorldSimulations) → InitOrder (eqb (w .new) 0) (w .lef
 unfolding initSound worldOf oldSideOf newSideOf
 init-holds w h = go (eqb (w .new) 0) h
   where
-    go : (b : Bool) → InitOrder b (w .left .init) (w .right .init) → cond (cond (eqb (cond b 1 0) 0) (w .left) (w .right) .init) (cond (eqb (cond b 0 1) 0) (w .left) (w .right) .init) true ≡ true
+    go : (b : Bool) → InitOrder b (w .left .init) (w .right .init)
+        → cond (cond (eqb (cond b 1 0) 0) (w .left) (w .right) .init) (cond (eqb (cond b 0 1) 0) (w .left) (w .right) .init) true ≡ true
     go true i = implies (w .right .init) (w .left .init) i
     go false i = implies (w .left .init) (w .right .init) i
 
@@ -129,7 +134,8 @@ worlds-tell w h =
 pub worlds-hold : (w : ClientWorldSimulations) → Kept w → Weighed w → worldsSound w ≡ true
 unfolding worldsSound buffersSound
 worlds-hold w k h =
-    both (both (k .left) (both (k .right) (k .base))) (both (queued-holds (w .snapshots .queued) (k .queued)) (both (weight-holds w h) (init-holds w (k .init))))
+    both (both (k .left) (both (k .right) (k .base))) (both (queued-holds (w .snapshots .queued) (k .queued))
+    (both (weight-holds w h) (init-holds w (k .init))))
 
 -- ---- a sound session
 
@@ -164,7 +170,8 @@ sound-facts s h =
       connected = d .0;
       kept = v .0;
       weighed = v .1;
-      overshoot = record { number = between-finite zero64 (s .overshoot) (s .settings .timestep) tt (timestep-within (s .settings) (a .0) .number) lo hi; low = lo; high = hi };
+      overshoot =
+          record { number = between-finite zero64 (s .overshoot) (s .settings .timestep) tt (timestep-within (s .settings) (a .0) .number) lo hi; low = lo; high = hi };
     }
 
 pub facts-sound : (s : Session) → SoundFacts s → soundOf s ≡ true
@@ -188,15 +195,18 @@ times-within delta seconds h =
     let dh = holds-true (le delta (fin false 225 (pos 4))) (d .1) in
     let sl = holds-true (le (fin true 1 (pos 32)) seconds) (s .0) in
     let sh = holds-true (le seconds (fin false 1 (pos 32))) (s .1) in (
-      within-of-tests delta (fin true 225 (pos 4)) (fin false 225 (pos 4)) 3600 (between-finite (fin true 225 (pos 4)) delta (fin false 225 (pos 4)) tt tt dl dh) (refl, refl) (refl, refl) dl dh,
-      within-of-tests seconds (fin true 1 (pos 32)) (fin false 1 (pos 32)) (2 ^ 32) (between-finite (fin true 1 (pos 32)) seconds (fin false 1 (pos 32)) tt tt sl sh) (refl, refl) (refl, refl) sl sh,
+      within-of-tests delta (fin true 225 (pos 4)) (fin false 225 (pos 4)) 3600
+          (between-finite (fin true 225 (pos 4)) delta (fin false 225 (pos 4)) tt tt dl dh) (refl, refl) (refl, refl) dl dh,
+      within-of-tests seconds (fin true 1 (pos 32)) (fin false 1 (pos 32)) (2 ^ 32)
+          (between-finite (fin true 1 (pos 32)) seconds (fin false 1 (pos 32)) tt tt sl sh) (refl, refl) (refl, refl) sl sh,
     )
 
 time-within : (x : Float) → T (timeOk x) → Within x (2 ^ 32)
 time-within x h =
     let l = and-l (le (fin true 1 (pos 32)) x) (le x (fin false 1 (pos 32))) h in
     let u = and-r (le (fin true 1 (pos 32)) x) (le x (fin false 1 (pos 32))) h in
-    within-of-tests x (fin true 1 (pos 32)) (fin false 1 (pos 32)) (2 ^ 32) (between-finite (fin true 1 (pos 32)) x (fin false 1 (pos 32)) tt tt l u) (refl, refl) (refl, refl) l u
+    within-of-tests x (fin true 1 (pos 32)) (fin false 1 (pos 32)) (2 ^ 32) (between-finite (fin true 1 (pos 32)) x (fin false 1 (pos 32)) tt tt l u)
+    (refl, refl) (refl, refl) l u
 
 -- ---- the clock messages of an inbox
 
@@ -236,7 +246,8 @@ ticked-samples : (c : ClockState) (period delta : Float) → tickedOf c period d
 unfolding tickedOf
 ticked-samples c period delta = go (lt period (add binary64 (c .timer) delta)) (add binary64 (c .timer) delta)
   where
-    go : (b : Bool) (t : Float) → cond {A = Ticked} b (record { clock = timedOf c zero64; request = true }) (record { clock = timedOf c t; request = false }) .clock .samples ≡ c .samples
+    go : (b : Bool) (t : Float) → cond {A = Ticked} b (record { clock = timedOf c zero64; request = true })
+        (record { clock = timedOf c t; request = false }) .clock .samples ≡ c .samples
     go true t = refl
     go false t = refl
 
@@ -251,7 +262,8 @@ filled-slots : (s : Settings) (c : ClockState) (xs : List Float) → length xs �
 unfolding filledOf
 filled-slots s c xs h = go (ltb (length xs) (samplesToStoreOf s))
   where
-    go : (b : Bool) → length (cond {A = ClockState} b (sampledOf c (c .offset) xs) (sampledOf c (offsetAfter (c .offset) (meanOf (samplesToDiscardOf s) xs) (s .deviation)) (drop 1 xs)) .samples) ≡ 64
+    go : (b : Bool) → length (cond {A = ClockState} b (sampledOf c (c .offset) xs)
+        (sampledOf c (offsetAfter (c .offset) (meanOf (samplesToDiscardOf s) xs) (s .deviation)) (drop 1 xs)) .samples) ≡ 64
     go true = laid-slots xs h
     go false = laid-slots (drop 1 xs) (simp length-drop (omega arith))
 
@@ -267,7 +279,8 @@ settled-slots s c h e = go (h .offset)
 
 module _ (s : Session) (delta seconds : Float) (inbox : List ℕ) where
   -- it is sound
-  pub clock-after-sound : FloatsFit s → passesOf (s .settings) ≡ true → timesOk delta seconds ≡ true → soundClock (s .settings) (s .clock) ≡ true → soundClock (s .settings) (clockAfter s delta seconds inbox) ≡ true
+  pub clock-after-sound : FloatsFit s → passesOf (s .settings) ≡ true → timesOk delta seconds ≡ true → soundClock (s .settings) (s .clock) ≡ true
+      → soundClock (s .settings) (clockAfter s delta seconds inbox) ≡ true
   unfolding heardIn
   clock-after-sound f pass ok h =
       let t = times-within delta seconds ok in
@@ -279,7 +292,8 @@ module _ (s : Session) (delta seconds : Float) (inbox : List ℕ) where
   clock-after-timer = clock-timer-fits (s .settings) (s .clock) delta (heardIn seconds inbox (listenOf (s .clock)))
 
   pub clock-after-slots : length (s .clock .samples) ≡ 64 → length (clockAfter s delta seconds inbox .samples) ≡ 64
-  clock-after-slots e = settled-slots (s .settings) (tickedOf (s .clock) (s .settings .period) delta .clock) (heardIn seconds inbox (listenOf (s .clock))) (ap length (ticked-samples (s .clock) (s .settings .period) delta) ∙ e)
+  clock-after-slots e = settled-slots (s .settings) (tickedOf (s .clock) (s .settings .period) delta .clock)
+      (heardIn seconds inbox (listenOf (s .clock))) (ap length (ticked-samples (s .clock) (s .settings .period) delta) ∙ e)
 
   -- what is heard knows the client's number where the clock did, and where there is an offset
   known : Known (hasId (s .clock .id)) (heardIn seconds inbox (listenOf (s .clock)))
@@ -294,22 +308,27 @@ module _ (s : Session) (delta seconds : Float) (inbox : List ℕ) where
       ready-stays (s .settings) (s .clock) delta (heardIn seconds inbox (listenOf (s .clock))) h (known .kept (ready-id (s .clock .offset) (s .clock .id) h))
 
   -- the first offset comes with an id
-  pub clock-after-first : s .clock .offset ≡ NoOffset → hasOffset (clockAfter s delta seconds inbox .offset) ≡ true → readyOf (clockAfter s delta seconds inbox) ≡ true
+  pub clock-after-first : s .clock .offset ≡ NoOffset → hasOffset (clockAfter s delta seconds inbox .offset) ≡ true
+      → readyOf (clockAfter s delta seconds inbox) ≡ true
   clock-after-first e h = first-offset-ready (s .settings) (s .clock) delta (heardIn seconds inbox (listenOf (s .clock))) e (known .brought) h
 
 -- the server's time with the lag is within 2^34
-pub server-within : (c : Settings) (o : Offset) (seconds : Float) → passesOf c ≡ true → Within seconds (2 ^ 32) → offsetOk o ≡ true → Within (add binary64 (serverTimeBy (serverSecondsOf o seconds) seconds) (c .lag)) (2 ^ 34)
+pub server-within : (c : Settings) (o : Offset) (seconds : Float) → passesOf c ≡ true → Within seconds (2 ^ 32) → offsetOk o ≡ true
+    → Within (add binary64 (serverTimeBy (serverSecondsOf o seconds) seconds) (c .lag)) (2 ^ 34)
 unfolding le
 server-within c o seconds pass w ok = go o ok
   where
     lag : Within (c .lag) 60
     lag =
         let l = lag-within c pass in
-        within-of-tests (c .lag) (fin true 15 (pos 2)) (fin false 15 (pos 2)) 60 (l .number) (refl, refl) (refl, refl) (float-le-trans (fin true 15 (pos 2)) zero64 (c .lag) tt (l .low)) (l .high)
+        within-of-tests (c .lag) (fin true 15 (pos 2)) (fin false 15 (pos 2)) 60 (l .number) (refl, refl) (refl, refl)
+        (float-le-trans (fin true 15 (pos 2)) zero64 (c .lag) tt (l .low)) (l .high)
 
     go : (o : Offset) → offsetOk o ≡ true → Within (add binary64 (serverTimeBy (serverSecondsOf o seconds) seconds) (c .lag)) (2 ^ 34)
     go NoOffset k = within-widen (add binary64 seconds (c .lag)) (2 ^ 32 + 60) (2 ^ 34) (lit≤ tt) (add-within seconds (c .lag) (2 ^ 32) 60 (lit< tt) w lag)
-    go (Seconds x) k = within-widen (add binary64 (add binary64 seconds x) (c .lag)) (2 ^ 32 + 2 ^ 33 + 60) (2 ^ 34) (lit≤ tt) (add-within (add binary64 seconds x) (c .lag) (2 ^ 32 + 2 ^ 33) 60 (lit< tt) (add-within seconds x (2 ^ 32) (2 ^ 33) (lit< tt) w (sample-within x k)) lag)
+    go (Seconds x) k = within-widen (add binary64 (add binary64 seconds x) (c .lag)) (2 ^ 32 + 2 ^ 33 + 60) (2 ^ 34) (lit≤ tt)
+        (add-within (add binary64 seconds x) (c .lag) (2 ^ 32 + 2 ^ 33) 60 (lit< tt)
+        (add-within seconds x (2 ^ 32) (2 ^ 33) (lit< tt) w (sample-within x k)) lag)
 
 -- ---- what arrives
 
@@ -352,7 +371,8 @@ scene-after-kept s inbox k =
     let ms = messagesOf inbox in
     let b = messages-bounded inbox in
     let r : Received = unreceived s in
-    over-keeps Kept noteOne note-kept (over receiveOne r ms .scene .worlds) ms b (over-keeps (λ (x : Received). Kept (x .scene .worlds)) receiveOne receive-kept r ms b k)
+    over-keeps Kept noteOne note-kept (over receiveOne r ms .scene .worlds) ms b
+    (over-keeps (λ (x : Received). Kept (x .scene .worlds)) receiveOne receive-kept r ms b k)
 
 pub scene-after-weighed : (s : Session) (inbox : List ℕ) → Weighed (s .worlds) → Weighed (sceneAfter s inbox .worlds)
 unfolding receivedIn notedIn
@@ -360,4 +380,5 @@ scene-after-weighed s inbox k =
     let ms = messagesOf inbox in
     let b = messages-bounded inbox in
     let r : Received = unreceived s in
-    over-keeps Weighed noteOne note-weighed (over receiveOne r ms .scene .worlds) ms b (over-keeps (λ (x : Received). Weighed (x .scene .worlds)) receiveOne receive-weighed r ms b k)
+    over-keeps Weighed noteOne note-weighed (over receiveOne r ms .scene .worlds) ms b
+    (over-keeps (λ (x : Received). Weighed (x .scene .worlds)) receiveOne receive-weighed r ms b k)

@@ -1,4 +1,5 @@
--- The frames of an update: worlds stay sound through them, a skip and what every update ends with, and an update that ends by itself leaves an overshoot from 0 to the timestep. Assumes nothing.
+-- The frames of an update: worlds stay sound through them, a skip and what every update ends with, and an update that ends by itself leaves an overshoot from 0
+-- to the timestep. Assumes nothing.
 use mathlib.Core.Path.{_≡_, refl, sym, subst}
 use mathlib.Core.Logic.{_⊎_, inl, inr}
 use mathlib.Core.Bool.{Bool, true, false, not, cond}
@@ -29,7 +30,8 @@ use Rattle.session_laws.proofs.SoundWorlds.{Kept, Weighed}
 use Rattle.session_laws.proofs.SoundFrames.{kept-moves, weighed-updates}
 use Rattle.refusals.specs.declared.Stop.{Stop}
 use Rattle.refusals.specs.declared.Stop.the-variants.{Done, TooManyFrames, StatusStops}
-use Rattle.fixed_timestepper.specs.TimeKeeper.{atLeastZero, driftOf, beyondDeadband, uncappedOf, compensatedOf, Run, framed, skipsOf, skipped, maybeSkipped, skippedBy, unendedOf, advancedOf, updatedOf}
+use Rattle.fixed_timestepper.specs.TimeKeeper.{atLeastZero, driftOf, beyondDeadband, uncappedOf, compensatedOf, Run, framed, skipsOf, skipped, maybeSkipped}
+use Rattle.fixed_timestepper.specs.TimeKeeper.{skippedBy, unendedOf, advancedOf, updatedOf}
 use Rattle.fixed_timestepper.proofs.Induction.{Runs, run-by, updated-by, moves-by}
 use Rattle.session_laws.proofs.SoundSkips.{corrected-in}
 
@@ -46,14 +48,16 @@ module _ (c : Settings) (pass : passesOf c ≡ true) where
   progress-within =
       let t = timestep-within c pass in
       let b = blend-within c pass in
-      let w : Within (c .timestep) 1 = within-of-tests (c .timestep) (fin true 1 (pos 0)) one64 1 (t .number) (refl, refl) (refl, refl) (float-le-trans (fin true 1 (pos 0)) least64 (c .timestep) tt (t .low)) (t .high) in
+      let w : Within (c .timestep) 1 = within-of-tests (c .timestep) (fin true 1 (pos 0)) one64 1 (t .number) (refl, refl) (refl, refl)
+      (float-le-trans (fin true 1 (pos 0)) least64 (c .timestep) tt (t .low)) (t .high) in
       div-least-within (c .timestep) (c .blend) 1 (lit< tt) w (b .number) (b .low)
 
   -- the update maximum is finite
   pub max-finite : T (fits binary64 (c .timestep)) → T (finite (c .max))
   max-finite f =
       let m = max-tests c pass in
-      between-finite zero64 (c .max) (mul binary64 sixtyFour64 (c .timestep)) tt (has-value-finite (mul binary64 sixtyFour64 (c .timestep)) false _ _ (sixty-four-exact (c .timestep) f (timestep-within c pass))) (m .0) (m .1)
+      between-finite zero64 (c .max) (mul binary64 sixtyFour64 (c .timestep)) tt
+      (has-value-finite (mul binary64 sixtyFour64 (c .timestep)) false _ _ (sixty-four-exact (c .timestep) f (timestep-within c pass))) (m .0) (m .1)
 
 -- ---- the seconds that an update plays
 
@@ -94,9 +98,11 @@ cap max u p l (inr e) =
     subst (λ (v : Float). Capped max (cond (lt max v) max v)) (sym e)
     (subst (λ (b : Bool). Capped max (cond b max (inf false))) (sym (below-infinity max p)) (record { number = p; low = l; high = le-self max p }))
 
-pub compensated-capped : (stamp : Timestamp) (o delta server : Float) (c : Settings) → T (finite (c .max)) → T (le zero64 (c .max)) → Capped (c .max) (compensatedOf stamp o delta server c)
+pub compensated-capped : (stamp : Timestamp) (o delta server : Float) (c : Settings) → T (finite (c .max)) → T (le zero64 (c .max))
+    → Capped (c .max) (compensatedOf stamp o delta server c)
 unfolding compensatedOf uncappedOf
-compensated-capped stamp o delta server c p l = cap (c .max) (uncappedOf stamp o delta server (c .timestep)) p l (at-least (sub binary64 delta (beyondDeadband (driftOf stamp o (c .timestep) (sub binary64 server delta)) (c .timestep))))
+compensated-capped stamp o delta server c p l = cap (c .max) (uncappedOf stamp o delta server (c .timestep)) p l
+    (at-least (sub binary64 delta (beyondDeadband (driftOf stamp o (c .timestep) (sub binary64 server delta)) (c .timestep))))
 
 -- ---- the overshoot after the frames
 
@@ -107,7 +113,8 @@ pub record InStep (t o : Float) : Type 0 where
   pub high : T (le o t)
 
 -- the frames end by themselves once the overshoot is not below 0, and no addition takes it above the timestep
-overshoot-runs : (c : Settings) → Step (c .timestep) → Runs c (λ n s o r. (k : ℕ) → After (c .timestep) k o → r .stop ≡ Done → InStep (c .timestep) (r .overshoot))
+overshoot-runs : (c : Settings) → Step (c .timestep) → Runs c
+    (λ n s o r. (k : ℕ) → After (c .timestep) k o → r .stop ≡ Done → InStep (c .timestep) (r .overshoot))
 unfolding framed
 overshoot-runs c st =
     record {
@@ -135,7 +142,8 @@ module _ (c : Settings) (pass : passesOf c ≡ true) where
 
   module _ (fit : T (fits binary64 (c .timestep))) where
     -- the overshoot after the frames, from one of 0 to the timestep
-    advanced-in : (s : Scene) (o delta server : Float) → InStep (c .timestep) o → advancedOf c s o delta server .stop ≡ Done → InStep (c .timestep) (advancedOf c s o delta server .overshoot)
+    advanced-in : (s : Scene) (o delta server : Float) → InStep (c .timestep) o → advancedOf c s o delta server .stop ≡ Done
+        → InStep (c .timestep) (advancedOf c s o delta server .overshoot)
     unfolding advancedOf
     advanced-in s o delta server i e =
         let d = compensatedOf (oldStampOf (s .worlds)) o delta server c in
@@ -143,14 +151,17 @@ module _ (c : Settings) (pass : passesOf c ≡ true) where
         let k = compensated-capped (oldStampOf (s .worlds)) o delta server c (max-finite c pass fit) (m .0) in
         let st = step-of c pass fit in
         run-by (overshoot-runs c st) 65 s (sub binary64 o d) 0
-        (frames-start o d (c .timestep) st (i .number) (k .number) (i .low) (i .high) (k .low) (float-le-trans d (c .max) (mul binary64 sixtyFour64 (c .timestep)) (k .high) (m .1))) e
+        (frames-start o d (c .timestep) st (i .number) (k .number) (i .low) (i .high) (k .low)
+        (float-le-trans d (c .max) (mul binary64 sixtyFour64 (c .timestep)) (k .high) (m .1))) e
 
     -- after a skip, where the weight passes
-    skipped-in : (r : Run) (server : Float) → Within server (2 ^ 34) → InStep (c .timestep) (r .overshoot) → weightOk (tweenOf (maybeSkipped r server c .overshoot) (c .timestep)) ≡ true → InStep (c .timestep) (maybeSkipped r server c .overshoot)
+    skipped-in : (r : Run) (server : Float) → Within server (2 ^ 34) → InStep (c .timestep) (r .overshoot)
+        → weightOk (tweenOf (maybeSkipped r server c .overshoot) (c .timestep)) ≡ true → InStep (c .timestep) (maybeSkipped r server c .overshoot)
     unfolding maybeSkipped skipped
     skipped-in r server w i = go (skipsOf (oldStampOf (r .played .scene .worlds)) (r .overshoot) server c)
       where
-        go : (b : Bool) → weightOk (tweenOf (cond b (skipped r server c) r .overshoot) (c .timestep)) ≡ true → InStep (c .timestep) (cond b (skipped r server c) r .overshoot)
+        go : (b : Bool) → weightOk (tweenOf (cond b (skipped r server c) r .overshoot) (c .timestep)) ≡ true
+            → InStep (c .timestep) (cond b (skipped r server c) r .overshoot)
         go true ok = let x = corrected-in server (c .timestep) w (step-of c pass fit) ok in record { number = x .0; low = x .1; high = x .2 }
         go false ok = i
 
@@ -158,7 +169,8 @@ module _ (c : Settings) (pass : passesOf c ≡ true) where
     pub updated-overshoot : (s : Scene) (o delta server : Float) → Within server (2 ^ 34) → InStep (c .timestep) o → updatedOf c s o delta server .stop ≡ Done
         → weightOk (tweenOf (updatedOf c s o delta server .overshoot) (c .timestep)) ≡ true → InStep (c .timestep) (updatedOf c s o delta server .overshoot)
     unfolding updatedOf unendedOf
-    updated-overshoot s o delta server w i = go (advancedOf c s o delta server .stop) (advancedOf c s o delta server) (λ q. advanced-in s o delta server i q) refl
+    updated-overshoot s o delta server w i = go (advancedOf c s o delta server .stop) (advancedOf c s o delta server)
+        (λ q. advanced-in s o delta server i q) refl
       where
         go : (x : Stop) (r : Run) → (r .stop ≡ Done → InStep (c .timestep) (r .overshoot)) → r .stop ≡ x → skippedBy x r server c .stop ≡ Done
             → weightOk (tweenOf (skippedBy x r server c .overshoot) (c .timestep)) ≡ true → InStep (c .timestep) (skippedBy x r server c .overshoot)

@@ -1,4 +1,5 @@
--- The overshoot that a skip sets is from 0 to the timestep where its tween weight passes: the target rounded up is from 0 to 1 frame above it, and where the stamp saturates the weight is above 1. Assumes nothing.
+-- The overshoot that a skip sets is from 0 to the timestep where its tween weight passes: the target rounded up is from 0 to 1 frame above it, and where the
+-- stamp saturates the weight is above 1. Assumes nothing.
 use mathlib.Core.Path.{_≡_, refl, sym, ap, _∙_, subst}
 use mathlib.Core.Bool.{Bool, true, false, not}
 use Prim.Native.Nat.{ℕ, zero, suc, _+_, _-_, _*_, _/_, _^_, _<_, _≤_}
@@ -140,7 +141,8 @@ above-unit x y p u =
     low-side : (p n d q m e : ℕ) → q * d + n * e ≤ p * e + m * d → 0 * 1 * (d * e) + (n * e + q * d) * 1 ≤ (p * e + m * d) * 1 + 0 * (d * e)
     low-side p n d q m e h = omega arith
 
-    high-side : (p n d q m e : ℕ) → p * (e * 1) + (m * 1 + 0 * e) * d ≤ (q * 1 + 1 * 1 * e) * d + n * (e * 1) → (p * e + m * d) * 1 + 0 * (d * e) ≤ 1 * 1 * (d * e) + (n * e + q * d) * 1
+    high-side : (p n d q m e : ℕ) → p * (e * 1) + (m * 1 + 0 * e) * d ≤ (q * 1 + 1 * 1 * e) * d + n * (e * 1)
+        → (p * e + m * d) * 1 + 0 * (d * e) ≤ 1 * 1 * (d * e) + (n * e + q * d) * 1
     high-side p n d q m e h = omega arith
 
 -- ---- a target above the last stamp
@@ -167,7 +169,9 @@ ceil-last (fin false m e) p h l =
     let v = round-whole binary64 false k (omega arith) in
     let f = has-value-finite (round binary64 false k 1) false k 1 v in
     let q = has-value-eqv (round binary64 false k 1) false k 1 (pow-pos 0) v in
-    saturates (round binary64 false k 1) (is-true (le lastStamp (round binary64 false k 1)) (le-of-val lastStamp (round binary64 false k 1) tt f (q-le-trans (val lastStamp) (wholeQ false k) (val (round binary64 false k 1)) (omega arith) (q .1))))
+    saturates (round binary64 false k 1) (is-true (le lastStamp (round binary64 false k 1))
+    (le-of-val lastStamp (round binary64 false k 1) tt f (q-le-trans (val lastStamp) (wholeQ false k) (val (round binary64 false k 1)) (omega arith)
+    (q .1))))
   where
     small : (a d : ℕ) → 0 < d → a ≤ 32768 * d → a + (d - 1) < 32769 * d
     small a d D h = omega arith
@@ -191,7 +195,8 @@ over-one t h k =
 -- the target of a skip, in frames
 pub target-within : (server t : Float) → Within server (2 ^ 34) → Step t → Within (fromSeconds server t) (2 ^ 15)
 unfolding fromSeconds fromUnwrapped
-target-within server t w s = wrap-within (div binary64 server t) (within-widen (div binary64 server t) (2 ^ 34 * 1024) (2 ^ 52) (lit≤ tt) (div-step-within server t (2 ^ 34) (lit< tt) w s))
+target-within server t w s = wrap-within (div binary64 server t)
+    (within-widen (div binary64 server t) (2 ^ 34 * 1024) (2 ^ 52) (lit≤ tt) (div-step-within server t (2 ^ 34) (lit< tt) w s))
 
 target-fits : (server t : Float) → T (fits binary64 (fromSeconds server t))
 unfolding fromSeconds fromUnwrapped
@@ -199,7 +204,8 @@ target-fits server t = sub-fits binary64 _ _
 
 -- the overshoot of a target x within half a cycle
 module _ (x t : Float) (f : T (fits binary64 x)) (w : Within x (2 ^ 15)) (s : Step t) where
-  over-in : weightOk (tweenOf (mul binary64 (wrap (sub binary64 (floatOf (bitsOf (ceilStampOf x))) x)) t) t) ≡ true → Between (val zero64) (mul binary64 (wrap (sub binary64 (floatOf (bitsOf (ceilStampOf x))) x)) t) (val t)
+  over-in : weightOk (tweenOf (mul binary64 (wrap (sub binary64 (floatOf (bitsOf (ceilStampOf x))) x)) t) t) ≡ true
+      → Between (val zero64) (mul binary64 (wrap (sub binary64 (floatOf (bitsOf (ceilStampOf x))) x)) t) (val t)
   over-in ok = go (lt lastStamp x) refl
     where
       go : (b : Bool) → lt lastStamp x ≡ b → Between (val zero64) (mul binary64 (wrap (sub binary64 (floatOf (bitsOf (ceilStampOf x))) x)) t) (val t)
@@ -211,10 +217,12 @@ module _ (x t : Float) (f : T (fits binary64 x)) (w : Within x (2 ^ 15)) (s : St
           absurd (over-one (tweenOf (mul binary64 (wrap (sub binary64 lastStamp x)) t) t) o (skip-out x t f (w .0) h (l .2) s))
       go false e =
           let h = float-le-of-not-lt lastStamp x tt (w .0) (subst (λ (b : Bool). T (not b)) (sym e) tt) in
-          skip-in (sub binary64 (floatOf (bitsOf (ceilStampOf x))) x) t s (above-unit x (floatOf (bitsOf (ceilStampOf x))) (w .0) (ceil-above x (w .0) (w .1) (le-to-val x lastStamp (w .0) tt h)))
+          skip-in (sub binary64 (floatOf (bitsOf (ceilStampOf x))) x) t s
+          (above-unit x (floatOf (bitsOf (ceilStampOf x))) (w .0) (ceil-above x (w .0) (w .1) (le-to-val x lastStamp (w .0) tt h)))
 
 -- with a weight that passes, the overshoot after a skip is from 0 to the timestep
-pub corrected-in : (server t : Float) → Within server (2 ^ 34) → Step t → weightOk (tweenOf (correctedOvershoot server t) t) ≡ true → T (finite (correctedOvershoot server t)) × T (le zero64 (correctedOvershoot server t)) × T (le (correctedOvershoot server t) t)
+pub corrected-in : (server t : Float) → Within server (2 ^ 34) → Step t → weightOk (tweenOf (correctedOvershoot server t) t) ≡ true
+    → T (finite (correctedOvershoot server t)) × T (le zero64 (correctedOvershoot server t)) × T (le (correctedOvershoot server t) t)
 unfolding correctedOvershoot correctedOf fromUnwrapped
 corrected-in server t w s ok =
     in-order zero64 (correctedOvershoot server t) t tt (s .finite-t) (over-in (fromSeconds server t) t (target-fits server t) (target-within server t w s) s ok)

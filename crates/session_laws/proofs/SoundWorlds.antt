@@ -1,4 +1,5 @@
--- Worlds stay sound where one thing is done to them: a command or a snapshot arrives, a world steps, is reset or is loaded, a state is published, the base is moved. Assumes nothing.
+-- Worlds stay sound where one thing is done to them: a command or a snapshot arrives, a world steps, is reset or is loaded, a state is published, the base is
+-- moved. Assumes nothing.
 use mathlib.Core.Path.{_≡_, refl, sym, ap, _∙_, subst}
 use mathlib.Core.Bool.{Bool, true, false, cond}
 use Prim.Native.Nat.{ℕ, _^_, _<_}
@@ -21,7 +22,8 @@ use Rattle.client.specs.declared.Published.{Published}
 use Rattle.client.specs.declared.ClientWorldSimulations.{ClientWorldSimulations}
 use Rattle.client.specs.declared.Ledger.{Ledger}
 use Rattle.client.specs.declared.Scene.{Scene}
-use Rattle.client.specs.Sides.{newSideOf, oldSideOf, worldOf, withWorld, withBase, withSnapshots, withWeight, withPublished, withWorlds, withLedger, worldStampOf, oldStampOf, newStampOf, newWorldsOf, putOf, doneAt, withLeft, withRight, withLedgers}
+use Rattle.client.specs.Sides.{newSideOf, oldSideOf, worldOf, withWorld, withBase, withSnapshots, withWeight, withPublished, withWorlds, withLedger}
+use Rattle.client.specs.Sides.{worldStampOf, oldStampOf, newStampOf, newWorldsOf, putOf, doneAt, withLeft, withRight, withLedgers}
 use Rattle.client_frame.specs.Frame.{readiedWith, loadedAt, loadedOf}
 use Rattle.client_receive.specs.Receive.{offeredBase, offeredSide, receivedOf, fromFutureOf, freshOf, snapshotsBy, snapshotsOf, notesOf}
 
@@ -62,7 +64,8 @@ side-sound w side k = go (eqb side 0)
     go false = k .right
 
 -- a world that is as much initialised as the one that it takes the place of
-pub put-kept : (w : ClientWorldSimulations) (side : ℕ) (x : Simulation) → soundBuffer (x .commands) ≡ true → x .init ≡ worldOf w side .init → Kept w → Kept (withWorld w side x)
+pub put-kept : (w : ClientWorldSimulations) (side : ℕ) (x : Simulation) → soundBuffer (x .commands) ≡ true → x .init ≡ worldOf w side .init → Kept w
+    → Kept (withWorld w side x)
 unfolding worldOf withWorld
 put-kept w side x h i k = go (eqb side 0) i
   where
@@ -131,7 +134,8 @@ put-old-side w side x = ap (λ (n : ℕ). cond (eqb n 0) 1 0) (put-new w side x)
 
 -- a world of the same stamp at any side leaves both stamps
 module _ (w : ClientWorldSimulations) (side : ℕ) (x : Simulation) (e : worldStampOf x ≡ worldStampOf (worldOf w side)) where
-  same-at : (b : Bool) (other : ℕ) → worldStampOf x ≡ worldStampOf (cond b (w .left) (w .right)) → worldStampOf (worldOf (cond b (withLeft w x) (withRight w x)) other) ≡ worldStampOf (worldOf w other)
+  same-at : (b : Bool) (other : ℕ) → worldStampOf x ≡ worldStampOf (cond b (w .left) (w .right))
+      → worldStampOf (worldOf (cond b (withLeft w x) (withRight w x)) other) ≡ worldStampOf (worldOf w other)
   unfolding worldOf
   same-at true other i = go (eqb other 0)
     where
@@ -162,7 +166,8 @@ module _ (w : ClientWorldSimulations) (side : ℕ) (x : Simulation) (e : worldSt
 pub weighed-as : (v w : ClientWorldSimulations) → v .weight ≡ w .weight → oldStampOf v ≡ oldStampOf w → newStampOf v ≡ newStampOf w → Weighed w → Weighed v
 weighed-as v w e o n (is-nought h) = is-nought (subst (λ (t : Float). T (eq t zero64)) (sym e) h)
 weighed-as v w e o n (is-even h a b) =
-    is-even (ap (λ (t : Timestamp). t .0) o ∙ h ∙ sym (ap (λ (t : Timestamp). t .0) n)) (subst (λ (t : Float). T (le zero64 t)) (sym e) a) (subst (λ (t : Float). T (le t one64)) (sym e) b)
+    is-even (ap (λ (t : Timestamp). t .0) o ∙ h ∙ sym (ap (λ (t : Timestamp). t .0) n)) (subst (λ (t : Float). T (le zero64 t)) (sym e) a)
+    (subst (λ (t : Float). T (le t one64)) (sym e) b)
 
 -- another base
 pub base-kept : (w : ClientWorldSimulations) (b : CommandBuffer) → soundBuffer b ≡ true → Kept w → Kept (withBase w b)
@@ -212,7 +217,8 @@ pub done-worlds : (s : Scene) (side : ℕ) (d : Done) → doneAt s side d .scene
 unfolding doneAt putOf
 done-worlds s side d = ledger-worlds (withWorlds s (withWorld (s .worlds) side (d .world))) side _
 
-pub done-kept : (s : Scene) (side : ℕ) (d : Done) → soundBuffer (d .world .commands) ≡ true → d .world .init ≡ worldOf (s .worlds) side .init → Kept (s .worlds) → Kept (doneAt s side d .scene .worlds)
+pub done-kept : (s : Scene) (side : ℕ) (d : Done) → soundBuffer (d .world .commands) ≡ true → d .world .init ≡ worldOf (s .worlds) side .init
+    → Kept (s .worlds) → Kept (doneAt s side d .scene .worlds)
 done-kept s side d h i k = subst Kept (sym (done-worlds s side d)) (put-kept (s .worlds) side (d .world) h i k)
 
 pub done-weight : (s : Scene) (side : ℕ) (d : Done) → doneAt s side d .scene .worlds .weight ≡ s .worlds .weight
@@ -226,7 +232,8 @@ step-init w side = refl
 
 pub step-sound : (w : Simulation) (side : ℕ) → soundBuffer (w .commands) ≡ true → soundBuffer (stepOf w side .world .commands) ≡ true
 unfolding stepOf
-step-sound w side h = moved-sound (restOf (w .commands) (nextStamp (w .commands .timestamp))) (nextStamp (w .commands .timestamp)) (rest-sound (w .commands) (nextStamp (w .commands .timestamp)) h)
+step-sound w side h = moved-sound (restOf (w .commands) (nextStamp (w .commands .timestamp))) (nextStamp (w .commands .timestamp))
+    (rest-sound (w .commands) (nextStamp (w .commands .timestamp)) h)
 
 -- a step moves the stamp on
 pub step-stamp : (w : Simulation) (side : ℕ) → worldStampOf (stepOf w side .world) ≡ nextStamp (worldStampOf w)
@@ -263,7 +270,8 @@ pub scheduled-init : (w : Simulation) (e : Entry) → scheduledOf w e .world .in
 unfolding scheduledOf
 scheduled-init w e = refl
 
-pub scheduled-sound : (w : Simulation) (e : Entry) → e .handle < 2 ^ 24 → soundBuffer (w .commands) ≡ true → soundBuffer (scheduledOf w e .world .commands) ≡ true
+pub scheduled-sound : (w : Simulation) (e : Entry) → e .handle < 2 ^ 24 → soundBuffer (w .commands) ≡ true
+    → soundBuffer (scheduledOf w e .world .commands) ≡ true
 unfolding scheduledOf
 scheduled-sound w e h k = inserted-sound (w .commands) e h k
 
@@ -281,14 +289,16 @@ offered-base-weighed : (s : Scene) (e : Entry) → Weighed (s .worlds) → Weigh
 unfolding offeredBase
 offered-base-weighed s e k = base-weighed (s .worlds) (insertedOf (s .worlds .base) e .buffer) k
 
-offered-worlds : (s : Scene) (side : ℕ) (e : Entry) → offeredSide s side e .scene .worlds ≡ withWorld (s .worlds) side (scheduledOf (worldOf (s .worlds) side) e .world)
+offered-worlds : (s : Scene) (side : ℕ) (e : Entry) → offeredSide s side e .scene .worlds ≡ withWorld (s .worlds) side
+    (scheduledOf (worldOf (s .worlds) side) e .world)
 unfolding offeredSide
 offered-worlds s side e = ledger-worlds (withWorlds s (withWorld (s .worlds) side (scheduledOf (worldOf (s .worlds) side) e .world))) side _
 
 offered-side-kept : (s : Scene) (side : ℕ) (e : Entry) → e .handle < 2 ^ 24 → Kept (s .worlds) → Kept (offeredSide s side e .scene .worlds)
 offered-side-kept s side e h k =
     let x = worldOf (s .worlds) side in
-    subst Kept (sym (offered-worlds s side e)) (put-kept (s .worlds) side (scheduledOf x e .world) (scheduled-sound x e h (side-sound (s .worlds) side k)) (scheduled-init x e) k)
+    subst Kept (sym (offered-worlds s side e)) (put-kept (s .worlds) side (scheduledOf x e .world)
+    (scheduled-sound x e h (side-sound (s .worlds) side k)) (scheduled-init x e) k)
 
 offered-side-weighed : (s : Scene) (side : ℕ) (e : Entry) → Weighed (s .worlds) → Weighed (offeredSide s side e .scene .worlds)
 offered-side-weighed s side e k =
@@ -321,7 +331,8 @@ noted-small false false s t h i k = k
 
 pub noted-kept : (w : ClientWorldSimulations) (t : Timestamp) (h : ℕ) → h < 2 ^ 24 → Kept w → Kept (notesOf w t h)
 unfolding notesOf snapshotsOf
-noted-kept w t h i k = snapshots-kept w (snapshotsOf (w .snapshots) (oldStampOf w) t h) (noted-small (fromFutureOf t (oldStampOf w)) (freshOf (w .snapshots .lastqueued) t) (w .snapshots) t h i (k .queued)) k
+noted-kept w t h i k = snapshots-kept w (snapshotsOf (w .snapshots) (oldStampOf w) t h)
+    (noted-small (fromFutureOf t (oldStampOf w)) (freshOf (w .snapshots .lastqueued) t) (w .snapshots) t h i (k .queued)) k
 
 pub noted-weighed : (w : ClientWorldSimulations) (t : Timestamp) (h : ℕ) → Weighed w → Weighed (notesOf w t h)
 unfolding notesOf
@@ -339,17 +350,21 @@ new-weighed t = is-even refl tt tt
 
 -- ---- a load
 
-loaded-worlds : (s : Scene) (side : ℕ) (b : CommandBuffer) (h : ℕ) (l : Load) → loadedAt s side b h l .scene .worlds ≡ withWorld (readiedWith (s .worlds) side b) side (l .world)
+loaded-worlds : (s : Scene) (side : ℕ) (b : CommandBuffer) (h : ℕ) (l : Load)
+    → loadedAt s side b h l .scene .worlds ≡ withWorld (readiedWith (s .worlds) side b) side (l .world)
 unfolding loadedAt
 loaded-worlds s side b h l = ledger-worlds (withWorlds s (withWorld (readiedWith (s .worlds) side b) side (l .world))) side _
 
-readied-kept : (w : ClientWorldSimulations) (side : ℕ) (b : CommandBuffer) (x : Simulation) → soundBuffer b ≡ true → soundBuffer (x .commands) ≡ true → x .init ≡ true → Kept w → Kept (withWorld (readiedWith w side b) side x)
+readied-kept : (w : ClientWorldSimulations) (side : ℕ) (b : CommandBuffer) (x : Simulation) → soundBuffer b ≡ true → soundBuffer (x .commands) ≡ true
+    → x .init ≡ true → Kept w → Kept (withWorld (readiedWith w side b) side x)
 unfolding readiedWith withWorld
 readied-kept w side b x hb hx i k = go (eqb side 0) refl
   where
     go : (c : Bool) → eqb side 0 ≡ c → Kept (cond c (withLeft (readiedWith w side b) x) (withRight (readiedWith w side b) x))
-    go true e = record { left = hx; right = k .right; base = hb; queued = tt; init = subst (λ (v : Bool). InitOrder v (x .init) (w .right .init)) (sym e) (λ h. i) }
-    go false e = record { left = k .left; right = hx; base = hb; queued = tt; init = subst (λ (v : Bool). InitOrder v (w .left .init) (x .init)) (sym e) (λ h. i) }
+    go true e =
+        record { left = hx; right = k .right; base = hb; queued = tt; init = subst (λ (v : Bool). InitOrder v (x .init) (w .right .init)) (sym e) (λ h. i) }
+    go false e =
+        record { left = k .left; right = hx; base = hb; queued = tt; init = subst (λ (v : Bool). InitOrder v (w .left .init) (x .init)) (sym e) (λ h. i) }
 
 -- a load leaves the worlds sound, since its base is drained first and then moved
 pub loaded-kept : (s : Scene) (side : ℕ) (t : Timestamp) (h : ℕ) → Kept (s .worlds) → Kept (loadedOf s side t h .scene .worlds)
@@ -366,5 +381,6 @@ unfolding loadedOf readiedWith eq
 loaded-weighed s side t h =
     let b = restOf (s .worlds .base) t in
     let l = loadOf (worldOf (s .worlds) side) b t in
-    let e : loadedAt s side b h l .scene .worlds .weight ≡ zero64 = ap (λ (w : ClientWorldSimulations). w .weight) (loaded-worlds s side b h l) ∙ put-weight (readiedWith (s .worlds) side b) side (l .world) in
+    let e : loadedAt s side b h l .scene .worlds .weight ≡ zero64 = ap (λ (w : ClientWorldSimulations). w .weight) (loaded-worlds s side b h l)
+    ∙ put-weight (readiedWith (s .worlds) side b) side (l .world) in
     is-nought (subst (λ (x : Float). T (eq x zero64)) (sym e) tt)

@@ -17,7 +17,8 @@ use Rattle.client.specs.declared.ClientWorldSimulations.{ClientWorldSimulations
 use Rattle.client.specs.declared.Ledger.{Ledger}
 use Rattle.client.specs.declared.Scene.{Scene}
 use Rattle.client.specs.Ledgers.{takes}
-use Rattle.client.specs.Sides.{newSideOf, oldSideOf, worldOf, withWorld, withWorlds, withLedger, ledgerOf, worldStampOf, oldStampOf, newStampOf, Played, still, andThen, doneAt}
+use Rattle.client.specs.Sides.{newSideOf, oldSideOf, worldOf, withWorld, withWorlds, withLedger, ledgerOf, worldStampOf, oldStampOf, newStampOf, Played, still}
+use Rattle.client.specs.Sides.{andThen, doneAt}
 use Rattle.client_receive.specs.Receive.{offeredBase, offeredSide, receivedOf, fromFutureOf, freshOf, snapshotsBy, snapshotsOf, notesOf}
 use Rattle.client_skip.specs.Skip.{resetSide, resetAlong, skipsBack, emptiedBase, resetBoth, skippedOf}
 use Rattle.client_publish.specs.Ending.{postUpdateOf}
@@ -84,7 +85,8 @@ scheduled-stamp : (w : Simulation) (e : Entry) → worldStampOf (scheduledOf w e
 unfolding scheduledOf
 scheduled-stamp w e = inserted-stamp (w .commands) e
 
-offers-put : (s : Scene) (x : ℕ) (W : Simulation) (l : Ledger) → worldStampOf W ≡ worldStampOf (worldOf (s .worlds) x) → Offers s (withLedger (withWorlds s (withWorld (s .worlds) x W)) x l)
+offers-put : (s : Scene) (x : ℕ) (W : Simulation) (l : Ledger) → worldStampOf W ≡ worldStampOf (worldOf (s .worlds) x)
+    → Offers s (withLedger (withWorlds s (withWorld (s .worlds) x W)) x l)
 offers-put s x W l h =
     let k = ledger-keeps (withWorlds s (withWorld (s .worlds) x W)) x l in
     record { alike = rw (k .0) (put-alike (s .worlds) x W h); snapshots = rw (k .0) (put-snapshots-by (s .worlds) x W (eqb x 0) refl); steps = k .1 }
@@ -92,7 +94,8 @@ offers-put s x W l h =
 offers-side : (s : Scene) (x : ℕ) (e : Entry) → Offers s (offeredSide s x e .scene)
 unfolding offeredSide
 offers-side s x e =
-    offers-put s x (scheduledOf (worldOf (s .worlds) x) e .world) (takes (ledgerOf s x) (takenBy (scheduledOf (worldOf (s .worlds) x) e .outcome))) (scheduled-stamp (worldOf (s .worlds) x) e)
+    offers-put s x (scheduledOf (worldOf (s .worlds) x) e .world) (takes (ledgerOf s x) (takenBy (scheduledOf (worldOf (s .worlds) x) e .outcome)))
+    (scheduled-stamp (worldOf (s .worlds) x) e)
 
 -- a command arrives
 pub offers : (s : Scene) (e : Entry) → Offers s (receivedOf s e .scene)
@@ -115,7 +118,8 @@ queued-by true b s t h l q = q
 queued-by false true s t h l q = l
 queued-by false false s t h l q = q
 
-pub notes-fit : (w : ClientWorldSimulations) (t : Timestamp) (h : ℕ) → t .0 < 65536 → QueuedFits (w .snapshots .queued) → QueuedFits (notesOf w t h .snapshots .queued)
+pub notes-fit : (w : ClientWorldSimulations) (t : Timestamp) (h : ℕ) → t .0 < 65536 → QueuedFits (w .snapshots .queued)
+    → QueuedFits (notesOf w t h .snapshots .queued)
 unfolding notesOf snapshotsOf
 notes-fit w t h l q = queued-by (fromFutureOf t (oldStampOf w)) (freshOf (w .snapshots .lastqueued) t) (w .snapshots) t h l q
 
@@ -178,8 +182,10 @@ one-skip-old : (u : Scene) (x : ℕ) (t : Timestamp) → x ≡ oldSideOf (u .wor
 unfolding resetSide
 one-skip-old u x t e =
     let d : Done = resetOf (worldOf (u .worlds) x) t x in
-    let q : doneAt u x d .scene .worlds ≡ withWorld (u .worlds) (oldSideOf (u .worlds)) (d .world) = done-worlds u x d ∙ ap (λ y. withWorld (u .worlds) y (d .world)) e in
-    let m : Restamped (u .worlds) (withWorld (u .worlds) (oldSideOf (u .worlds)) (d .world)) (worldStampOf (d .world)) (newStampOf (u .worlds)) = put-at-old (u .worlds) (d .world) in
+    let q : doneAt u x d .scene .worlds ≡ withWorld (u .worlds) (oldSideOf (u .worlds)) (d .world) = done-worlds u x d
+    ∙ ap (λ y. withWorld (u .worlds) y (d .world)) e in
+    let m : Restamped (u .worlds) (withWorld (u .worlds) (oldSideOf (u .worlds)) (d .world)) (worldStampOf (d .world)) (newStampOf (u .worlds)) =
+    put-at-old (u .worlds) (d .world) in
     let o : oldStampOf (doneAt u x d .scene .worlds) ≡ t = ap oldStampOf q ∙ m .old ∙ reset-stamp (worldOf (u .worlds) x) t x in
     record {
       old = o;
@@ -200,7 +206,8 @@ one-skip-then s t q f a k o =
       none = λ y. then-marks y q f ∙ omega (arith, a .none y, k .none y);
     }
 
-along-old-by : (b : Bool) (s : Scene) (t : Timestamp) → oldStampOf (cond b (resetSide s (newSideOf (s .worlds)) t) (still s) .scene .worlds) ≡ oldStampOf (s .worlds)
+along-old-by : (b : Bool) (s : Scene) (t : Timestamp) → oldStampOf
+    (cond b (resetSide s (newSideOf (s .worlds)) t) (still s) .scene .worlds) ≡ oldStampOf (s .worlds)
 unfolding resetSide
 along-old-by true s t =
     let x : ℕ = newSideOf (s .worlds) in
@@ -220,9 +227,11 @@ one-skip-both s t =
     (λ l h. rw (along-old s t) h)
 
 -- the base does not matter
-one-skip-based : (b : Bool) (s : Scene) (t : Timestamp) (p : Played) → OneSkip s t p → OneSkip s t (record { scene = emptiedBase b (p .scene); words = p .words })
+one-skip-based : (b : Bool) (s : Scene) (t : Timestamp) (p : Played) → OneSkip s t p
+    → OneSkip s t (record { scene = emptiedBase b (p .scene); words = p .words })
 unfolding newSideOf oldSideOf worldOf oldStampOf newStampOf
-one-skip-based true s t p k = record { old = k .old; fitting = λ l f. let g : Fitting (p .scene .worlds) = k .fitting l f in record { old = g .old; new = g .new; queued = g .queued }; steps = k .steps; none = k .none }
+one-skip-based true s t p k =
+    record { old = k .old; fitting = λ l f. let g : Fitting (p .scene .worlds) = k .fitting l f in record { old = g .old; new = g .new; queued = g .queued }; steps = k .steps; none = k .none }
 one-skip-based false s t p k = k
 
 pub one-skip : (s : Scene) (t : Timestamp) → OneSkip s t (skippedOf s t)

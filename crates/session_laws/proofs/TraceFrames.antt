@@ -26,9 +26,11 @@ use Rattle.client.specs.declared.Scene.{Scene}
 use Rattle.client.specs.Sides.{newSideOf, oldSideOf, worldOf, withWorld, withWorlds, worldStampOf, oldStampOf, newStampOf, Played, still, andThen, doneAt}
 use Rattle.client.specs.Status.{statusBy, statusOf, overshotOf, newerOf}
 use Rattle.client_frame.specs.declared.Rules.{Rules}
-use Rattle.client_frame.specs.Frame.{loadsOf, readiedWith, loadedAt, loadedOf, loadedQueued, blendedOn, resetNew, openedOf, snapshotOf, frameOpened, shownOf, blendedBy, frameOf}
+use Rattle.client_frame.specs.Frame.{loadsOf, readiedWith, loadedAt, loadedOf, loadedQueued, blendedOn, resetNew, openedOf, snapshotOf, frameOpened, shownOf}
+use Rattle.client_frame.specs.Frame.{blendedBy, frameOf}
 use Rattle.session_laws.proofs.SoundWorlds.{done-worlds, reset-stamp}
-use Rattle.session_laws.proofs.TraceStamps.{lagOf, nextOf, next-is, next-below, lag-far, later-tells, Restamped, put-at-new, ledger-keeps, done-steps, done-words, reset-marks}
+use Rattle.session_laws.proofs.TraceStamps.{lagOf, nextOf, next-is, next-below, lag-far, later-tells, Restamped, put-at-new, ledger-keeps, done-steps}
+use Rattle.session_laws.proofs.TraceStamps.{done-words, reset-marks}
 use Rattle.session_laws.proofs.TraceSteps.{lagIn, then-scene, then-marks, Simulates, shown}
 
 -- a queued snapshot's stamp has 16 bits
@@ -67,12 +69,14 @@ pub awaiting-equal : (w : ClientWorldSimulations) → statusOf w ≡ AwaitingSna
 unfolding statusOf
 awaiting-equal w e =
     eqb-true (newStampOf w .0) (oldStampOf w .0)
-    (status-equal (eqb (newStampOf w .0) (oldStampOf w .0)) (lt (w .weight) (fin false 1 (pos 0))) (overshotOf (newStampOf w) (oldStampOf w)) (newerOf (w .snapshots .queued) (newStampOf w)) (w .weight) e)
+    (status-equal (eqb (newStampOf w .0) (oldStampOf w .0)) (lt (w .weight) (fin false 1 (pos 0))) (overshotOf (newStampOf w) (oldStampOf w))
+    (newerOf (w .snapshots .queued) (newStampOf w)) (w .weight) e)
 
 overshot-later : (w : ClientWorldSimulations) → statusOf w ≡ Fastforwarding Overshot → overshotOf (newStampOf w) (oldStampOf w) ≡ true
 unfolding statusOf
 overshot-later w e =
-    status-later (eqb (newStampOf w .0) (oldStampOf w .0)) (lt (w .weight) (fin false 1 (pos 0))) (overshotOf (newStampOf w) (oldStampOf w)) (newerOf (w .snapshots .queued) (newStampOf w)) (w .weight) e
+    status-later (eqb (newStampOf w .0) (oldStampOf w .0)) (lt (w .weight) (fin false 1 (pos 0))) (overshotOf (newStampOf w) (oldStampOf w))
+    (newerOf (w .snapshots .queued) (newStampOf w)) (w .weight) e
 
 -- a new world that has overshot is more than half a cycle behind
 pub overshot-far : (w : ClientWorldSimulations) → Fitting w → statusOf w ≡ Fastforwarding Overshot → 32767 < lagIn w
@@ -87,7 +91,8 @@ overshot-far w h e =
 pub record Opens (q : Queued) (s : Scene) (p : Played) : Type 0 where
   pub old : oldStampOf (p .scene .worlds) .0 ≡ oldStampOf (s .worlds) .0
   pub fitting : Fitting (s .worlds) → QueuedFits q → Fitting (p .scene .worlds)
-  pub behind : Fitting (s .worlds) → gapBy q (oldStampOf (s .worlds) .0) (lagIn (s .worlds)) ≤ 32767 → lagIn (p .scene .worlds) ≡ gapBy q (oldStampOf (s .worlds) .0) (lagIn (s .worlds))
+  pub behind : Fitting (s .worlds) → gapBy q (oldStampOf (s .worlds) .0) (lagIn (s .worlds)) ≤ 32767
+      → lagIn (p .scene .worlds) ≡ gapBy q (oldStampOf (s .worlds) .0) (lagIn (s .worlds))
   pub steps : p .scene .steps ≡ s .steps
   pub none : (y : ℕ) → stepsOn y (p .words) ≡ 0
 
@@ -98,7 +103,8 @@ opens-still s = record { old = refl; fitting = λ h k. h; behind = λ f l. refl;
 -- the weight moves on
 opens-blended : (s : Scene) (p : Float) → Opens Nothing s (still (blendedOn s p))
 unfolding blendedOn stepsOn oldStampOf newStampOf oldSideOf newSideOf worldOf
-opens-blended s p = record { old = refl; fitting = λ h k. record { old = h .old; new = h .new; queued = h .queued }; behind = λ f l. refl; steps = refl; none = λ y. refl }
+opens-blended s p =
+    record { old = refl; fitting = λ h k. record { old = h .old; new = h .new; queued = h .queued }; behind = λ f l. refl; steps = refl; none = λ y. refl }
 
 -- ---- a load
 
@@ -142,13 +148,16 @@ module _ (w : ClientWorldSimulations) (b : CommandBuffer) (W : Simulation) where
 
 -- the worlds of a load
 loaded-worlds : (s : Scene) (x : ℕ) (t : Timestamp) (h : ℕ) →
-    loadedOf s x t h .scene .worlds ≡ withWorld (readiedWith (s .worlds) x (restOf (s .worlds .base) t)) x (loadOf (worldOf (s .worlds) x) (restOf (s .worlds .base) t) t .world)
+    loadedOf s x t h .scene .worlds ≡ withWorld (readiedWith (s .worlds) x (restOf (s .worlds .base) t)) x
+    (loadOf (worldOf (s .worlds) x) (restOf (s .worlds .base) t) t .world)
 unfolding loadedOf loadedAt
-loaded-worlds s x t h = ledger-keeps (withWorlds s (withWorld (readiedWith (s .worlds) x (restOf (s .worlds .base) t)) x (loadOf (worldOf (s .worlds) x) (restOf (s .worlds .base) t) t .world))) x _ .0
+loaded-worlds s x t h = ledger-keeps (withWorlds s (withWorld (readiedWith (s .worlds) x (restOf (s .worlds .base) t)) x
+    (loadOf (worldOf (s .worlds) x) (restOf (s .worlds .base) t) t .world))) x _ .0
 
 loaded-steps : (s : Scene) (x : ℕ) (t : Timestamp) (h : ℕ) → loadedOf s x t h .scene .steps ≡ s .steps
 unfolding loadedOf loadedAt
-loaded-steps s x t h = ledger-keeps (withWorlds s (withWorld (readiedWith (s .worlds) x (restOf (s .worlds .base) t)) x (loadOf (worldOf (s .worlds) x) (restOf (s .worlds .base) t) t .world))) x _ .1
+loaded-steps s x t h = ledger-keeps (withWorlds s (withWorld (readiedWith (s .worlds) x (restOf (s .worlds .base) t)) x
+    (loadOf (worldOf (s .worlds) x) (restOf (s .worlds .base) t) t .world))) x _ .1
 
 loaded-marks : (y : ℕ) (s : Scene) (x : ℕ) (t : Timestamp) (h : ℕ) → stepsOn y (loadedOf s x t h .words) ≡ 0
 unfolding loadedOf loadedAt stepsOn
@@ -159,7 +168,8 @@ unfolding loadOf
 load-stamp w b t = moved-stamp b t
 
 -- a load whose worlds have these stamps
-opens-loaded : (s : Scene) (x : ℕ) (t : Timestamp) (h : ℕ) → oldStampOf (loadedOf s x t h .scene .worlds) .0 ≡ oldStampOf (s .worlds) .0 → newStampOf (loadedOf s x t h .scene .worlds) ≡ t →
+opens-loaded : (s : Scene) (x : ℕ) (t : Timestamp) (h : ℕ) → oldStampOf (loadedOf s x t h .scene .worlds) .0 ≡ oldStampOf (s .worlds) .0
+    → newStampOf (loadedOf s x t h .scene .worlds) ≡ t →
     loadedOf s x t h .scene .worlds .snapshots .queued ≡ Nothing → Opens (Held t h) s (loadedOf s x t h)
 opens-loaded s x t h eo en eq =
     let n : newStampOf (loadedOf s x t h .scene .worlds) .0 ≡ t .0 = ap (λ (u : Timestamp). u .0) en in
@@ -172,7 +182,8 @@ opens-loaded s x t h eo en eq =
     }
 
 -- into the side that was old, where the stamps are equal
-opens-swapped : (s : Scene) (t : Timestamp) (h : ℕ) → newStampOf (s .worlds) .0 ≡ oldStampOf (s .worlds) .0 → Opens (Held t h) s (loadedOf s (oldSideOf (s .worlds)) t h)
+opens-swapped : (s : Scene) (t : Timestamp) (h : ℕ) → newStampOf (s .worlds) .0 ≡ oldStampOf (s .worlds) .0
+    → Opens (Held t h) s (loadedOf s (oldSideOf (s .worlds)) t h)
 opens-swapped s t h e =
     let x : ℕ = oldSideOf (s .worlds) in
     let b : CommandBuffer = restOf (s .worlds .base) t in
@@ -203,9 +214,12 @@ opens-reset s far =
     let d = resetOf (worldOf (s .worlds) x) (oldStampOf (s .worlds)) x in
     let m : Restamped (s .worlds) (withWorld (s .worlds) x (d .world)) (oldStampOf (s .worlds)) (worldStampOf (d .world)) = put-at-new (s .worlds) (d .world) in
     let q : doneAt s x d .scene .worlds ≡ withWorld (s .worlds) x (d .world) = done-worlds s x d in
-    let eo : oldStampOf (doneAt s x d .scene .worlds) .0 ≡ oldStampOf (s .worlds) .0 = ap (λ (w : ClientWorldSimulations). oldStampOf w .0) q ∙ ap (λ (u : Timestamp). u .0) (m .old) in
-    let en : newStampOf (doneAt s x d .scene .worlds) .0 ≡ oldStampOf (s .worlds) .0 = ap (λ (w : ClientWorldSimulations). newStampOf w .0) q ∙ ap (λ (u : Timestamp). u .0) (m .new ∙ reset-stamp (worldOf (s .worlds) x) (oldStampOf (s .worlds)) x) in
-    let es : doneAt s x d .scene .worlds .snapshots .queued ≡ s .worlds .snapshots .queued = ap (λ (w : ClientWorldSimulations). w .snapshots .queued) q ∙ ap (λ u. u .queued) (m .snapshots) in
+    let eo : oldStampOf (doneAt s x d .scene .worlds) .0 ≡ oldStampOf (s .worlds) .0 = ap (λ (w : ClientWorldSimulations). oldStampOf w .0) q
+    ∙ ap (λ (u : Timestamp). u .0) (m .old) in
+    let en : newStampOf (doneAt s x d .scene .worlds) .0 ≡ oldStampOf (s .worlds) .0 = ap (λ (w : ClientWorldSimulations). newStampOf w .0) q
+    ∙ ap (λ (u : Timestamp). u .0) (m .new ∙ reset-stamp (worldOf (s .worlds) x) (oldStampOf (s .worlds)) x) in
+    let es : doneAt s x d .scene .worlds .snapshots .queued ≡ s .worlds .snapshots .queued = ap (λ (w : ClientWorldSimulations). w .snapshots .queued) q
+    ∙ ap (λ u. u .queued) (m .snapshots) in
     record {
       old = eo;
       fitting = λ h k. record { old = rw eo (h .old); new = rw en (h .old); queued = rw es (h .queued) };
@@ -245,7 +259,8 @@ snapshot-fits s h = loads-fit (statusOf (s .worlds)) (s .worlds .snapshots .queu
 abbrev pub gapOf : Scene → ℕ
 gapOf s = gapBy (snapshotOf s) (oldStampOf (s .worlds) .0) (lagIn (s .worlds))
 
--- a frame f of the scene s by its rules: the old world a step on, the new world m - 1 nearer, one step word for the side then old, and at most m for the side then new, which are counted
+-- a frame f of the scene s by its rules: the old world a step on, the new world m - 1 nearer, one step word for the side then old, and at most m for the side
+-- then new, which are counted
 pub record OneFrame (rules : Rules) (s : Scene) (f : Played) : Type 0 where
   pub old : oldStampOf (f .scene .worlds) .0 ≡ nextOf (oldStampOf (s .worlds) .0)
   pub fitting : Fitting (s .worlds) → Fitting (f .scene .worlds)
@@ -254,7 +269,8 @@ pub record OneFrame (rules : Rules) (s : Scene) (f : Played) : Type 0 where
   pub few : stepsOn (newSideOf (frameOpened rules s .scene .worlds)) (f .words) ≤ rules .m
   pub steps : s .steps + rules .m < 2 ^ 32 → f .scene .steps ≡ s .steps + stepsOn (newSideOf (frameOpened rules s .scene .worlds)) (f .words)
 
-one-frame-then : (rules : Rules) (s : Scene) (g : Scene → Played) → Opens (snapshotOf s) s (frameOpened rules s) → Simulates (rules .m) (frameOpened rules s .scene) (g (frameOpened rules s .scene)) → OneFrame rules s (andThen (frameOpened rules s) g)
+one-frame-then : (rules : Rules) (s : Scene) (g : Scene → Played) → Opens (snapshotOf s) s (frameOpened rules s)
+    → Simulates (rules .m) (frameOpened rules s .scene) (g (frameOpened rules s .scene)) → OneFrame rules s (andThen (frameOpened rules s) g)
 one-frame-then rules s g o i =
     let m : ℕ = rules .m in
     let q : Played = frameOpened rules s in
@@ -262,7 +278,8 @@ one-frame-then rules s g o i =
     let f : Played = g t in
     let sc : andThen q g .scene ≡ f .scene = then-scene q g in
     let ws : (y : ℕ) → stepsOn y (andThen q g .words) ≡ stepsOn y (f .words) = λ y. then-marks y q g ∙ omega (arith, o .none y) in
-    let eo : oldStampOf (f .scene .worlds) .0 ≡ nextOf (oldStampOf (s .worlds) .0) = ap (λ (u : Timestamp). u .0) (i .old) ∙ next-is (oldStampOf (t .worlds)) ∙ ap nextOf (o .old) in
+    let eo : oldStampOf (f .scene .worlds) .0 ≡ nextOf (oldStampOf (s .worlds) .0) = ap (λ (u : Timestamp). u .0) (i .old)
+    ∙ next-is (oldStampOf (t .worlds)) ∙ ap nextOf (o .old) in
     record {
       old = rw sc eo;
       fitting = λ h.
@@ -284,4 +301,5 @@ one-frame-then rules s g o i =
 pub one-frame : (rules : Rules) (s : Scene) → OneFrame rules s (frameOf rules s)
 unfolding frameOf
 one-frame rules s =
-    one-frame-then rules s (shownOf (rules .m) (blendedBy (statusOf (s .worlds)) (snapshotOf s))) (opens rules s) (shown (rules .m) (blendedBy (statusOf (s .worlds)) (snapshotOf s)) (frameOpened rules s .scene))
+    one-frame-then rules s (shownOf (rules .m) (blendedBy (statusOf (s .worlds)) (snapshotOf s))) (opens rules s)
+    (shown (rules .m) (blendedBy (statusOf (s .worlds)) (snapshotOf s)) (frameOpened rules s .scene))

@@ -1,4 +1,5 @@
--- What the reading of an inbox, a refused or accepted issue and the stages leave of the worlds: sides, stamps and weight as they were, and stamps of 16 bits. Assumes nothing.
+-- What the reading of an inbox, a refused or accepted issue and the stages leave of the worlds: sides, stamps and weight as they were, and stamps of 16 bits.
+-- Assumes nothing.
 use mathlib.Core.Path.{_≡_, refl}
 use mathlib.Core.Bool.{true}
 use mathlib.Core.List.{List, [], _∷_}
@@ -14,7 +15,8 @@ use Rattle.client.specs.declared.ClientWorldSimulations.{ClientWorldSimulations
 use Rattle.client.specs.declared.Scene.{Scene}
 use Rattle.client.specs.declared.Received.{Received}
 use Rattle.session_laws.proofs.TraceFrames.{QueuedFits, Fitting}
-use Rattle.session_laws.proofs.TraceArrivals.{Alike, alike-self, alike-then, alike-fitting, Offers, offers-self, offers-then, offers, notes-alike, notes-fit}
+use Rattle.session_laws.proofs.TraceArrivals.{Alike, alike-self, alike-then, alike-fitting, Offers, offers-self, offers-then, offers, notes-alike}
+use Rattle.session_laws.proofs.TraceArrivals.{notes-fit}
 use Rattle.session_state.specs.declared.Session.{Session}
 use Rattle.session_state.specs.Sound.{soundOf}
 use Rattle.inbox_passes.specs.Passes.{receiveOne, receivedIn, noteOne, notedIn}
@@ -71,7 +73,8 @@ fits-one w BadTime b q = q
 fits-one w WrongWord b q = q
 fits-one w CutShort b q = q
 
-fits-over : (w : ClientWorldSimulations) (ms : List Message) → Each Bounded ms → QueuedFits (w .snapshots .queued) → QueuedFits (over noteOne w ms .snapshots .queued)
+fits-over : (w : ClientWorldSimulations) (ms : List Message) → Each Bounded ms → QueuedFits (w .snapshots .queued)
+    → QueuedFits (over noteOne w ms .snapshots .queued)
 fits-over w [] b q = q
 fits-over w (m ∷ ms) b q = fits-over (noteOne w m) ms (b .1) (fits-one w m (b .0) q)
 
@@ -118,4 +121,5 @@ keeps-self s = record { settings = refl; stage = refl; alike = alike-self (s .wo
 pub issue-keeps : (s : Session) (h : ℕ) → Keeps s (issueOf s h .session)
 issue-keeps s h =
     issue-by-ways (λ a. Keeps s (a .session)) s h (λ n k. keeps-self s)
-    (λ i k. let o : Offers (sceneOf s) (receivedNow s h .scene) = offers (sceneOf s) (entryOf s h) in record { settings = refl; stage = refl; alike = o .alike; queued = rw (o .snapshots) refl })
+    (λ i k. let o : Offers (sceneOf s) (receivedNow s h .scene) = offers (sceneOf s) (entryOf s h) in
+    record { settings = refl; stage = refl; alike = o .alike; queued = rw (o .snapshots) refl })

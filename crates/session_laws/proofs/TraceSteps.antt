@@ -1,4 +1,5 @@
--- The steps of one frame: the old world's one step, the new world's catching up, m steps at most, and what is published. Their stamps, their step words and how far behind the new world is left. Assumes nothing.
+-- The steps of one frame: the old world's one step, the new world's catching up, m steps at most, and what is published. Their stamps, their step words and how
+-- far behind the new world is left. Assumes nothing.
 use mathlib.Core.Path.{_≡_, refl, ap, sym, _∙_}
 use mathlib.Core.Bool.{Bool, true, false}
 use mathlib.Core.List.{List, [], _++_}
@@ -19,7 +20,8 @@ use Rattle.client_publish.proofs.Telling.{Telling, of-none, of-side, of-mix, to
 use Rattle.client_frame.specs.Frame.{caughtUpOf, steppedSide, steppedNew, unless, caughtOf, simulatedOf, publishedBy, shownOf}
 use Rattle.client_frame.proofs.Induction.{published-by}
 use Rattle.session_laws.proofs.SoundWorlds.{done-worlds, step-stamp}
-use Rattle.session_laws.proofs.TraceStamps.{lagOf, nextOf, next-is, next-below, lag-none, lag-step, lag-next, reached-is, sides-apart, Restamped, put-at-old, put-at-new, done-steps, done-words, step-marks}
+use Rattle.session_laws.proofs.TraceStamps.{lagOf, nextOf, next-is, next-below, lag-none, lag-step, lag-next, reached-is, sides-apart, Restamped}
+use Rattle.session_laws.proofs.TraceStamps.{put-at-old, put-at-new, done-steps, done-words, step-marks}
 
 -- how far the new world of a pair is behind
 abbrev pub lagIn : ClientWorldSimulations → ℕ
@@ -64,7 +66,8 @@ moved-as : {v w u : ClientWorldSimulations} {o n p q : Timestamp} → w ≡ u �
 moved-as e m a b = rw e (record { side = m .side; oldside = m .oldside; old = m .old ∙ a; new = m .new ∙ b; snapshots = m .snapshots; weight = m .weight })
 
 -- the old world steps
-pub stepped-old : (s : Scene) → Restamped (s .worlds) (steppedSide s (oldSideOf (s .worlds)) .scene .worlds) (nextStamp (oldStampOf (s .worlds))) (newStampOf (s .worlds))
+pub stepped-old : (s : Scene) → Restamped (s .worlds) (steppedSide s (oldSideOf (s .worlds)) .scene .worlds) (nextStamp (oldStampOf (s .worlds)))
+    (newStampOf (s .worlds))
 unfolding oldStampOf
 stepped-old s =
     let x = oldSideOf (s .worlds) in
@@ -72,7 +75,8 @@ stepped-old s =
     moved-as (stepped-worlds s x) (put-at-old (s .worlds) (d .world)) (step-stamp (worldOf (s .worlds) x) x) refl
 
 -- the new world steps
-stepped-new-side : (s : Scene) → Restamped (s .worlds) (steppedSide s (newSideOf (s .worlds)) .scene .worlds) (oldStampOf (s .worlds)) (nextStamp (newStampOf (s .worlds)))
+stepped-new-side : (s : Scene) → Restamped (s .worlds) (steppedSide s (newSideOf (s .worlds)) .scene .worlds) (oldStampOf (s .worlds))
+    (nextStamp (newStampOf (s .worlds)))
 unfolding newStampOf
 stepped-new-side s =
     let x = newSideOf (s .worlds) in
@@ -101,13 +105,15 @@ pub record Catches (n : ℕ) (s : Scene) (p : Played) : Type 0 where
   pub snapshots : p .scene .worlds .snapshots ≡ s .worlds .snapshots
   pub weight : p .scene .worlds .weight ≡ s .worlds .weight
   pub below : newStampOf (s .worlds) .0 < 65536 → newStampOf (p .scene .worlds) .0 < 65536
-  pub behind : oldStampOf (s .worlds) .0 < 65536 → newStampOf (s .worlds) .0 < 65536 → lagIn (s .worlds) ≤ 32768 → lagIn (p .scene .worlds) ≡ lagIn (s .worlds) - n
+  pub behind : oldStampOf (s .worlds) .0 < 65536 → newStampOf (s .worlds) .0 < 65536 → lagIn (s .worlds) ≤ 32768
+      → lagIn (p .scene .worlds) ≡ lagIn (s .worlds) - n
   pub few : stepsOn (newSideOf (s .worlds)) (p .words) ≤ n
   pub none : stepsOn (oldSideOf (s .worlds)) (p .words) ≡ 0
   pub steps : s .steps + n < 2 ^ 32 → p .scene .steps ≡ s .steps + stepsOn (newSideOf (s .worlds)) (p .words)
 
 -- it steps no more
-catches-still : (n : ℕ) (s : Scene) → (oldStampOf (s .worlds) .0 < 65536 → newStampOf (s .worlds) .0 < 65536 → lagIn (s .worlds) ≤ 32768 → lagIn (s .worlds) ≡ lagIn (s .worlds) - n) → Catches n s (still s)
+catches-still : (n : ℕ) (s : Scene) → (oldStampOf (s .worlds) .0 < 65536 → newStampOf (s .worlds) .0 < 65536 → lagIn (s .worlds) ≤ 32768
+    → lagIn (s .worlds) ≡ lagIn (s .worlds) - n) → Catches n s (still s)
 unfolding stepsOn
 catches-still n s h =
     record {
@@ -124,7 +130,8 @@ catches-still n s h =
     }
 
 -- it steps once and goes on
-catches-more : (n : ℕ) (s : Scene) (f : Scene → Played) → 32768 ≤ lagOf (newStampOf (s .worlds) .0) (oldStampOf (s .worlds) .0) → Catches n (steppedNew s .scene) (f (steppedNew s .scene)) → Catches (suc n) s (andThen (steppedNew s) f)
+catches-more : (n : ℕ) (s : Scene) (f : Scene → Played) → 32768 ≤ lagOf (newStampOf (s .worlds) .0) (oldStampOf (s .worlds) .0)
+    → Catches n (steppedNew s .scene) (f (steppedNew s .scene)) → Catches (suc n) s (andThen (steppedNew s) f)
 catches-more n s f far i =
     let t : Scene = steppedNew s .scene in
     let p : Played = f t in
@@ -137,9 +144,21 @@ catches-more n s f far i =
     let few : stepsOn (newSideOf (s .worlds)) (p .words) ≤ n = rw (m .side) at (i .few) in
     let none : stepsOn (oldSideOf (s .worlds)) (p .words) ≡ 0 = rw (m .oldside) at (i .none) in
     let e1 : stepsOn (newSideOf (s .worlds)) (andThen (steppedNew s) f .words) ≡ 1 + stepsOn (newSideOf (s .worlds)) (p .words) =
-    omega (arith, then-marks (newSideOf (s .worlds)) (steppedNew s) f, stepped-new-marks (newSideOf (s .worlds)) s, count-same (newSideOf (s .worlds)) (newSideOf (s .worlds)) (omega arith) refl) in
+    omega (
+      arith,
+      then-marks (newSideOf (s .worlds)) (steppedNew s) f,
+      stepped-new-marks (newSideOf (s .worlds)) s,
+      count-same (newSideOf (s .worlds))
+          (newSideOf (s .worlds)) (omega arith) refl,
+    ) in
     let e0 : stepsOn (oldSideOf (s .worlds)) (andThen (steppedNew s) f .words) ≡ 0 =
-    omega (arith, then-marks (oldSideOf (s .worlds)) (steppedNew s) f, stepped-new-marks (oldSideOf (s .worlds)) s, count-other (newSideOf (s .worlds)) (oldSideOf (s .worlds)) (omega arith) (λ e. omega arith)) in
+    omega (
+      arith,
+      then-marks (oldSideOf (s .worlds)) (steppedNew s) f,
+      stepped-new-marks (oldSideOf (s .worlds)) s,
+      count-other (newSideOf (s .worlds))
+          (oldSideOf (s .worlds)) (omega arith) (λ e. omega arith),
+    ) in
     record {
       side = rw sc (i .side ∙ m .side);
       oldside = rw sc (i .oldside ∙ m .oldside);
@@ -148,7 +167,8 @@ catches-more n s f far i =
       weight = rw sc (i .weight ∙ m .weight);
       below = λ l. rw sc (i .below (omega arith));
       behind = λ ho hn h.
-          let z : lagIn (s .worlds) ≡ lagOf (oldStampOf (s .worlds) .0) (nextOf (newStampOf (s .worlds) .0)) + 1 = lag-step (oldStampOf (s .worlds) .0) (newStampOf (s .worlds) .0) ho hn far in
+          let z : lagIn (s .worlds) ≡ lagOf (oldStampOf (s .worlds) .0) (nextOf (newStampOf (s .worlds) .0)) + 1 =
+          lag-step (oldStampOf (s .worlds) .0) (newStampOf (s .worlds) .0) ho hn far in
           let y : lagIn (t .worlds) ≡ lagOf (oldStampOf (s .worlds) .0) (nextOf (newStampOf (s .worlds) .0)) = (λ j. lagOf (o j) (k j)) in
           let x : lagIn (p .scene .worlds) ≡ lagIn (t .worlds) - n = i .behind (omega arith) (omega arith) (omega arith) in
           rw sc (omega arith);
@@ -162,13 +182,16 @@ catches-more n s f far i =
           rw sc (omega arith);
     }
 
-catches-by : (b : Bool) (n : ℕ) (o : Timestamp) (s : Scene) → caughtUpOf (newStampOf (s .worlds)) o ≡ b → o ≡ oldStampOf (s .worlds) → Catches n (steppedNew s .scene) (caughtOf n o (steppedNew s .scene)) → Catches (suc n) s (unless b s (andThen (steppedNew s) (caughtOf n o)))
+catches-by : (b : Bool) (n : ℕ) (o : Timestamp) (s : Scene) → caughtUpOf (newStampOf (s .worlds)) o ≡ b → o ≡ oldStampOf (s .worlds)
+    → Catches n (steppedNew s .scene) (caughtOf n o (steppedNew s .scene)) → Catches (suc n) s (unless b s (andThen (steppedNew s) (caughtOf n o)))
 catches-by true n o s e q i =
     catches-still (suc n) s (λ ho hn h.
-    let r : ltb (lagOf (newStampOf (s .worlds) .0) (oldStampOf (s .worlds) .0)) 32768 ≡ true = sym (reached-is (newStampOf (s .worlds)) (oldStampOf (s .worlds))) ∙ ap (caughtUpOf (newStampOf (s .worlds))) (sym q) ∙ e in
+    let r : ltb (lagOf (newStampOf (s .worlds) .0) (oldStampOf (s .worlds) .0)) 32768 ≡ true =
+    sym (reached-is (newStampOf (s .worlds)) (oldStampOf (s .worlds))) ∙ ap (caughtUpOf (newStampOf (s .worlds))) (sym q) ∙ e in
     omega (arith, lag-none (oldStampOf (s .worlds) .0) (newStampOf (s .worlds) .0) ho hn h (ltb-true _ _ r)))
 catches-by false n o s e q i =
-    let r : ltb (lagOf (newStampOf (s .worlds) .0) (oldStampOf (s .worlds) .0)) 32768 ≡ false = sym (reached-is (newStampOf (s .worlds)) (oldStampOf (s .worlds))) ∙ ap (caughtUpOf (newStampOf (s .worlds))) (sym q) ∙ e in
+    let r : ltb (lagOf (newStampOf (s .worlds) .0) (oldStampOf (s .worlds) .0)) 32768 ≡ false =
+    sym (reached-is (newStampOf (s .worlds)) (oldStampOf (s .worlds))) ∙ ap (caughtUpOf (newStampOf (s .worlds))) (sym q) ∙ e in
     catches-more n s (caughtOf n o) (ltb-false _ _ r) i
 
 -- the catching up of a frame
@@ -187,12 +210,14 @@ pub record Simulates (m : ℕ) (s : Scene) (p : Played) : Type 0 where
   pub snapshots : p .scene .worlds .snapshots ≡ s .worlds .snapshots
   pub weight : p .scene .worlds .weight ≡ s .worlds .weight
   pub below : newStampOf (s .worlds) .0 < 65536 → newStampOf (p .scene .worlds) .0 < 65536
-  pub behind : 1 ≤ m → oldStampOf (s .worlds) .0 < 65536 → newStampOf (s .worlds) .0 < 65536 → lagIn (s .worlds) ≤ 32767 → lagIn (p .scene .worlds) ≡ lagIn (s .worlds) - (m - 1)
+  pub behind : 1 ≤ m → oldStampOf (s .worlds) .0 < 65536 → newStampOf (s .worlds) .0 < 65536 → lagIn (s .worlds) ≤ 32767
+      → lagIn (p .scene .worlds) ≡ lagIn (s .worlds) - (m - 1)
   pub one : stepsOn (oldSideOf (s .worlds)) (p .words) ≡ 1
   pub few : stepsOn (newSideOf (s .worlds)) (p .words) ≤ m
   pub steps : s .steps + m < 2 ^ 32 → p .scene .steps ≡ s .steps + stepsOn (newSideOf (s .worlds)) (p .words)
 
-simulates-then : (m : ℕ) (s : Scene) (f : Scene → Played) → Catches m (steppedSide s (oldSideOf (s .worlds)) .scene) (f (steppedSide s (oldSideOf (s .worlds)) .scene)) → Simulates m s (andThen (steppedSide s (oldSideOf (s .worlds))) f)
+simulates-then : (m : ℕ) (s : Scene) (f : Scene → Played) → Catches m (steppedSide s (oldSideOf (s .worlds)) .scene)
+    (f (steppedSide s (oldSideOf (s .worlds)) .scene)) → Simulates m s (andThen (steppedSide s (oldSideOf (s .worlds))) f)
 simulates-then m s f i =
     let q : Played = steppedSide s (oldSideOf (s .worlds)) in
     let t : Scene = q .scene in
@@ -206,9 +231,21 @@ simulates-then m s f i =
     let few : stepsOn (newSideOf (s .worlds)) (p .words) ≤ m = rw (v .side) at (i .few) in
     let none : stepsOn (oldSideOf (s .worlds)) (p .words) ≡ 0 = rw (v .oldside) at (i .none) in
     let e1 : stepsOn (oldSideOf (s .worlds)) (andThen q f .words) ≡ 1 =
-    omega (arith, then-marks (oldSideOf (s .worlds)) q f, stepped-marks (oldSideOf (s .worlds)) s (oldSideOf (s .worlds)), count-same (oldSideOf (s .worlds)) (oldSideOf (s .worlds)) (omega arith) refl) in
+    omega (
+      arith,
+      then-marks (oldSideOf (s .worlds)) q f,
+      stepped-marks (oldSideOf (s .worlds)) s (oldSideOf (s .worlds)),
+      count-same
+          (oldSideOf (s .worlds)) (oldSideOf (s .worlds)) (omega arith) refl,
+    ) in
     let e0 : stepsOn (newSideOf (s .worlds)) (andThen q f .words) ≡ stepsOn (newSideOf (s .worlds)) (p .words) =
-    omega (arith, then-marks (newSideOf (s .worlds)) q f, stepped-marks (newSideOf (s .worlds)) s (oldSideOf (s .worlds)), count-other (oldSideOf (s .worlds)) (newSideOf (s .worlds)) (omega arith) (λ e. omega arith)) in
+    omega (
+      arith,
+      then-marks (newSideOf (s .worlds)) q f,
+      stepped-marks (newSideOf (s .worlds)) s (oldSideOf (s .worlds)),
+      count-other
+          (oldSideOf (s .worlds)) (newSideOf (s .worlds)) (omega arith) (λ e. omega arith),
+    ) in
     record {
       side = rw sc (i .side ∙ v .side);
       old = rw sc (i .old ∙ v .old);
@@ -216,7 +253,8 @@ simulates-then m s f i =
       weight = rw sc (i .weight ∙ v .weight);
       below = λ l. rw sc (i .below (omega arith));
       behind = λ hm ho hn h.
-          let z : lagOf (nextOf (oldStampOf (s .worlds) .0)) (newStampOf (s .worlds) .0) ≡ lagIn (s .worlds) + 1 = lag-next (oldStampOf (s .worlds) .0) (newStampOf (s .worlds) .0) ho hn h in
+          let z : lagOf (nextOf (oldStampOf (s .worlds) .0)) (newStampOf (s .worlds) .0) ≡ lagIn (s .worlds) + 1 =
+          lag-next (oldStampOf (s .worlds) .0) (newStampOf (s .worlds) .0) ho hn h in
           let y : lagIn (t .worlds) ≡ lagOf (nextOf (oldStampOf (s .worlds) .0)) (newStampOf (s .worlds) .0) = (λ j. lagOf (k j) (o j)) in
           let x : lagIn (p .scene .worlds) ≡ lagIn (t .worlds) - m = i .behind (omega arith) (omega arith) (omega arith) in
           rw sc (omega arith);

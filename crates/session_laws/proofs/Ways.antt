@@ -1,4 +1,5 @@
--- Every way in which an update is answered: refused under a number, its clock moved on, or its frames played. Who shows a thing of each has it of the update. And the same of
+-- Every way in which an update is answered: refused under a number, its clock moved on, or its frames played. Who shows a thing of each has it of the update.
+-- And the same of
 -- an issue. Assumes nothing.
 use Prim.{⊥}
 use mathlib.Core.Path.{_≡_, refl}
@@ -26,7 +27,8 @@ use Rattle.session_state.specs.Sound.{soundOf}
 use Rattle.inbox_passes.specs.Passes.{hasForWorlds, receivedIn}
 use Rattle.session_answers.specs.declared.IssueAnswer.{IssueAnswer}
 use Rattle.session_answers.specs.Answers.{Answer, refusedWith, unlessRefused, acceptedOf, unissued, issuedOf}
-use Rattle.session.specs.Calls.{timesOk, refusedAtOnce, heardOther, clockAfter, requestOf, clockMovedOf, clockUpdateOf, concludedOf, unreceived, playedOf, worldsUpdateOf, updateBy, updateOf}
+use Rattle.session.specs.Calls.{timesOk, refusedAtOnce, heardOther, clockAfter, requestOf, clockMovedOf, clockUpdateOf, concludedOf, unreceived, playedOf}
+use Rattle.session.specs.Calls.{worldsUpdateOf, updateBy, updateOf}
 use Rattle.session.specs.Issue.{entryOf, receivedNow, issueRefusalOf, issueOf}
 
 -- the stage without worlds
@@ -55,7 +57,8 @@ pub record Ways (P : Answer → Type 0) (s : Session) (delta seconds : Float) (b
       P (acceptedOf s (clockAfter s delta seconds box) (requestOf s delta) (runIn s delta seconds box) len)
 
 -- refused, or not
-unless-by : (P : Answer → Type 0) (n : ℕ) (s : Session) (len : ℕ) (a : Answer) → ((n ≡ 0 → ⊥) → P (refusedWith n s len)) → (n ≡ 0 → P a) → P (unlessRefused n s len a)
+unless-by : (P : Answer → Type 0) (n : ℕ) (s : Session) (len : ℕ) (a : Answer) → ((n ≡ 0 → ⊥) → P (refusedWith n s len)) → (n ≡ 0 → P a)
+    → P (unlessRefused n s len a)
 unless-by P n s len a f g = go (eqb n accepted) (eqb-true n 0) (eqb-false n 0)
   where
     go : (b : Bool) → (b ≡ true → n ≡ 0) → (b ≡ false → n ≡ 0 → ⊥) → P (cond b a (refusedWith n s len))
@@ -63,7 +66,8 @@ unless-by P n s len a f g = go (eqb n accepted) (eqb-true n 0) (eqb-false n 0)
     go false t e = f (e refl)
 
 module _ {P : Answer → Type 0} (s : Session) (delta seconds : Float) (inbox : List ℕ) (len : ℕ) (h : Ways P s delta seconds inbox len) where
-  concluded-way : Judged s delta seconds inbox → hasWorlds (s .stage) ≡ true → P (concludedOf s (clockAfter s delta seconds inbox) (requestOf s delta) (runIn s delta seconds inbox) len)
+  concluded-way : Judged s delta seconds inbox → hasWorlds (s .stage) ≡ true
+      → P (concludedOf s (clockAfter s delta seconds inbox) (requestOf s delta) (runIn s delta seconds inbox) len)
   unfolding concludedOf
   concluded-way j x =
       let r : Run = runIn s delta seconds inbox in
@@ -82,7 +86,8 @@ module _ {P : Answer → Type 0} (s : Session) (delta seconds : Float) (inbox : 
   unfolding updateOf refusedAtOnce
   update-by-ways =
       unless-by P (refusedAtOnce s delta seconds inbox) s len _ (λ k. h .refuses _ k)
-      (λ z. let j = once-accepted (timesOk delta seconds) (refusalOf inbox) (soundOf s) z in by-way (hasWorlds (s .stage)) refl (record { times = j .0; inbox = j .1; sound = j .2 }))
+      (λ z. let j = once-accepted (timesOk delta seconds) (refusalOf inbox) (soundOf s) z in
+      by-way (hasWorlds (s .stage)) refl (record { times = j .0; inbox = j .1; sound = j .2 }))
 
 -- an issue: refused, or received by the worlds of a sound session
 pub issue-by-ways : (P : IssueAnswer → Type 0) (s : Session) (h : ℕ) → ((n : ℕ) → (n ≡ 0 → ⊥) → P (unissued n s))

@@ -24,7 +24,8 @@ below-low lo hi x p = λ i. sym p i && le x hi
 -- ---- the worlds' tests, by the calls that make them
 
 -- the old world is initialised: the new one decides
-pub init-in : (w : ClientWorldSimulations) {a b : ℕ} {s t : Simulation} → a ≡ oldSideOf w → s ≡ worldOf w a → b ≡ newSideOf w → t ≡ worldOf w b → s .init ≡ true → t .init ≡ initSound w
+pub init-in : (w : ClientWorldSimulations) {a b : ℕ} {s t : Simulation} → a ≡ oldSideOf w → s ≡ worldOf w a → b ≡ newSideOf w → t ≡ worldOf w b
+    → s .init ≡ true → t .init ≡ initSound w
 unfolding initSound
 init-in w ha hs hb ht h =
     ap (λ (x : Simulation). x .init) (ht ∙ ap (worldOf w) hb)
@@ -42,12 +43,14 @@ module _ (w : ClientWorldSimulations) {o n : Timestamp} (ho : o ≡ oldStampOf w
   -- equal stamps, and a weight from 0 up: 1 decides
   pub weight-equal-in : o .0 ≡ n .0 → le zero64 (w .weight) ≡ true → le (w .weight) one64 ≡ weightSound w
   unfolding weightSound
-  weight-equal-in e h = (λ i. sym h i && le (w .weight) one64) ∙ sym (ap (λ (x : Bool). cond x (between zero64 one64 (w .weight)) (eq (w .weight) zero64)) (same-by true (eq-eqb _ _ e)))
+  weight-equal-in e h = (λ i. sym h i && le (w .weight) one64)
+      ∙ sym (ap (λ (x : Bool). cond x (between zero64 one64 (w .weight)) (eq (w .weight) zero64)) (same-by true (eq-eqb _ _ e)))
 
   -- equal stamps, and a weight below 0
   pub weight-equal-out : o .0 ≡ n .0 → le zero64 (w .weight) ≡ false → false ≡ weightSound w
   unfolding weightSound
-  weight-equal-out e h = (λ i. sym h i && le (w .weight) one64) ∙ sym (ap (λ (x : Bool). cond x (between zero64 one64 (w .weight)) (eq (w .weight) zero64)) (same-by true (eq-eqb _ _ e)))
+  weight-equal-out e h = (λ i. sym h i && le (w .weight) one64)
+      ∙ sym (ap (λ (x : Bool). cond x (between zero64 one64 (w .weight)) (eq (w .weight) zero64)) (same-by true (eq-eqb _ _ e)))
 
   -- stamps apart: the weight is 0
   pub weight-apart : (o .0 ≡ n .0 → ⊥) → eq (w .weight) zero64 ≡ weightSound w

@@ -3,7 +3,8 @@ use mathlib.Core.Path.{_≡_, refl, sym, ap, _∙_, subst}
 use mathlib.Core.Logic.{_⊎_, inl, inr}
 use mathlib.Core.Bool.{Bool, true, false, cond, _&&_, true≢false, false≢true}
 use Prim.Native.Nat.{ℕ, zero, suc, _+_, _-_, _*_, _/_, _^_, _<_, _≤_}
-use native.Mathlib.Nat.{mul-pos, le-trans, div-lt-iff-lt-mul, le-of-suc-le-suc, le-of-mul-le-mul-right, mul-le-mul-right, mul-div-cancel, le-div-iff-mul-le, mul-one}
+use native.Mathlib.Nat.{mul-pos, le-trans, div-lt-iff-lt-mul, le-of-suc-le-suc, le-of-mul-le-mul-right, mul-le-mul-right, mul-div-cancel, le-div-iff-mul-le}
+use native.Mathlib.Nat.{mul-one}
 use native.Mathlib.Omega.{arith}
 use lib.Dec.{T, ltb, leb, lit<, lit≤}
 use lib.IntN.{ℤ, pos}
@@ -89,11 +90,13 @@ of-le-value n (fin true m e) y p h v = absurd p
 of-le-value n (fin false m e) nan p h v = absurd h
 of-le-value n (fin false m e) (inf s) p h v = absurd v
 of-le-value n (fin false m e) (fin true k d) p h v = absurd (true≢false (v .0))
-of-le-value n (fin false m e) (fin false k d) p h v = scaled (m * up e) (down e) (k * up d) (down d) n (le-at (m * up e * down d) (k * up d * down e) (is-true _ h)) (v .1) (down-pos d)
+of-le-value n (fin false m e) (fin false k d) p h v = scaled (m * up e) (down e) (k * up d) (down d) n
+    (le-at (m * up e * down d) (k * up d * down e) (is-true _ h)) (v .1) (down-pos d)
 
 -- a fraction that is at most n, rounded, is at most n
 round-up-to : (n a c : ℕ) → n ≤ 2 ^ 53 → 0 < c → a ≤ n * c → UpTo n (round binary64 false a c)
-round-up-to n a c s C h = of-le-value n (round binary64 false a c) (round binary64 false n 1) (round-plus binary64 a c) (round-mono binary64 a c n 1 C (lit< tt) (omega arith)) (round-whole binary64 false n s)
+round-up-to n a c s C h = of-le-value n (round binary64 false a c) (round binary64 false n 1) (round-plus binary64 a c)
+    (round-mono binary64 a c n 1 C (lit< tt) (omega arith)) (round-whole binary64 false n s)
 
 -- ---- the product and the quotient by 2
 
@@ -193,8 +196,10 @@ half needed rate = div binary64 (mul binary64 (ofInt binary64 (pos needed)) rate
 half-cases : (n : ℕ) (r : Float) → n ≤ 32 → le zero64 r ≡ true → le r one64 ≡ true → UpTo 16 (half n r) ⊎ (lt one64 (half n r) ≡ false)
 unfolding UpTo
 half-cases n r h a b = elim (rate-cases r a b) [
-  | inl u ↦ inl (half-up-to 16 (mul binary64 (ofInt binary64 (pos n)) r) (lit≤ tt) (wider n 32 (mul binary64 (ofInt binary64 (pos n)) r) h (product-up-to n (ofInt binary64 (pos n)) r (omega arith) (of-whole n h) u)))
-  | inr p ↦ inr (minus-low (half n r) (halved-minus (mul binary64 (ofInt binary64 (pos n)) r) (product-minus n (ofInt binary64 (pos n)) r (of-whole n h) (finite-between r a b) p)))
+  | inl u ↦ inl (half-up-to 16 (mul binary64 (ofInt binary64 (pos n)) r) (lit≤ tt)
+      (wider n 32 (mul binary64 (ofInt binary64 (pos n)) r) h (product-up-to n (ofInt binary64 (pos n)) r (omega arith) (of-whole n h) u)))
+  | inr p ↦ inr (minus-low (half n r) (halved-minus (mul binary64 (ofInt binary64 (pos n)) r)
+      (product-minus n (ofInt binary64 (pos n)) r (of-whole n h) (finite-between r a b) p)))
 ]
   where
     wider : (n k : ℕ) (x : Float) → n ≤ k → UpTo n x → UpTo k x
@@ -227,10 +232,12 @@ module _ (needed : ℕ) (rate : Float) (pass : samplesPass needed rate ≡ true)
   unfolding discardOf
   discard-range = go (lt one64 (half needed rate)) refl
     where
-      go : (b : Bool) → lt one64 (half needed rate) ≡ b → (1 ≤ toUnsigned 16 (ceilOf (atLeastOne (half needed rate)))) × (toUnsigned 16 (ceilOf (atLeastOne (half needed rate))) ≤ 16)
+      go : (b : Bool) → lt one64 (half needed rate) ≡ b → (1 ≤ toUnsigned 16 (ceilOf (atLeastOne (half needed rate))))
+          × (toUnsigned 16 (ceilOf (atLeastOne (half needed rate))) ≤ 16)
       go false e = let o = not-above-one (half needed rate) e in (omega (arith, o), omega (arith, o))
       go true e = elim (half-cases needed rate (parts .1) (parts .2) (parts .3)) [
-        | inl u ↦ subst (λ (x : Float). (1 ≤ toUnsigned 16 (ceilOf x)) × (toUnsigned 16 (ceilOf x) ≤ 16)) (sym (above-one (half needed rate) e)) (ceil-few 16 (half needed rate) (lit< tt) u e)
+        | inl u ↦ subst (λ (x : Float). (1 ≤ toUnsigned 16 (ceilOf x)) × (toUnsigned 16 (ceilOf x) ≤ 16)) (sym (above-one (half needed rate) e))
+            (ceil-few 16 (half needed rate) (lit< tt) u e)
         | inr n ↦ absurd (true≢false (sym e ∙ n))
       ]
 

@@ -23,7 +23,8 @@ use Rattle.timestamp.proofs.Whole.{holds}
 use Rattle.timestamp.proofs.Basics.{split, signs-apart}
 use Rattle.settings.specs.declared.Settings.{Settings}
 use Rattle.settings.specs.Tweening.{knownOf}
-use Rattle.settings.specs.Settings.{least64, sixty64, sixtyFour64, hour64, between, lagFramesOf, lagFrameCountOf, samplesToDiscardOf, samplesToStoreOf, secondsPass, thresholdsPass, samplesPass, countsPass, passesOf}
+use Rattle.settings.specs.Settings.{least64, sixty64, sixtyFour64, hour64, between, lagFramesOf, lagFrameCountOf, samplesToDiscardOf, samplesToStoreOf}
+use Rattle.settings.specs.Settings.{secondsPass, thresholdsPass, samplesPass, countsPass, passesOf}
 use Rattle.timestamp.specs.Floats.{zero64, one64}
 use Rattle.settings.proofs.Tests.{le-at}
 use Rattle.timestamp.proofs.Tests.{apart}
@@ -76,9 +77,11 @@ round-of-plus (fin true m e) p = absurd p
 round-of-plus (fin false m e) p = round-plus binary64 _ _
 
 -- a quotient by a number that is not 0
-quotient-is : (s : Bool) (m : ℕ) (e : ℤ) (n : ℕ) (d : ℤ) → div binary64 (fin s m e) (fin false (suc n) d) ≡ round binary64 (unlike s false) (m * up e * down d) (suc n * up d * down e)
+quotient-is : (s : Bool) (m : ℕ) (e : ℤ) (n : ℕ) (d : ℤ) → div binary64 (fin s m e) (fin false (suc n) d) ≡ round binary64 (unlike s false)
+    (m * up e * down d) (suc n * up d * down e)
 unfolding div
-quotient-is s m e n d = ap (λ (b : Bool). cond b (cond (eqb m 0) nan (inf (unlike s false))) (round binary64 (unlike s false) (m * up e * down d) (suc n * up d * down e))) (ne-eqb (suc n) 0 (omega arith))
+quotient-is s m e n d = ap (λ (b : Bool). cond b (cond (eqb m 0) nan (inf (unlike s false)))
+    (round binary64 (unlike s false) (m * up e * down d) (suc n * up d * down e))) (ne-eqb (suc n) 0 (omega arith))
 
 -- it is plus, or it is -0 where the lag is
 quotient-plus : (m : ℕ) (e : ℤ) (n : ℕ) (d : ℤ) → T (plus (div binary64 (fin false m e) (fin false (suc n) d)))
@@ -87,7 +90,8 @@ quotient-plus m e n d = subst (λ (x : Float). T (plus x)) (sym (quotient-is fal
 quotient-zero : (e : ℤ) (n : ℕ) (d : ℤ) → div binary64 (fin true 0 e) (fin false (suc n) d) ≡ fin true 0 (pos 0)
 unfolding round
 quotient-zero e n d =
-    quotient-is true 0 e n d ∙ round-same binary64 true (0 * up e * down d) (suc n * up d * down e) 0 1 (mul-pos (mul-pos (zero-lt-suc n) (up-pos d)) (down-pos e)) (lit< tt) (none (up e) (down d) (suc n * up d * down e))
+    quotient-is true 0 e n d ∙ round-same binary64 true (0 * up e * down d) (suc n * up d * down e) 0 1
+    (mul-pos (mul-pos (zero-lt-suc n) (up-pos d)) (down-pos e)) (lit< tt) (none (up e) (down d) (suc n * up d * down e))
   where
     none : (a b c : ℕ) → 0 * a * b * 1 ≡ 0 * c
     none a b c = omega arith
@@ -114,14 +118,16 @@ some m u w U h =
     let p = mul-pos (zero-lt-suc m) U in
     omega arith
 
-lag-counted : (lag timestep : Float) → le zero64 lag ≡ true → T (finite lag) → le least64 timestep ≡ true → T (finite timestep) → Counted (lagFramesOf lag timestep)
+lag-counted : (lag timestep : Float) → le zero64 lag ≡ true → T (finite lag) → le least64 timestep ≡ true → T (finite timestep)
+    → Counted (lagFramesOf lag timestep)
 unfolding lagFramesOf le lt eq
 lag-counted lag nan h p k q = absurd q
 lag-counted lag (inf s) h p k q = absurd q
 lag-counted nan (fin s n d) h p k q = absurd p
 lag-counted (inf t) (fin s n d) h p k q = absurd p
 lag-counted (fin t m e) (fin true n d) h p k q = absurd (signs-apart (1 * down d) (n * up d * 1024) (omega (arith, down-pos d)) k)
-lag-counted (fin t m e) (fin false zero d) h p k q = absurd (none (1 * 1 * down d) (0 * up d * 1024) (omega (arith, down-pos d)) (le-at (1 * 1 * down d) (0 * up d * 1024) k))
+lag-counted (fin t m e) (fin false zero d) h p k q = absurd (none (1 * 1 * down d) (0 * up d * 1024) (omega (arith, down-pos d))
+    (le-at (1 * 1 * down d) (0 * up d * 1024) k))
   where
     none : (a b : ℕ) → b < a → a ≤ b → ⊥
     none a b h k = omega arith
@@ -134,11 +140,13 @@ lag-counted (fin true (suc m) e) (fin false (suc n) d) h p k q = absurd (some m 
 small : (a b : ℕ) → 2 ^ a ≤ 2 ^ b → a ≤ b
 small a b h = elim (split b a) [ inl l ↦ absurd (not-le-of-lt (pow-lt {i = b} {j = a} l) h) | inr l ↦ l ]
 
-sixty-four-at : (m : ℕ) (e : ℤ) → T (fits binary64 (fin false m e)) → m * up e ≤ 1 * down e → HasValue (round binary64 false (64 * (m * up e)) (1 * down e)) false (64 * (m * up e)) (1 * down e)
+sixty-four-at : (m : ℕ) (e : ℤ) → T (fits binary64 (fin false m e)) → m * up e ≤ 1 * down e
+    → HasValue (round binary64 false (64 * (m * up e)) (1 * down e)) false (64 * (m * up e)) (1 * down e)
 sixty-four-at m (pos k) f h =
     let q = 64 * (m * 2 ^ k) in
     let Q : q < 2 ^ 53 = omega arith in
-    round-exact binary64 false q 1 q 1074 (lit< tt) Q (lt-of-lt-of-le (shl-lt 53 1074 Q) (pow-mono {i = 53 + 1074} {j = 1074 + 1024} (lit≤ tt))) (sym (mul-one (q * 2 ^ 1074)))
+    round-exact binary64 false q 1 q 1074 (lit< tt) Q (lt-of-lt-of-le (shl-lt 53 1074 Q) (pow-mono {i = 53 + 1074} {j = 1074 + 1024} (lit≤ tt)))
+    (sym (mul-one (q * 2 ^ 1074)))
 sixty-four-at m (negsuc k) f h =
     let g = holds false m (negsuc k) f in
     let K : suc k ≤ 1074 = small (suc k) 1074 (g .1) in
@@ -146,7 +154,8 @@ sixty-four-at m (negsuc k) f h =
     let J : j + suc k ≡ 1080 = omega arith in
     let y : 53 + j ≤ 1074 + 1024 = omega arith in
     let P : 2 ^ j * 2 ^ suc k ≡ 2 ^ 1080 = sym (pow-add 2 j (suc k)) ∙ ap (λ (x : ℕ). 2 ^ x) J in
-    round-exact binary64 false (64 * (m * 1)) (1 * 2 ^ suc k) m j (mul-pos (lit< tt) (pow-pos (suc k))) (g .0) (lt-of-lt-of-le (shl-lt 53 j (g .0)) (pow-mono y))
+    round-exact binary64 false (64 * (m * 1)) (1 * 2 ^ suc k) m j (mul-pos (lit< tt) (pow-pos (suc k))) (g .0)
+    (lt-of-lt-of-le (shl-lt 53 j (g .0)) (pow-mono y))
     (even m (2 ^ 1074) ∙ ap (λ (x : ℕ). m * x) (sym P) ∙ sym (mul-assoc m (2 ^ j) (2 ^ suc k)) ∙ ap (λ (x : ℕ). m * 2 ^ j * x) (sym (one-mul (2 ^ suc k))))
   where
     even : (m p : ℕ) → 64 * (m * 1) * p ≡ m * (64 * p)
@@ -171,7 +180,8 @@ module _ (s : Settings) (pass : passesOf s ≡ true) where
       let c = apart (secondsPass s) (thresholdsPass s) (b .0) in
       (c .0, c .1, b .1, a .1)
 
-  seconds : (between least64 one64 (s .timestep) ≡ true) × (between least64 sixty64 (s .blend) ≡ true) × (between zero64 sixty64 (s .lag) ≡ true) × (leZ (lagFrameCountOf s) (pos 16383) ≡ true) × (between zero64 (mul binary64 sixtyFour64 (s .timestep)) (s .max) ≡ true)
+  seconds : (between least64 one64 (s .timestep) ≡ true) × (between least64 sixty64 (s .blend) ≡ true) × (between zero64 sixty64 (s .lag) ≡ true)
+      × (leZ (lagFrameCountOf s) (pos 16383) ≡ true) × (between zero64 (mul binary64 sixtyFour64 (s .timestep)) (s .max) ≡ true)
   unfolding secondsPass
   seconds =
       let t = between least64 one64 (s .timestep) in

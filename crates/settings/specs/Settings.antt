@@ -1,4 +1,5 @@
--- Document 01, the paragraph "Settings": the limits that refusal 1 is about, and the numbers that the Rust's `Config` derives, each operation IEEE 754's in the Rust's order.
+-- Document 01, the paragraph "Settings": the limits that refusal 1 is about, and the numbers that the Rust's `Config` derives, each operation IEEE 754's in the
+-- Rust's order.
 -- Definitions only. Assumes nothing.
 use Prim.Native.Nat.{ℕ, _+_, _*_}
 use mathlib.Core.Bool.{Bool, false, cond, _&&_}
@@ -47,7 +48,8 @@ progressOf timestep blend = div binary64 timestep blend
 abbrev pub atLeastOne : Float → Float
 atLeastOne x = cond (lt one64 x) x one64
 
--- how many samples the mean leaves out at each end: needed × rate / 2, at least 1, rounded up. Samples and rates that pass give at most 16; of others 65,535 is the most
+-- how many samples the mean leaves out at each end: needed × rate / 2, at least 1, rounded up. Samples and rates that pass give at most 16; of others 65,535 is
+-- the most
 unfoldable pub discardOf : ℕ → Float → ℕ
 discardOf needed rate = toUnsigned 16 (ceilOf (atLeastOne (div binary64 (mul binary64 (ofInt binary64 (pos needed)) rate) two64)))
 
@@ -73,7 +75,8 @@ samplesToStoreOf s = storeOf (s .needed) (s .rate)
 
 -- ---- the limits
 
--- timestep 1/1024 to 1 s; blend latency 1/1024 to 60; lag latency 0 to 60, its frame count at most 16,383; update maximum 0 to 64 × timestep, a product that is exact
+-- timestep 1/1024 to 1 s; blend latency 1/1024 to 60; lag latency 0 to 60, its frame count at most 16,383; update maximum 0 to 64 × timestep, a product that is
+-- exact
 unfoldable pub secondsPass : Settings → Bool
 secondsPass s =
     between least64 one64 (s .timestep)

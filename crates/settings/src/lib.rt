@@ -2,7 +2,8 @@
 // src/lib.rs of crystalorb hold. Every function is total: it has its answer also for settings that do not pass.
 ghost use mathlib.Core.Path.{_≡_};
 ghost use Rattle.timestamp.specs.Timestamps.{bitsOf};
-ghost use Rattle.settings.specs.Settings.{between, lagFramesOf, discardOf, storeOf, secondsPass, thresholdsPass, samplesPass, countsPass, passesOf, lagFrameCountOf, blendProgressOf, samplesToDiscardOf, samplesToStoreOf};
+ghost use Rattle.settings.specs.Settings.{between, lagFramesOf, discardOf, storeOf, secondsPass, thresholdsPass, samplesPass, countsPass, passesOf};
+ghost use Rattle.settings.specs.Settings.{lagFrameCountOf, blendProgressOf, samplesToDiscardOf, samplesToStoreOf};
 ghost use Rattle.settings.specs.Tweening.{methodOf, knownOf, shapedOf};
 use timestamp::FloatTimestamp;
 use timestamp::Timestamp;

@@ -27,16 +27,19 @@ pub new-is : (t : Timestamp) {b : CommandBuffer} → b ≡ laid [] t → worldWi
 new-is t e = ap (λ (x : CommandBuffer). worldWith x false) e
 
 -- a command that was offered
-pub scheduled-is : (w : Simulation) (e : Entry) {i : Insertion} → i ≡ insertedOf (w .commands) e → _≡_ {A = Scheduled} (record { world = worldWith (i .buffer) (w .init); outcome = i .outcome }) (scheduledOf w e)
+pub scheduled-is : (w : Simulation) (e : Entry) {i : Insertion} → i ≡ insertedOf (w .commands) e
+    → _≡_ {A = Scheduled} (record { world = worldWith (i .buffer) (w .init); outcome = i .outcome }) (scheduledOf w e)
 unfolding scheduledOf
 scheduled-is w e h = ap (λ (x : Insertion). record { world = worldWith (x .buffer) (w .init); outcome = x .outcome }) h
 
 -- what a drain puts
-drained-puts : {b : CommandBuffer} {s : Timestamp} {side place : ℕ} {was last : List ℕ} {a : Applied} → Applies b s side place was a last → Puts was place (commandWords side (takenOf b s)) (a .at) last
+drained-puts : {b : CommandBuffer} {s : Timestamp} {side place : ℕ} {was last : List ℕ} {a : Applied} → Applies b s side place was a last
+    → Puts was place (commandWords side (takenOf b s)) (a .at) last
 drained-puts {b} {s} {side} {place} h = record { at = h .at ∙ ap (λ (n : ℕ). place + n) (sym (words-length side (takenOf b s))); tape = h .tape }
 
 -- what a drain of everything puts
-flushed-puts : {b : CommandBuffer} {side place : ℕ} {was last : List ℕ} {a : Applied} → AppliesAll b side place was a last → Puts was place (commandWords side (held b)) (a .at) last
+flushed-puts : {b : CommandBuffer} {side place : ℕ} {was last : List ℕ} {a : Applied} → AppliesAll b side place was a last
+    → Puts was place (commandWords side (held b)) (a .at) last
 flushed-puts {b} {side} {place} h = record { at = h .at ∙ ap (λ (n : ℕ). place + n) (sym (words-length side (held b))); tape = h .tape }
 
 -- how many were applied is how far the place has moved
@@ -45,23 +48,29 @@ moved-by place n a h = omega arith
 
 -- a step
 pub step-does : (w : Simulation) (side : ℕ) {place : ℕ} {was mid last : List ℕ} {next : Timestamp} {a : Applied} {p word : ℕ} {m : Moved}
-    → next .0 ≡ sumOf (w .commands .timestamp .0) 1 → Applies (w .commands) next side place was a mid → word ≡ stepWord side → Puts mid (a .at) (word ∷ []) p last → m ≡ movedOf (a .buffer) next
+    → next .0 ≡ sumOf (w .commands .timestamp .0) 1 → Applies (w .commands) next side place was a mid → word ≡ stepWord side
+    → Puts mid (a .at) (word ∷ []) p last → m ≡ movedOf (a .buffer) next
     → Does (stepOf w side) was place (record { world = worldWith (m .buffer) (w .init); at = p; applied = a .at - place; leftout = m .dropped }) last
 unfolding stepOf
 step-does w side {place} {was} {mid} {last} {next} {a} {p} {word} {m} hn ha hw hp hm =
     let e : next ≡ nextStamp (w .commands .timestamp) = ap (λ (n : ℕ). record { 0 = n }) hn in
-    let b : m ≡ movedOf (restOf (w .commands) (nextStamp (w .commands .timestamp))) (nextStamp (w .commands .timestamp)) = hm ∙ (λ i. movedOf ((ha .buffer ∙ ap (restOf (w .commands)) e) i) (e i)) in
+    let b : m ≡ movedOf (restOf (w .commands) (nextStamp (w .commands .timestamp))) (nextStamp (w .commands .timestamp)) = hm
+    ∙ (λ i. movedOf ((ha .buffer ∙ ap (restOf (w .commands)) e) i) (e i)) in
     record {
       world = ap (λ (x : Moved). worldWith (x .buffer) (w .init)) b;
       applied = moved-by place _ (a .at) (ha .at) ∙ ap (λ (t : Timestamp). length (takenOf (w .commands) t)) e;
       leftout = ap (λ (x : Moved). x .dropped) b;
-      puts = puts-then (puts-as (ap (λ (t : Timestamp). commandWords side (takenOf (w .commands) t)) e) (drained-puts ha)) (puts-as (ap (λ (x : ℕ). x ∷ []) hw) hp);
+      puts = puts-then (puts-as (ap (λ (t : Timestamp). commandWords side (takenOf (w .commands) t)) e) (drained-puts ha))
+          (puts-as (ap (λ (x : ℕ). x ∷ []) hw) hp);
     }
 
 -- a load
-pub load-does : (w : Simulation) (base : CommandBuffer) (t : Timestamp) (side handle : ℕ) {place : ℕ} {was last : List ℕ} {p word copied replaced : ℕ} {m : Moved}
-    → word ≡ snapshotWord side handle → Puts was place (word ∷ []) p last → m ≡ movedOf base t → copied ≡ length (held base) → replaced ≡ length (held (w .commands))
-    → Loads (loadOf w base t) side handle was place (record { world = worldWith (m .buffer) true; at = p; copied = copied; replaced = replaced; leftout = m .dropped }) last
+pub load-does : (w : Simulation) (base : CommandBuffer) (t : Timestamp) (side handle : ℕ) {place : ℕ} {was last : List ℕ} {p word copied replaced : ℕ}
+    {m : Moved}
+    → word ≡ snapshotWord side handle → Puts was place (word ∷ []) p last → m ≡ movedOf base t → copied ≡ length (held base)
+    → replaced ≡ length (held (w .commands))
+    → Loads (loadOf w base t) side handle was place
+    (record { world = worldWith (m .buffer) true; at = p; copied = copied; replaced = replaced; leftout = m .dropped }) last
 unfolding loadOf
 load-does w base t side handle hw hp hm hc hr =
     record {

@@ -10,7 +10,8 @@ use lib.ListN.{replicate}
 use lib.Ieee.{Float}
 use Rattle.tape.specs.Words.{stepWord, commandWord, snapshotWord, publishWord, noneWord, weightWords, mixWords, kindOf, sideOf, countIf, stepWords}
 use Rattle.tape.specs.Words.{stepsOn, commandsOn}
-use Rattle.tape.proofs.Reading.{kind-of-step, kind-of-command, kind-of-snapshot, kind-of-publish, kind-of-mix, kind-of-weight, kind-of-none, side-of-step, side-of-command}
+use Rattle.tape.proofs.Reading.{kind-of-step, kind-of-command, kind-of-snapshot, kind-of-publish, kind-of-mix, kind-of-weight, kind-of-none}
+use Rattle.tape.proofs.Reading.{side-of-step, side-of-command}
 
 -- ---- along a list
 
@@ -36,7 +37,8 @@ steps-both (w ∷ ws) = go (eqb (kindOf w) 1) (sideOf w) (omega arith) (steps-bo
     at (suc zero) h = refl
     at (suc (suc s)) h = absurd (omega arith)
 
-    go : (k : Bool) (s : ℕ) → s < 2 → stepWords ws ≡ stepsOn 0 ws + stepsOn 1 ws → countIf k + stepWords ws ≡ (countIf (k && eqb s 0) + stepsOn 0 ws) + (countIf (k && eqb s 1) + stepsOn 1 ws)
+    go : (k : Bool) (s : ℕ) → s < 2 → stepWords ws ≡ stepsOn 0 ws + stepsOn 1 ws
+        → countIf k + stepWords ws ≡ (countIf (k && eqb s 0) + stepsOn 0 ws) + (countIf (k && eqb s 1) + stepsOn 1 ws)
     go true s h e = omega (arith, at s h)
     go false s h e = omega arith
 

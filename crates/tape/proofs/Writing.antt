@@ -106,11 +106,13 @@ cleared-after ws t h =
     rw (length-sets, e, sets-eq z (ws ++ rest) (length ws) (omega arith), d, take-append-seam, append-nil) refl
 
 -- three words put that hold the high, the middle and the low part of a pattern
-pub puts-weight : {t u v l : List ℕ} {n a b c x y z : ℕ} (bits : ℕ) → x ≡ weightWord (bits / 2 ^ 56) → Puts t n (x ∷ []) a u → y ≡ weightWord (bits / 2 ^ 28) → Puts u a (y ∷ []) b v → z ≡ weightWord bits → Puts v b (z ∷ []) c l → Puts t n (weightWords bits) c l
+pub puts-weight : {t u v l : List ℕ} {n a b c x y z : ℕ} (bits : ℕ) → x ≡ weightWord (bits / 2 ^ 56) → Puts t n (x ∷ []) a u
+    → y ≡ weightWord (bits / 2 ^ 28) → Puts u a (y ∷ []) b v → z ≡ weightWord bits → Puts v b (z ∷ []) c l → Puts t n (weightWords bits) c l
 unfolding weightWords
 puts-weight bits ex p ey q ez r = puts-as (rw (ex, ey, ez)) (puts-then (puts-then p q) r)
 
 -- a mix's own word put, and then those of its weight
-pub puts-mix : {t u l : List ℕ} {n a c x bits : ℕ} (weight : Float) → x ≡ mixWord → Puts t n (x ∷ []) a u → bits ≡ toBits binary64 weight → Puts u a (weightWords bits) c l → Puts t n (mixWords weight) c l
+pub puts-mix : {t u l : List ℕ} {n a c x bits : ℕ} (weight : Float) → x ≡ mixWord → Puts t n (x ∷ []) a u → bits ≡ toBits binary64 weight
+    → Puts u a (weightWords bits) c l → Puts t n (mixWords weight) c l
 unfolding mixWords
 puts-mix weight ex p eb q = puts-as (rw (ex, eb)) (puts-then p q)

@@ -3,7 +3,8 @@ use mathlib.Core.Path.{_≡_, refl, sym, ap, _∙_, subst}
 use mathlib.Core.Logic.{inl, inr}
 use mathlib.Core.Bool.{Bool, true, false, cond, not}
 use Prim.Native.Nat.{ℕ, zero, suc, _+_, _-_, _*_, _/_, _%_, _^_, _<_, _≤_}
-use native.Mathlib.Nat.{mul-one, mul-assoc, mul-comm, mul-right-comm, add-mul, mul-div-cancel, add-mul-div-right, div-add-mod', div-eq-of-lt, mod-lt, div-mul-le-self, div-le-self, lt-of-le-of-lt, lt-of-lt-of-le, eq-of-mul-eq-mul-right, add-comm}
+use native.Mathlib.Nat.{mul-one, mul-assoc, mul-comm, mul-right-comm, add-mul, mul-div-cancel, add-mul-div-right, div-add-mod', div-eq-of-lt, mod-lt}
+use native.Mathlib.Nat.{div-mul-le-self, div-le-self, lt-of-le-of-lt, lt-of-lt-of-le, eq-of-mul-eq-mul-right, add-comm}
 use native.Mathlib.Omega.{arith}
 use lib.Dec.{T, leb, eqb, lit<, lit≤}
 use lib.Pow.{pow-add, pow-pos, pow-mono, shr-mod, field, shl-lt}
@@ -91,7 +92,8 @@ module _ (b g h : ℕ) (G : 0 < g) (hg : h * g ≡ 2 ^ 52) where
 
   cleared : b / g * g ≡ b / 2 ^ 52 * 2 ^ 52 + b % 2 ^ 52 / g * g
   cleared =
-      let e : b ≡ b % 2 ^ 52 + b / 2 ^ 52 * h * g = sym (div-add-mod' b (2 ^ 52)) ∙ add-comm (b / 2 ^ 52 * 2 ^ 52) (b % 2 ^ 52) ∙ ap (λ (z : ℕ). b % 2 ^ 52 + z) (ap (λ (z : ℕ). b / 2 ^ 52 * z) (sym hg) ∙ sym (mul-assoc (b / 2 ^ 52) h g)) in
+      let e : b ≡ b % 2 ^ 52 + b / 2 ^ 52 * h * g = sym (div-add-mod' b (2 ^ 52)) ∙ add-comm (b / 2 ^ 52 * 2 ^ 52) (b % 2 ^ 52)
+      ∙ ap (λ (z : ℕ). b % 2 ^ 52 + z) (ap (λ (z : ℕ). b / 2 ^ 52 * z) (sym hg) ∙ sym (mul-assoc (b / 2 ^ 52) h g)) in
       ap (λ (z : ℕ). z / g * g) e
       ∙ ap (λ (z : ℕ). z * g) (add-mul-div-right (b % 2 ^ 52) (b / 2 ^ 52 * h) G)
       ∙ add-mul (b % 2 ^ 52 / g) (b / 2 ^ 52 * h) g
@@ -179,7 +181,8 @@ no-nan-bits n h = subst (λ (t : Bool). T (not t)) (sym (nanBits-is binary64 n))
 
 -- which is no NaN's pattern
 pub masked-no-nan : (b x k : ℕ) → expo b ≡ suc x → k + x ≡ 1074 → k ≤ 52 → T (not (nanBits binary64 (b / 2 ^ k * 2 ^ k)))
-masked-no-nan b x k e xk K = no-nan-bits (b / 2 ^ k * 2 ^ k) (has-no-nan (ofBits binary64 (b / 2 ^ k * 2 ^ k)) (sign b) (N b x k e xk K) 1 (masked-value b x k e xk K))
+masked-no-nan b x k e xk K = no-nan-bits (b / 2 ^ k * 2 ^ k) (has-no-nan (ofBits binary64 (b / 2 ^ k * 2 ^ k)) (sign b) (N b x k e xk K) 1
+    (masked-value b x k e xk K))
 
 zero-of : (s : Bool) → round binary64 s 0 1 ≡ fin s 0 (pos 0)
 unfolding round

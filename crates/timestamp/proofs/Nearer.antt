@@ -3,7 +3,9 @@ use mathlib.Core.Path.{_≡_, refl, sym, ap, _∙_, subst}
 use mathlib.Core.Logic.{inl, inr}
 use mathlib.Core.Bool.{Bool, true, false, cond, not, _&&_, true≢false, false≢true}
 use Prim.Native.Nat.{ℕ, suc, _+_, _-_, _*_, _/_, _^_, _<_, _≤_}
-use native.Mathlib.Nat.{mul-one, mul-assoc, mul-comm, mul-sub, mul-pos, mul-le-mul-right, mul-lt-mul-of-pos-right, le-of-mul-le-mul-right, lt-of-mul-lt-mul-right, div-mul-le-self, lt-div-mul-add, div-eq-of-lt-le, lt-of-le-of-lt, lt-of-lt-of-le, le-of-eq, sub-le, not-le-of-lt}
+use native.Mathlib.Nat.{mul-one, mul-assoc, mul-comm, mul-sub, mul-pos, mul-le-mul-right, mul-lt-mul-of-pos-right, le-of-mul-le-mul-right}
+use native.Mathlib.Nat.{lt-of-mul-lt-mul-right, div-mul-le-self, lt-div-mul-add, div-eq-of-lt-le, lt-of-le-of-lt, lt-of-lt-of-le, le-of-eq, sub-le}
+use native.Mathlib.Nat.{not-le-of-lt}
 use native.Mathlib.Omega.{arith}
 use lib.Dec.{T, ltb, eqb, lit<}
 use lib.Pow.{pow-add, pow-pos, pow-mono, pow-lt, shl-lt}
@@ -35,7 +37,8 @@ abbrev picked : Bool → Bool → Bool → ℕ → ℕ → ℕ → Float
 picked s x y A B C = cond x (round binary64 (not s) (B - A) C) (round binary64 (s && y) (A - B) C)
 
 module _ (s : Bool) (m n q : ℕ) (e d : ℤ) (v : n * up d * 1 ≡ q * down d) (l : q * down e ≤ m * up e) where
-  picks : picked s (ltb (m * up e * down d) (n * up d * down e)) (ltb (n * up d * down e) (m * up e * down d)) (m * up e * down d) (n * up d * down e) (down e * down d)
+  picks : picked s (ltb (m * up e * down d) (n * up d * down e)) (ltb (n * up d * down e) (m * up e * down d)) (m * up e * down d) (n * up d * down e)
+      (down e * down d)
       ≡ round binary64 (s && ltb (q * down e) (m * up e)) (m * up e - q * down e) (down e)
   picks =
       let a = m * up e in
@@ -44,9 +47,11 @@ module _ (s : Bool) (m n q : ℕ) (e d : ℤ) (v : n * up d * 1 ≡ q * down d) 
       ap (λ (B : ℕ). picked s (ltb (a * D) B) (ltb B (a * D)) (a * D) B (down e * D)) (times (n * up d) q D (down e) v)
       ∙ ap (λ (x : Bool). picked s x (ltb (Q * D) (a * D)) (a * D) (Q * D) (down e * D)) (cancel a Q D (down-pos d) ∙ le-ltb a Q l)
       ∙ ap (λ (y : Bool). round binary64 (s && y) (a * D - Q * D) (down e * D)) (cancel Q a D (down-pos d))
-      ∙ round-same binary64 (s && ltb Q a) (a * D - Q * D) (down e * D) (a - Q) (down e) (mul-pos (down-pos e) (down-pos d)) (down-pos e) (left-same a Q D (down e))
+      ∙ round-same binary64 (s && ltb Q a) (a * D - Q * D) (down e * D) (a - Q) (down e) (mul-pos (down-pos e) (down-pos d)) (down-pos e)
+      (left-same a Q D (down e))
 
-rest-is : (t : Float) (s : Bool) (q m : ℕ) (e : ℤ) → HasValue t s q 1 → q * down e ≤ m * up e → sub binary64 (fin s m e) t ≡ round binary64 (s && ltb (q * down e) (m * up e)) (m * up e - q * down e) (down e)
+rest-is : (t : Float) (s : Bool) (q m : ℕ) (e : ℤ) → HasValue t s q 1 → q * down e ≤ m * up e
+    → sub binary64 (fin s m e) t ≡ round binary64 (s && ltb (q * down e) (m * up e)) (m * up e - q * down e) (down e)
 unfolding sub neg add sum
 rest-is nan s q m e v l = absurd v
 rest-is (inf t) s q m e v l = absurd v
@@ -56,7 +61,8 @@ rest-is (fin true n d) false q m e v l = absurd (true≢false (v .0))
 rest-is (fin false n d) true q m e v l = absurd (false≢true (v .0))
 
 -- it is exact
-rest-val : (z s : Bool) (m : ℕ) (e : ℤ) → T (fits binary64 (fin s m e)) → HasValue (round binary64 z (m * up e - m * up e / down e * down e) (down e)) z (m * up e - m * up e / down e * down e) (down e)
+rest-val : (z s : Bool) (m : ℕ) (e : ℤ) → T (fits binary64 (fin s m e))
+    → HasValue (round binary64 z (m * up e - m * up e / down e * down e) (down e)) z (m * up e - m * up e / down e * down e) (down e)
 rest-val z s m (pos k) f =
     let r : m * 2 ^ k - m * 2 ^ k / 1 * 1 ≡ 0 = omega arith in
     subst (λ (y : ℕ). HasValue (round binary64 z y 1) z y 1) (sym r) (round-exact binary64 z 0 1 0 0 (lit< tt) (lit< tt) (lit< tt) refl)
@@ -95,28 +101,32 @@ module _ (r c : ℕ) (C : 0 < c) where
   at-least nan v h = absurd v
   at-least (inf t) v h = absurd v
   at-least (fin true n d) v h = absurd (true≢false (v .0))
-  at-least (fin false n d) v h = cross-le (n * up d) (down d) r c (down-pos d) (v .1) (omega (arith, le-true (eqb (1 * down d) (n * up d * 2)) true (eqb-true (1 * down d) (n * up d * 2)) h)) C
+  at-least (fin false n d) v h = cross-le (n * up d) (down d) r c (down-pos d) (v .1)
+      (omega (arith, le-true (eqb (1 * down d) (n * up d * 2)) true (eqb-true (1 * down d) (n * up d * 2)) h)) C
 
   under : (y : Float) → HasValue y false r c → le half y ≡ false → r * 2 < c
   unfolding le lt eq
   under nan v h = absurd v
   under (inf t) v h = absurd v
   under (fin true n d) v h = absurd (true≢false (v .0))
-  under (fin false n d) v h = cross-lt (n * up d) (down d) r c C (v .1) (omega (arith, le-false (eqb (1 * down d) (n * up d * 2)) (eqb-false (1 * down d) (n * up d * 2)) h))
+  under (fin false n d) v h = cross-lt (n * up d) (down d) r c C (v .1)
+      (omega (arith, le-false (eqb (1 * down d) (n * up d * 2)) (eqb-false (1 * down d) (n * up d * 2)) h))
 
   at-least⁻ : (y : Float) → HasValue y true r c → le y minus-half ≡ true → c ≤ r * 2
   unfolding le lt eq
   at-least⁻ nan v h = absurd v
   at-least⁻ (inf t) v h = absurd v
   at-least⁻ (fin false n d) v h = absurd (false≢true (v .0))
-  at-least⁻ (fin true n d) v h = cross-le (n * up d) (down d) r c (down-pos d) (v .1) (omega (arith, le-true (eqb (n * up d * 2) (1 * down d)) true (λ p. sym (eqb-true (n * up d * 2) (1 * down d) p)) h)) C
+  at-least⁻ (fin true n d) v h = cross-le (n * up d) (down d) r c (down-pos d) (v .1)
+      (omega (arith, le-true (eqb (n * up d * 2) (1 * down d)) true (λ p. sym (eqb-true (n * up d * 2) (1 * down d) p)) h)) C
 
   under⁻ : (y : Float) → HasValue y true r c → le y minus-half ≡ false → r * 2 < c
   unfolding le lt eq
   under⁻ nan v h = absurd v
   under⁻ (inf t) v h = absurd v
   under⁻ (fin false n d) v h = absurd (false≢true (v .0))
-  under⁻ (fin true n d) v h = cross-lt (n * up d) (down d) r c C (v .1) (omega (arith, le-false (eqb (n * up d * 2) (1 * down d)) (λ p q. eqb-false (n * up d * 2) (1 * down d) p (sym q)) h))
+  under⁻ (fin true n d) v h = cross-lt (n * up d) (down d) r c C (v .1)
+      (omega (arith, le-false (eqb (n * up d * 2) (1 * down d)) (λ p q. eqb-false (n * up d * 2) (1 * down d) p (sym q)) h))
 
   no-half : (y : Float) → HasValue y true r c → le half y ≡ true → ⊥
   unfolding le lt eq
@@ -155,8 +165,10 @@ module _ (s : Bool) (m : ℕ) (e : ℤ) (f : T (fits binary64 (fin s m e))) wher
   -- the difference, where something is left and where nothing is
   some : m * up e / down e * down e < m * up e → HasValue (sub binary64 (fin s m e) (part s m e)) s (left m e) (down e)
   some l =
-      subst (λ (y : Float). HasValue y s (left m e) (down e)) (sym (rest-is (part s m e) s (m * up e / down e) m e (whole-val s m e f) (div-mul-le-self (m * up e) (down e))))
-      (subst (λ (z : Bool). HasValue (round binary64 z (left m e) (down e)) s (left m e) (down e)) (sym (ap (λ (b : Bool). s && b) (lt-ltb (m * up e / down e * down e) (m * up e) l) ∙ and-true s)) (rest-val s s m e f))
+      subst (λ (y : Float). HasValue y s (left m e) (down e))
+      (sym (rest-is (part s m e) s (m * up e / down e) m e (whole-val s m e f) (div-mul-le-self (m * up e) (down e))))
+      (subst (λ (z : Bool). HasValue (round binary64 z (left m e) (down e)) s (left m e) (down e))
+      (sym (ap (λ (b : Bool). s && b) (lt-ltb (m * up e / down e * down e) (m * up e) l) ∙ and-true s)) (rest-val s s m e f))
     where
       and-true : (b : Bool) → b && true ≡ b
       and-true true = refl
@@ -164,8 +176,10 @@ module _ (s : Bool) (m : ℕ) (e : ℤ) (f : T (fits binary64 (fin s m e))) wher
 
   none : m * up e ≤ m * up e / down e * down e → HasValue (sub binary64 (fin s m e) (part s m e)) false (left m e) (down e)
   none l =
-      subst (λ (y : Float). HasValue y false (left m e) (down e)) (sym (rest-is (part s m e) s (m * up e / down e) m e (whole-val s m e f) (div-mul-le-self (m * up e) (down e))))
-      (subst (λ (z : Bool). HasValue (round binary64 z (left m e) (down e)) false (left m e) (down e)) (sym (ap (λ (b : Bool). s && b) (le-ltb (m * up e / down e * down e) (m * up e) l) ∙ and-false s)) (rest-val false s m e f))
+      subst (λ (y : Float). HasValue y false (left m e) (down e))
+      (sym (rest-is (part s m e) s (m * up e / down e) m e (whole-val s m e f) (div-mul-le-self (m * up e) (down e))))
+      (subst (λ (z : Bool). HasValue (round binary64 z (left m e) (down e)) false (left m e) (down e))
+      (sym (ap (λ (b : Bool). s && b) (le-ltb (m * up e / down e * down e) (m * up e) l) ∙ and-false s)) (rest-val false s m e f))
     where
       and-false : (b : Bool) → b && false ≡ false
       and-false true = refl
@@ -185,12 +199,15 @@ up-half (inf true) f h = not-true h
 up-half (inf false) f h = not-true h
 up-half (fin true m e) f h = elim (split (m * up e / down e * down e) (m * up e)) [
   | inl l ↦ absurd (no-half (left m e) (down e) (down-pos e) (sub binary64 (fin true m e) (part true m e)) (some true m e f l) h)
-  | inr l ↦ absurd (too-small (m * up e) (m * up e / down e * down e) (down e) (down-pos e) l (at-least (left m e) (down e) (down-pos e) (sub binary64 (fin true m e) (part true m e)) (none true m e f l) h))
+  | inr l ↦ absurd (too-small (m * up e) (m * up e / down e * down e) (down e) (down-pos e) l
+      (at-least (left m e) (down e) (down-pos e) (sub binary64 (fin true m e) (part true m e)) (none true m e f l) h))
 ]
 up-half (fin false m e) f h = elim (split (m * up e / down e * down e) (m * up e)) [
   | inl l ↦ further (part false m e) false (m * up e / down e) (whole-val false m e f)
-      ∙ ap (λ (z : ℕ). round binary64 false z 1) (sym (near-up (m * up e) (down e) (down-pos e) (at-least (left m e) (down e) (down-pos e) (sub binary64 (fin false m e) (part false m e)) (some false m e f l) h)))
-  | inr l ↦ absurd (too-small (m * up e) (m * up e / down e * down e) (down e) (down-pos e) l (at-least (left m e) (down e) (down-pos e) (sub binary64 (fin false m e) (part false m e)) (none false m e f l) h))
+      ∙ ap (λ (z : ℕ). round binary64 false z 1) (sym (near-up (m * up e) (down e) (down-pos e)
+      (at-least (left m e) (down e) (down-pos e) (sub binary64 (fin false m e) (part false m e)) (some false m e f l) h)))
+  | inr l ↦ absurd (too-small (m * up e) (m * up e / down e * down e) (down e) (down-pos e) l
+      (at-least (left m e) (down e) (down-pos e) (sub binary64 (fin false m e) (part false m e)) (none false m e f l) h))
 ]
 
 -- a rest of -0.5 or less: the next one down is
@@ -205,20 +222,26 @@ down-half (fin false m e) f h = elim (split (m * up e / down e * down e) (m * up
 ]
 down-half (fin true m e) f h = elim (split (m * up e / down e * down e) (m * up e)) [
   | inl l ↦ further (part true m e) true (m * up e / down e) (whole-val true m e f)
-      ∙ ap (λ (z : ℕ). round binary64 true z 1) (sym (near-up (m * up e) (down e) (down-pos e) (at-least⁻ (left m e) (down e) (down-pos e) (sub binary64 (fin true m e) (part true m e)) (some true m e f l) h)))
+      ∙ ap (λ (z : ℕ). round binary64 true z 1) (sym (near-up (m * up e) (down e) (down-pos e)
+      (at-least⁻ (left m e) (down e) (down-pos e) (sub binary64 (fin true m e) (part true m e)) (some true m e f l) h)))
   | inr l ↦ absurd (no-half⁻ (left m e) (down e) (down-pos e) (sub binary64 (fin true m e) (part true m e)) (none true m e f l) h)
 ]
 
 -- any other rest: the whole part is
-pub no-way : (x : Float) → T (fits binary64 x) → le half (sub binary64 x (truncOf x)) ≡ false → le (sub binary64 x (truncOf x)) minus-half ≡ false → truncOf x ≡ roundOf x
+pub no-way : (x : Float) → T (fits binary64 x) → le half (sub binary64 x (truncOf x)) ≡ false → le (sub binary64 x (truncOf x)) minus-half ≡ false
+    → truncOf x ≡ roundOf x
 unfolding truncOf roundOf
 no-way nan f h k = refl
 no-way (inf s) f h k = refl
 no-way (fin true m e) f h k = elim (split (m * up e / down e * down e) (m * up e)) [
-  | inl l ↦ ap (λ (z : ℕ). round binary64 true z 1) (sym (near-same (m * up e) (down e) (down-pos e) (under⁻ (left m e) (down e) (down-pos e) (sub binary64 (fin true m e) (part true m e)) (some true m e f l) k)))
-  | inr l ↦ ap (λ (z : ℕ). round binary64 true z 1) (sym (near-same (m * up e) (down e) (down-pos e) (nothing (m * up e) (m * up e / down e * down e) (down e) (down-pos e) l)))
+  | inl l ↦ ap (λ (z : ℕ). round binary64 true z 1) (sym (near-same (m * up e) (down e) (down-pos e)
+      (under⁻ (left m e) (down e) (down-pos e) (sub binary64 (fin true m e) (part true m e)) (some true m e f l) k)))
+  | inr l ↦ ap (λ (z : ℕ). round binary64 true z 1) (sym (near-same (m * up e) (down e) (down-pos e)
+      (nothing (m * up e) (m * up e / down e * down e) (down e) (down-pos e) l)))
 ]
 no-way (fin false m e) f h k = elim (split (m * up e / down e * down e) (m * up e)) [
-  | inl l ↦ ap (λ (z : ℕ). round binary64 false z 1) (sym (near-same (m * up e) (down e) (down-pos e) (under (left m e) (down e) (down-pos e) (sub binary64 (fin false m e) (part false m e)) (some false m e f l) h)))
-  | inr l ↦ ap (λ (z : ℕ). round binary64 false z 1) (sym (near-same (m * up e) (down e) (down-pos e) (nothing (m * up e) (m * up e / down e * down e) (down e) (down-pos e) l)))
+  | inl l ↦ ap (λ (z : ℕ). round binary64 false z 1) (sym (near-same (m * up e) (down e) (down-pos e)
+      (under (left m e) (down e) (down-pos e) (sub binary64 (fin false m e) (part false m e)) (some false m e f l) h)))
+  | inr l ↦ ap (λ (z : ℕ). round binary64 false z 1) (sym (near-same (m * up e) (down e) (down-pos e)
+      (nothing (m * up e) (m * up e / down e * down e) (down e) (down-pos e) l)))
 ]

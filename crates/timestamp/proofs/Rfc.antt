@@ -1,4 +1,5 @@
--- RFC 1982 and the stamps of document 01: where the RFC defines a sum or a comparison, ours is the same, and ours goes further exactly on the pairs 2 ^ 15 apart. Assumes nothing.
+-- RFC 1982 and the stamps of document 01: where the RFC defines a sum or a comparison, ours is the same, and ours goes further exactly on the pairs 2 ^ 15
+-- apart. Assumes nothing.
 use mathlib.Core.Path.{_≡_, refl, sym, ap, _∙_}
 use mathlib.Core.Logic.{inl, inr}
 use mathlib.Core.Bool.{Bool, true, false, cond}
@@ -8,7 +9,8 @@ use lib.Dec.{leb}
 use borrow.Author.Tests.{eq-eqb, ne-eqb, lt-ltb, le-ltb, le-leb}
 use Rattle.timestamp.specs.declared.Ordering.{Ordering}
 use Rattle.timestamp.specs.declared.Ordering.the-variants.{Less, Equal, Greater}
-use Rattle.timestamp.specs.Rfc1982.{defined, undefinedSum, serialSum, Comparison, equal, less, greater, undefinedOrder, serialLess, serialGreater, compared}
+use Rattle.timestamp.specs.Rfc1982.{defined, undefinedSum, serialSum, Comparison, equal, less, greater, undefinedOrder, serialLess, serialGreater}
+use Rattle.timestamp.specs.Rfc1982.{compared}
 use Rattle.timestamp.specs.Timestamps.{sumOf, differenceOf, orderOf}
 use Rattle.timestamp.proofs.Basics.{split}
 use Rattle.timestamp.proofs.Order.{order-equal, order-greater, order-less}
@@ -66,7 +68,8 @@ module _ {a b : ℕ} (A : a < 65536) (B : b < 65536) where
   ]
 
   -- a difference is one of the four
-  cases : {X : Type 0} → (differenceOf a b ≡ 0 → X) → (0 < differenceOf a b → differenceOf a b < 32768 → X) → (differenceOf a b ≡ 32768 → X) → (32768 < differenceOf a b → X) → X
+  cases : {X : Type 0} → (differenceOf a b ≡ 0 → X) → (0 < differenceOf a b → differenceOf a b < 32768 → X) → (differenceOf a b ≡ 32768 → X)
+      → (32768 < differenceOf a b → X) → X
   cases equals after apart before = elim (split 0 (differenceOf a b)) [
     | inr z ↦ equals (omega arith)
     | inl n ↦ elim (split (differenceOf a b) 32768) [

@@ -87,7 +87,8 @@ in-range (inf true) h k = not-true k
 in-range (inf false) h k = not-false h
 in-range (fin false m e) h k =
     let l = gt-at (32767 * down e) (m * up e * 1) h in (
-      or-l (ltb 0 (9223372036854775808 * down e + m * up e * 1)) _ (holds-true _ (lt-ltb 0 (9223372036854775808 * down e + m * up e * 1) (omega (arith, down-pos e)))),
+      or-l (ltb 0 (9223372036854775808 * down e + m * up e * 1)) _
+          (holds-true _ (lt-ltb 0 (9223372036854775808 * down e + m * up e * 1) (omega (arith, down-pos e)))),
       holds-true _ (lt-ltb (m * up e * 1) (9223372036854775808 * down e) (omega (arith, l))),
     )
 in-range (fin true m e) h k =

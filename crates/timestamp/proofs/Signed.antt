@@ -38,7 +38,8 @@ module _ (n : ℕ) (N : n < 65536) (h : 32768 ≤ n) where
   out-fits = subst (λ (z : ℤ). SFits w16 z) (sym out-is) (record { sfits = omega arith })
 
 -- what `from_value` asks at v, and what it gives, where the code reads v back from its bits
-pub in-low : (v : ℤ) → SFits w16 v → leZ (pos 0) (toZ w16 (ofZ w16 v)) ≡ true → (T (nonNeg (toZ w16 (ofZ w16 v))) × Fits w16 (natAbs (toZ w16 (ofZ w16 v)))) × (natAbs (toZ w16 (ofZ w16 v)) ≡ bitsOf v)
+pub in-low : (v : ℤ) → SFits w16 v → leZ (pos 0) (toZ w16 (ofZ w16 v)) ≡ true
+    → (T (nonNeg (toZ w16 (ofZ w16 v))) × Fits w16 (natAbs (toZ w16 (ofZ w16 v)))) × (natAbs (toZ w16 (ofZ w16 v)) ≡ bitsOf v)
 in-low v f = subst (λ (z : ℤ). leZ (pos 0) z ≡ true → (T (nonNeg z) × Fits w16 (natAbs z)) × (natAbs z ≡ bitsOf v)) (sym (toZ-ofZ {w = w16} f)) (go v f)
   where
     go : (z : ℤ) → SFits w16 z → leZ (pos 0) z ≡ true → (T (nonNeg z) × Fits w16 (natAbs z)) × (natAbs z ≡ bitsOf z)

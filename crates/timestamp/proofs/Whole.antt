@@ -3,7 +3,8 @@ use mathlib.Core.Path.{_≡_, refl, sym, ap, _∙_, subst}
 use mathlib.Core.Logic.{inl, inr}
 use mathlib.Core.Bool.{Bool, true, false, cond, _&&_, true≢false, false≢true}
 use Prim.Native.Nat.{ℕ, zero, suc, _+_, _-_, _*_, _/_, _%_, _^_, _<_, _≤_, min}
-use native.Mathlib.Nat.{mul-one, one-mul, zero-mul, mul-assoc, mul-comm, mul-right-comm, mul-pos, mul-le-mul-right, mul-lt-mul-of-pos-right, div-mul-le-self, div-le-self, lt-div-mul-add, div-eq-of-lt-le, mul-div-cancel, lt-of-lt-of-le, le-of-lt, le-trans, le-of-eq}
+use native.Mathlib.Nat.{mul-one, one-mul, zero-mul, mul-assoc, mul-comm, mul-right-comm, mul-pos, mul-le-mul-right, mul-lt-mul-of-pos-right, div-mul-le-self}
+use native.Mathlib.Nat.{div-le-self, lt-div-mul-add, div-eq-of-lt-le, mul-div-cancel, lt-of-lt-of-le, le-of-lt, le-trans, le-of-eq}
 use native.Mathlib.Omega.{arith}
 use lib.Dec.{T, ltb, leb, eqb, lit<, ltb→lt, leb→le, eqb→eq}
 use lib.Pow.{pow-add, pow-pos}
@@ -53,7 +54,8 @@ whole-val s m (pos k) h =
     let p : m * 2 ^ (k + 1074) ≡ m * 2 ^ k * 2 ^ 1074 = ap (λ (z : ℕ). m * z) (pow-add 2 k 1074) ∙ sym (mul-assoc m (2 ^ k) (2 ^ 1074)) in
     let r : m * 2 ^ (k + 1074) < 2 ^ (1074 + 1024) =
     subst (λ (z : ℕ). z < 2 ^ (1074 + 1024)) (sym p)
-    (lt-of-lt-of-le (mul-lt-mul-of-pos-right (lt-of-lt-of-le (g .2) (le-of-eq (mul-one (2 ^ 1024)))) (pow-pos 1074)) (le-of-eq (mul-comm (2 ^ 1024) (2 ^ 1074)))) in
+    (lt-of-lt-of-le (mul-lt-mul-of-pos-right (lt-of-lt-of-le (g .2) (le-of-eq (mul-one (2 ^ 1024)))) (pow-pos 1074))
+    (le-of-eq (mul-comm (2 ^ 1024) (2 ^ 1074)))) in
     subst (λ (z : ℕ). HasValue (round binary64 s z 1) s z 1) (sym w)
     (round-exact binary64 s (m * 2 ^ k) 1 m (k + 1074) (lit< tt) (g .0) r (sym p ∙ sym (mul-one (m * 2 ^ (k + 1074)))))
 
@@ -73,8 +75,10 @@ lt-left : (t : Float) (s : Bool) (q m : ℕ) (e : ℤ) → HasValue t s q 1 → 
 unfolding lt
 lt-left nan s q m e v = absurd v
 lt-left (inf t) s q m e v = absurd v
-lt-left (fin true n d) true q m e v = ap (λ (z : ℕ). ltb (m * up e * down d) z) (times (n * up d) q (down d) (down e) (v .1)) ∙ cancel (m * up e) (q * down e) (down d) (down-pos d)
-lt-left (fin false n d) false q m e v = ap (λ (z : ℕ). ltb z (m * up e * down d)) (times (n * up d) q (down d) (down e) (v .1)) ∙ cancel (q * down e) (m * up e) (down d) (down-pos d)
+lt-left (fin true n d) true q m e v = ap (λ (z : ℕ). ltb (m * up e * down d) z) (times (n * up d) q (down d) (down e) (v .1))
+    ∙ cancel (m * up e) (q * down e) (down d) (down-pos d)
+lt-left (fin false n d) false q m e v = ap (λ (z : ℕ). ltb z (m * up e * down d)) (times (n * up d) q (down d) (down e) (v .1))
+    ∙ cancel (q * down e) (m * up e) (down d) (down-pos d)
 lt-left (fin true n d) false q m e v = absurd (true≢false (v .0))
 lt-left (fin false n d) true q m e v = absurd (false≢true (v .0))
 
@@ -83,8 +87,10 @@ lt-right : (t : Float) (s : Bool) (q m : ℕ) (e : ℤ) → HasValue t s q 1 →
 unfolding lt
 lt-right nan s q m e v = absurd v
 lt-right (inf t) s q m e v = absurd v
-lt-right (fin true n d) true q m e v = ap (λ (z : ℕ). ltb z (m * up e * down d)) (times (n * up d) q (down d) (down e) (v .1)) ∙ cancel (q * down e) (m * up e) (down d) (down-pos d)
-lt-right (fin false n d) false q m e v = ap (λ (z : ℕ). ltb (m * up e * down d) z) (times (n * up d) q (down d) (down e) (v .1)) ∙ cancel (m * up e) (q * down e) (down d) (down-pos d)
+lt-right (fin true n d) true q m e v = ap (λ (z : ℕ). ltb z (m * up e * down d)) (times (n * up d) q (down d) (down e) (v .1))
+    ∙ cancel (q * down e) (m * up e) (down d) (down-pos d)
+lt-right (fin false n d) false q m e v = ap (λ (z : ℕ). ltb (m * up e * down d) z) (times (n * up d) q (down d) (down e) (v .1))
+    ∙ cancel (m * up e) (q * down e) (down d) (down-pos d)
 lt-right (fin true n d) false q m e v = absurd (true≢false (v .0))
 lt-right (fin false n d) true q m e v = absurd (false≢true (v .0))
 
@@ -96,8 +102,10 @@ pub further : (t : Float) (s : Bool) (q : ℕ) → HasValue t s q 1 → add bina
 unfolding add sum
 further nan s q v = absurd v
 further (inf t) s q v = absurd v
-further (fin true n d) true q v = round-same binary64 true (n * up d * 1 + 1 * down d) (down d * 1) (q + 1) 1 (mul-pos (down-pos d) (lit< tt)) (lit< tt) (more (n * up d) (down d) q (v .1))
-further (fin false n d) false q v = round-same binary64 false (n * up d * 1 + 1 * down d) (down d * 1) (q + 1) 1 (mul-pos (down-pos d) (lit< tt)) (lit< tt) (more (n * up d) (down d) q (v .1))
+further (fin true n d) true q v = round-same binary64 true (n * up d * 1 + 1 * down d) (down d * 1) (q + 1) 1 (mul-pos (down-pos d) (lit< tt)) (lit< tt)
+    (more (n * up d) (down d) q (v .1))
+further (fin false n d) false q v = round-same binary64 false (n * up d * 1 + 1 * down d) (down d * 1) (q + 1) 1 (mul-pos (down-pos d) (lit< tt))
+    (lit< tt) (more (n * up d) (down d) q (v .1))
 further (fin true n d) false q v = absurd (true≢false (v .0))
 further (fin false n d) true q v = absurd (false≢true (v .0))
 
@@ -130,7 +138,8 @@ ceil-same nan f h = refl
 ceil-same (inf s) f h = refl
 ceil-same (fin true m e) f h = refl
 ceil-same (fin false m e) f h =
-    let l = ltb-false (m * up e / down e * down e) (m * up e) (sym (lt-left (round binary64 false (m * up e / down e) 1) false (m * up e / down e) m e (whole-val false m e f)) ∙ h) in
+    let l = ltb-false (m * up e / down e * down e) (m * up e)
+    (sym (lt-left (round binary64 false (m * up e / down e) 1) false (m * up e / down e) m e (whole-val false m e f)) ∙ h) in
     ap (λ (z : ℕ). round binary64 false z 1) (sym (up-none (m * up e) (down e) (down-pos e) l))
 
 -- a value below its whole part: its floor is one less
@@ -155,7 +164,8 @@ floor-same nan f h = refl
 floor-same (inf s) f h = refl
 floor-same (fin false m e) f h = refl
 floor-same (fin true m e) f h =
-    let l = ltb-false (m * up e / down e * down e) (m * up e) (sym (lt-right (round binary64 true (m * up e / down e) 1) true (m * up e / down e) m e (whole-val true m e f)) ∙ h) in
+    let l = ltb-false (m * up e / down e * down e) (m * up e)
+    (sym (lt-right (round binary64 true (m * up e / down e) 1) true (m * up e / down e) m e (whole-val true m e f)) ∙ h) in
     ap (λ (z : ℕ). round binary64 true z 1) (sym (up-none (m * up e) (down e) (down-pos e) l))
 
 -- ---- to an integer: the whole part goes where the value goes

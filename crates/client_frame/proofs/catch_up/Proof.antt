@@ -1,4 +1,5 @@
--- `catch_up` meets its contract. The invariant: what is left gives what the whole gives, the new world put back. The measure is how many steps are left. Assumes nothing.
+-- `catch_up` meets its contract. The invariant: what is left gives what the whole gives, the new world put back. The measure is how many steps are left.
+-- Assumes nothing.
 use borrow.Author.Needs.{needs}
 use native.Mathlib.Omega.{arith}
 use Prim.Native.Nat.{_-_}
@@ -85,7 +86,13 @@ step-word-requires c κs = search needs
 put-requires : tie.Need-put-requires Inv-loop μ-loop
 put-requires c κs =
     let l = c .before .before .before .before .before .before .before .before .before .before .before in
-    omega (arith, l .before .loop .inv .whole .at, l .loop-test .taken, l .before .before .before .before .before .before .before .pre .0, l .before .before .before .before .before .before .before .pre .1)
+    omega (
+      arith,
+      l .before .loop .inv .whole .at,
+      l .loop-test .taken,
+      l .before .before .before .before .before .before .before .pre .0,
+      l .before .before .before .before .before .before .before .pre .1,
+    )
 
 loop-less : tie.Need-loop-less Inv-loop μ-loop
 loop-less c = omega (arith, c .before .before .before .before .before .before .before .before .before .before .before .before .before .before .loop-test .taken)
@@ -102,7 +109,8 @@ loop-again c =
     let h = f .before in
     let t = h .before in
     let l = t .before .before in
-    apart-again (l .loop .inv) (omega (arith, t .before .loop-test .taken)) (l .before .before .before .new-side .ensures) (t .stamp-of .ensures) (h .has-caught-up .ensures) (f .if1 .left)
+    apart-again (l .loop .inv) (omega (arith, t .before .loop-test .taken)) (l .before .before .before .new-side .ensures) (t .stamp-of .ensures)
+    (h .has-caught-up .ensures) (f .if1 .left)
     (waits-does _ _ (t .stamp-of .ensures) (a .add .ensures) (z .before .waits .ensures) (z .if2 .taken) (w .step-word .ensures) (u .put .ensures))
     (k .count .ensures)
     (a .before .wrapping-add-u32 .ensures)
@@ -110,7 +118,13 @@ loop-again c =
 step-requires : tie.Need-step-requires Inv-loop μ-loop
 step-requires c κs =
     let l = c .before .before .before .before .before .before .before .before in
-    omega (arith, l .before .loop .inv .whole .at, l .loop-test .taken, l .before .before .before .before .before .before .before .pre .0, l .before .before .before .before .before .before .before .pre .1)
+    omega (
+      arith,
+      l .before .loop .inv .whole .at,
+      l .loop-test .taken,
+      l .before .before .before .before .before .before .before .pre .0,
+      l .before .before .before .before .before .before .before .pre .1,
+    )
 
 count-requires-2 : tie.Need-count-requires-2 Inv-loop μ-loop
 count-requires-2 c κs = search needs
@@ -127,7 +141,8 @@ loop-again-2 c =
     let h = f .before in
     let t = h .before in
     let l = t .before .before in
-    apart-again (l .loop .inv) (omega (arith, t .before .loop-test .taken)) (l .before .before .before .new-side .ensures) (t .stamp-of .ensures) (h .has-caught-up .ensures) (f .if1 .left)
+    apart-again (l .loop .inv) (omega (arith, t .before .loop-test .taken)) (l .before .before .before .new-side .ensures) (t .stamp-of .ensures)
+    (h .has-caught-up .ensures) (f .if1 .left)
     (r .step .ensures) (c .count2 .ensures) (a .before .wrapping-add-u32 .ensures)
 
 put-back-requires-2 : tie.Need-put-back-requires-2 Inv-loop μ-loop
@@ -140,7 +155,8 @@ returns-2 : tie.Need-returns-2 Inv-loop μ-loop
 returns-2 c =
     let e = c .before in
     let l = e .before in
-    caught-as _ _ (l .before .before .before .before .last-completed-timestamp .ensures) (apart-end (l .loop .inv) (omega (arith, e .loop-test .left)) (c .put-back2 .ensures))
+    caught-as _ _ (l .before .before .before .before .last-completed-timestamp .ensures)
+    (apart-end (l .loop .inv) (omega (arith, e .loop-test .left)) (c .put-back2 .ensures))
 
 pub catch-up-spec : {M : Type 1} → statement M
 catch-up-spec =

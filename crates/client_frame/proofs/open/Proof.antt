@@ -86,7 +86,8 @@ returns-6 c =
     let n = r .before .before in
     let q = n .before .before in
     let o = q .before .before in
-    opened-obsolete _ _ _ _ (o .before .before .before .t .given .1) (o .enum-told5 .given .1) (n .new-side .ensures) (queued-held _ _ _ (q .q2 .given .1) (r .load-snapshot2 .ensures))
+    opened-obsolete _ _ _ _ (o .before .before .before .t .given .1) (o .enum-told5 .given .1) (n .new-side .ensures)
+    (queued-held _ _ _ (q .q2 .given .1) (r .load-snapshot2 .ensures))
 
 same-length-3 : tie.Need-same-length-3
 same-length-3 c = search needs

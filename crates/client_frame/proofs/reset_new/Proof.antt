@@ -26,7 +26,8 @@ returns : tie.Need-returns
 returns c =
     let r = c .before .before .before in
     let g = r .before .before in
-    reset-new-plays _ (g .before .before .new-side .ensures) (g .before .last-completed-timestamp .ensures) (g .get-side .ensures) (r .reset-last-completed-timestamp .ensures) (c .put-stepped .ensures)
+    reset-new-plays _ (g .before .before .new-side .ensures) (g .before .last-completed-timestamp .ensures) (g .get-side .ensures)
+    (r .reset-last-completed-timestamp .ensures) (c .put-stepped .ensures)
 
 pub reset-new-spec : {M : Type 1} → statement M
 reset-new-spec =

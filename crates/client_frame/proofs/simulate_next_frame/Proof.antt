@@ -24,8 +24,10 @@ step-side-requires c κs = search needs
 catch-up-requires : tie.Need-catch-up-requires
 catch-up-requires c κs =
     let a = c .before .before .before in
-    let s = a .before .before .before .before in
-    (omega (arith, a .step-side .ensures .puts .at, stepped-short (s .args .s) (a .before .before .old-side .result) (starts-few s) .words, s .pre .0), omega (arith, s .pre .1))
+    let s = a .before .before .before .before in (
+      omega (arith, a .step-side .ensures .puts .at, stepped-short (s .args .s) (a .before .before .old-side .result) (starts-few s) .words, s .pre .0),
+      omega (arith, s .pre .1),
+    )
 
 same-length : tie.Need-same-length
 same-length c = search needs

@@ -34,8 +34,17 @@ show-requires c κs =
     let o = c .before .before .before .before in
     let l = o .before .before in
     let i = l .before .before in
-    let s = i .before .before .before in
-    (omega (arith, o .«open» .ensures .puts .at, opened-short (i .infer-current-reconciliation-status .result) (l .loads .result) (s .args .rules .progress) (s .args .s) (sym (i .infer-current-reconciliation-status .ensures)) (starts-few s) .words, s .pre .0), omega (arith, s .pre .1))
+    let s = i .before .before .before in (
+      omega (
+        arith,
+        o .«open» .ensures .puts .at,
+        opened-short (i .infer-current-reconciliation-status .result) (l .loads .result)
+            (s .args .rules .progress) (s .args .s) (sym (i .infer-current-reconciliation-status .ensures)) (starts-few s) .words,
+        s .pre .0,
+      ),
+      omega
+          (arith, s .pre .1),
+    )
 
 stops-requires : tie.Need-stops-requires
 stops-requires c κs = search needs
@@ -50,7 +59,8 @@ returns c =
     let o = b .before .before .before in
     let l = o .before .before in
     let i = l .before .before in
-    frame-plays _ _ (i .infer-current-reconciliation-status .ensures) (l .loads .ensures) (o .«open» .ensures) (b .is-blended .ensures) (h .show .ensures) (c .stops .ensures)
+    frame-plays _ _ (i .infer-current-reconciliation-status .ensures) (l .loads .ensures) (o .«open» .ensures) (b .is-blended .ensures)
+    (h .show .ensures) (c .stops .ensures)
 
 pub step-spec : {M : Type 1} → statement M
 step-spec =

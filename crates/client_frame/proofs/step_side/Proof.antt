@@ -27,7 +27,8 @@ returns c =
     let k = c .before .before in
     let l = k .before in
     let r = l .before .before .before in
-    step-plays _ _ (r .before .before .get-side .ensures) (r .step .ensures) (put-back-is _ _ _ _ _ (l .get-ledger .ensures) (k .count .ensures) (c .put-back .ensures))
+    step-plays _ _ (r .before .before .get-side .ensures) (r .step .ensures)
+    (put-back-is _ _ _ _ _ (l .get-ledger .ensures) (k .count .ensures) (c .put-back .ensures))
 
 pub step-side-spec : {M : Type 1} → statement M
 step-side-spec =

@@ -31,7 +31,8 @@ returns c =
     let n = u .before in
     let o = n .before in
     let e = o .before in
-    stops-half _ _ _ _ (e .before .before .before .t .given .1) (e .enum-told3 .given .1) (o .last-completed-timestamp .ensures) (n .new-timestamp .ensures) (u .sub .ensures) (c .if1 .taken)
+    stops-half _ _ _ _ (e .before .before .before .t .given .1) (e .enum-told3 .given .1) (o .last-completed-timestamp .ensures)
+    (n .new-timestamp .ensures) (u .sub .ensures) (c .if1 .taken)
 
 infer-current-reconciliation-status-requires :
     tie.Need-infer-current-reconciliation-status-requires
@@ -80,7 +81,8 @@ returns-5 : tie.Need-returns-5
 returns-5 c =
     let o = c .before in
     let e = o .before in
-    stops-obsolete _ _ _ _ (e .before .before .before .t .given .1) (e .enum-told4 .given .1) (o .last-completed-timestamp2 .ensures) (c .loads-too-far .ensures)
+    stops-obsolete _ _ _ _ (e .before .before .before .t .given .1) (e .enum-told4 .given .1) (o .last-completed-timestamp2 .ensures)
+    (c .loads-too-far .ensures)
 
 returns-6 : tie.Need-returns-6
 returns-6 c = stops-overshot _ _ _ _ (c .before .before .before .t .given .1) (c .enum-told5 .given .1)

@@ -55,7 +55,8 @@ returns c =
     let n = t .before in
     let p = n .before .before .before .before .before .before .before in
     let f = p .before .before in
-    level-plays _ _ (f .before .before .before .pre .1) (f .infer-current-reconciliation-status .ensures) (p .put-steps .ensures) (n .add .ensures) (t .level-weight .ensures) (x .count .ensures) (y .count2 .ensures) (k .wrapping-add-u32 .ensures)
+    level-plays _ _ (f .before .before .before .pre .1) (f .infer-current-reconciliation-status .ensures) (p .put-steps .ensures) (n .add .ensures)
+    (t .level-weight .ensures) (x .count .ensures) (y .count2 .ensures) (k .wrapping-add-u32 .ensures)
     (r .publish-blended-state .ensures) (c .with-state .ensures)
 
 pub level-frame-spec : {M : Type 1} → statement M

@@ -31,7 +31,8 @@ returns c =
     let n = q .before in
     let p = n .before .before .before .before .before in
     let o = p .before in
-    steps-put _ (o .before .old-side .ensures) (o .step-word .ensures) (p .put .ensures) (n .before .new-side .ensures) (n .step-word2 .ensures) (q .put2 .ensures)
+    steps-put _ (o .before .old-side .ensures) (o .step-word .ensures) (p .put .ensures) (n .before .new-side .ensures) (n .step-word2 .ensures)
+    (q .put2 .ensures)
 
 pub put-steps-spec : {M : Type 1} → statement M
 put-steps-spec =

@@ -40,7 +40,8 @@ returns-2 c =
     let t = p .before .before in
     let n = t .before .before in
     let o = n .before .before in
-    blended-new _ (o .before .old-side .ensures) (o .get-side .ensures) (n .before .if1 .left) (n .new-side .ensures) (t .before .get-side2 .ensures) (t .if2 .taken) (p .publish-side .ensures)
+    blended-new _ (o .before .old-side .ensures) (o .get-side .ensures) (n .before .if1 .left) (n .new-side .ensures) (t .before .get-side2 .ensures)
+    (t .if2 .taken) (p .publish-side .ensures)
 
 publish-none-requires : tie.Need-publish-none-requires
 publish-none-requires c κs = search needs
@@ -54,7 +55,8 @@ returns-3 c =
     let t = p .before .before in
     let n = t .before .before in
     let o = n .before .before in
-    blended-none _ (o .before .old-side .ensures) (o .get-side .ensures) (n .before .if1 .left) (n .new-side .ensures) (t .before .get-side2 .ensures) (t .if2 .left) (p .publish-none .ensures)
+    blended-none _ (o .before .old-side .ensures) (o .get-side .ensures) (n .before .if1 .left) (n .new-side .ensures) (t .before .get-side2 .ensures)
+    (t .if2 .left) (p .publish-none .ensures)
 
 pub publish-blended-state-spec : {M : Type 1} → statement M
 publish-blended-state-spec =

@@ -18,7 +18,8 @@ is-full-requires-2 c κs = search needs
 returns-2 : tie.Need-returns-2
 returns-2 c =
     let a = c .before .before .before .before .args in
-    full-second (a .base) (a .left) (a .right) (c .before .before .before .is-full .ensures) (c .before .before .if1 .left) (c .before .is-full2 .ensures) (c .if2 .taken)
+    full-second (a .base) (a .left) (a .right) (c .before .before .before .is-full .ensures) (c .before .before .if1 .left)
+    (c .before .is-full2 .ensures) (c .if2 .taken)
 
 is-full-requires-3 : tie.Need-is-full-requires-3
 is-full-requires-3 c κs = search needs
@@ -26,7 +27,8 @@ is-full-requires-3 c κs = search needs
 returns-3 : tie.Need-returns-3
 returns-3 c =
     let a = c .before .before .before .before .before .args in
-    full-third (a .base) (a .left) (a .right) (c .before .before .before .before .is-full .ensures) (c .before .before .before .if1 .left) (c .before .before .is-full2 .ensures) (c .before .if2 .left) (c .is-full3 .ensures)
+    full-third (a .base) (a .left) (a .right) (c .before .before .before .before .is-full .ensures) (c .before .before .before .if1 .left)
+    (c .before .before .is-full2 .ensures) (c .before .if2 .left) (c .is-full3 .ensures)
 
 pub any-full-spec : {M : Type 1} → statement M
 any-full-spec =

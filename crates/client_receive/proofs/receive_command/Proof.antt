@@ -25,7 +25,8 @@ any-full-requires c κs = search needs
 returns : tie.Need-returns
 returns c =
     let s = c .before .before .before .before .before .before .before .before in
-    received-is _ _ (s .before .before .insert .ensures) (s .before .schedule-command .ensures) (s .schedule-command2 .ensures) (c .before .before .take .ensures) (c .before .take2 .ensures) (c .any-full .ensures)
+    received-is _ _ (s .before .before .insert .ensures) (s .before .schedule-command .ensures) (s .schedule-command2 .ensures)
+    (c .before .before .take .ensures) (c .before .take2 .ensures) (c .any-full .ensures)
 
 pub receive-command-spec : {M : Type 1} → statement M
 receive-command-spec =

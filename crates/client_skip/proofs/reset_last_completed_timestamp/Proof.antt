@@ -44,7 +44,8 @@ returns c =
     let b = c .before .before .before .before in
     let o = b .before .before in
     let a = o .before .before .before in
-    skip-plays _ _ (a .before .before .last-completed-timestamp .ensures) (a .reset-along .ensures) (o .old-side .ensures) (b .reset-side .ensures) (c .before .skips-back .ensures) (c .emptied-base .ensures)
+    skip-plays _ _ (a .before .before .last-completed-timestamp .ensures) (a .reset-along .ensures) (o .old-side .ensures) (b .reset-side .ensures)
+    (c .before .skips-back .ensures) (c .emptied-base .ensures)
 
 pub reset-last-completed-timestamp-spec : {M : Type 1} → statement M
 reset-last-completed-timestamp-spec =

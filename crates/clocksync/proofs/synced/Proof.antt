@@ -24,14 +24,16 @@ returns-2 c =
     let d = c .before in
     let o = d .before .before in
     let a = o .before .before .args in
-    sym (ap (λ y. offsetAfter y (a .mean) (a .deviation)) (o .old .given .1) ∙ ap (λ (b : Bool). cond b (Seconds (a .mean)) (Seconds (o .old .given .0 .0))) (sym (d .deviates .ensures) ∙ c .if1 .taken))
+    sym (ap (λ y. offsetAfter y (a .mean) (a .deviation)) (o .old .given .1)
+    ∙ ap (λ (b : Bool). cond b (Seconds (a .mean)) (Seconds (o .old .given .0 .0))) (sym (d .deviates .ensures) ∙ c .if1 .taken))
 
 returns-3 : tie.Need-returns-3
 returns-3 c =
     let d = c .before in
     let o = d .before .before in
     let a = o .before .before .args in
-    sym (ap (λ y. offsetAfter y (a .mean) (a .deviation)) (o .old .given .1) ∙ ap (λ (b : Bool). cond b (Seconds (a .mean)) (Seconds (o .old .given .0 .0))) (sym (d .deviates .ensures) ∙ c .if1 .left))
+    sym (ap (λ y. offsetAfter y (a .mean) (a .deviation)) (o .old .given .1)
+    ∙ ap (λ (b : Bool). cond b (Seconds (a .mean)) (Seconds (o .old .given .0 .0))) (sym (d .deviates .ensures) ∙ c .if1 .left))
 
 pub synced-spec : {M : Type 1} → statement M
 synced-spec =

@@ -56,15 +56,18 @@ extend-requires-2 : tie.Need-extend-requires-2
 extend-requires-2 c κs =
     let q = c .before .before .before .before in
     let a = q .before .before .before .before .before .before .args in
-    room-after (a .buffer) (a .entry) (few q) _ (laid-then _ _ _ (laid-then [] _ _ (c .before .before .new .ensures) (c .before .extend .ensures)) (c .push .ensures))
+    room-after (a .buffer) (a .entry) (few q) _ (laid-then _ _ _ (laid-then [] _ _ (c .before .before .new .ensures) (c .before .extend .ensures))
+    (c .push .ensures))
 
 returns-3 : tie.Need-returns-3
 returns-3 c =
     let k = c .before .before .before .before in
     let q = k .before in
     let w = q .before .before in
-    inserted-taken _ _ (sym (w .before .in-comparable-range .ensures) ∙ not-false _ (w .if1 .left)) (few q) (omega (arith, k .rank-of .ensures)) (omega arith) (omega arith)
-    (laid-then _ _ _ (laid-then _ _ _ (laid-then [] _ _ (c .before .before .before .new .ensures) (c .before .before .extend .ensures)) (c .before .push .ensures)) (c .extend2 .ensures))
+    inserted-taken _ _ (sym (w .before .in-comparable-range .ensures) ∙ not-false _ (w .if1 .left)) (few q) (omega (arith, k .rank-of .ensures))
+    (omega arith) (omega arith)
+    (laid-then _ _ _ (laid-then _ _ _ (laid-then [] _ _ (c .before .before .before .new .ensures) (c .before .before .extend .ensures))
+    (c .before .push .ensures)) (c .extend2 .ensures))
 
 pub insert-spec : {M : Type 1} → statement M
 insert-spec =

@@ -54,7 +54,8 @@ returns-2 c =
     let t = c .before .before .before .before .before in
     let e = t .before .before in
     let l = e .before .before in
-    running-stops _ _ _ (l .loop .inv) (e .before .loop-test .taken) (few-left (l .loop .inv .bound) (e .if1 .left)) (l .before .before .before .pre) (framed-as (l .before .before .before .args .settings) _ (l .before .frame-rules .ensures) (t .step .ensures)) (c .if2 .taken) refl
+    running-stops _ _ _ (l .loop .inv) (e .before .loop-test .taken) (few-left (l .loop .inv .bound) (e .if1 .left)) (l .before .before .before .pre)
+    (framed-as (l .before .before .before .args .settings) _ (l .before .frame-rules .ensures) (t .step .ensures)) (c .if2 .taken) refl
 
 loop-less : tie.Need-loop-less Inv-loop μ-loop
 loop-less c =
@@ -67,7 +68,8 @@ loop-again c =
     let t = c .before .before .before .before .before in
     let e = t .before .before in
     let l = e .before .before in
-    running-on _ _ _ (l .loop .inv) (e .before .loop-test .taken) (few-left (l .loop .inv .bound) (e .if1 .left)) (l .before .before .before .pre) (framed-as (l .before .before .before .args .settings) _ (l .before .frame-rules .ensures) (t .step .ensures)) (c .if2 .left) refl
+    running-on _ _ _ (l .loop .inv) (e .before .loop-test .taken) (few-left (l .loop .inv .bound) (e .if1 .left)) (l .before .before .before .pre)
+    (framed-as (l .before .before .before .args .settings) _ (l .before .frame-rules .ensures) (t .step .ensures)) (c .if2 .left) refl
 
 same-length-3 : tie.Need-same-length-3 Inv-loop μ-loop
 same-length-3 c = c .before .loop .inv .len

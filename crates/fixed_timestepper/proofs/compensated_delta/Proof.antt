@@ -16,12 +16,14 @@ at-least-zero-requires c κs = search needs
 returns : tie.Need-returns
 returns c =
     let a = c .before .before in
-    capped-is _ _ _ _ _ (uncapped-is _ _ _ _ _ (a .before .before .timestamp-drift-seconds .ensures) (a .before .beyond-deadband .ensures) (a .at-least-zero .ensures)) (c .if1 .taken)
+    capped-is _ _ _ _ _ (uncapped-is _ _ _ _ _ (a .before .before .timestamp-drift-seconds .ensures) (a .before .beyond-deadband .ensures)
+    (a .at-least-zero .ensures)) (c .if1 .taken)
 
 returns-2 : tie.Need-returns-2
 returns-2 c =
     let a = c .before .before in
-    uncapped-stays _ _ _ _ _ (uncapped-is _ _ _ _ _ (a .before .before .timestamp-drift-seconds .ensures) (a .before .beyond-deadband .ensures) (a .at-least-zero .ensures)) (c .if1 .left)
+    uncapped-stays _ _ _ _ _ (uncapped-is _ _ _ _ _ (a .before .before .timestamp-drift-seconds .ensures) (a .before .beyond-deadband .ensures)
+    (a .at-least-zero .ensures)) (c .if1 .left)
 
 pub compensated-delta-spec : {M : Type 1} → statement M
 compensated-delta-spec =

@@ -20,7 +20,8 @@ returns : tie.Need-returns
 returns c =
     let l = c .before in
     let a = l .before .before .before .args in
-    ended-is (a .settings) (a .worlds) (a .overshoot) (l .before .before .tween-weight .ensures) (l .before .shape-interpolation-t .ensures) (l .lag-compensation-frame-count .ensures) (c .post-update .ensures)
+    ended-is (a .settings) (a .worlds) (a .overshoot) (l .before .before .tween-weight .ensures) (l .before .shape-interpolation-t .ensures)
+    (l .lag-compensation-frame-count .ensures) (c .post-update .ensures)
 
 pub ended-spec : {M : Type 1} → statement M
 ended-spec =

@@ -25,7 +25,8 @@ skips-requires c κs = search needs
 returns-3 : tie.Need-returns-3
 returns-3 c =
     let l = c .before .before .before in
-    level-then _ _ _ _ _ (l .before .before .is-single .ensures) (l .before .if1 .left) (l .is-level .ensures) (c .before .before .if2 .left) (c .before .add .ensures) (c .skips .ensures)
+    level-then _ _ _ _ _ (l .before .before .is-single .ensures) (l .before .if1 .left) (l .is-level .ensures) (c .before .before .if2 .left)
+    (c .before .add .ensures) (c .skips .ensures)
 
 pub is-level-spec : {M : Type 1} → statement M
 is-level-spec =

@@ -36,7 +36,9 @@ returns c =
     let r = c .before .before .before in
     let s = r .before .before in
     let t = s .before .before .before .before .before in
-    skip-made _ _ _ (skip-told _ _ _ _ (t .before .before .last-completed-timestamp .ensures) (t .before .skips .ensures) (t .if1 .taken)) (s .before .before .before .before .from-seconds .ensures) (s .before .before .before .ceil .ensures) (s .before .before .from-timestamp .ensures) (s .before .sub .ensures) (s .as-seconds .ensures) (r .reset-last-completed-timestamp .ensures)
+    skip-made _ _ _ (skip-told _ _ _ _ (t .before .before .last-completed-timestamp .ensures) (t .before .skips .ensures) (t .if1 .taken))
+    (s .before .before .before .before .from-seconds .ensures) (s .before .before .before .ceil .ensures)
+    (s .before .before .from-timestamp .ensures) (s .before .sub .ensures) (s .as-seconds .ensures) (r .reset-last-completed-timestamp .ensures)
 
 returns-2 : tie.Need-returns-2
 returns-2 c = skip-none _ _ _ _ (skip-told _ _ _ _ (c .before .before .last-completed-timestamp .ensures) (c .before .skips .ensures) (c .if1 .left))

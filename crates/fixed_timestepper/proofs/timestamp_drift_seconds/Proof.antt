@@ -17,7 +17,8 @@ as-seconds-requires : tie.Need-as-seconds-requires
 as-seconds-requires c κs = search needs
 
 returns : tie.Need-returns
-returns c = drift-is _ _ _ _ (c .before .before .before .current-logical-timestamp .ensures) (c .before .before .from-seconds .ensures) (c .before .sub .ensures) (c .as-seconds .ensures)
+returns c = drift-is _ _ _ _ (c .before .before .before .current-logical-timestamp .ensures) (c .before .before .from-seconds .ensures)
+    (c .before .sub .ensures) (c .as-seconds .ensures)
 
 pub timestamp-drift-seconds-spec : {M : Type 1} → statement M
 timestamp-drift-seconds-spec =

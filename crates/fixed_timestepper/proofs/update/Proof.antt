@@ -45,7 +45,8 @@ returns c =
     let d = l .before in
     let k = level-run-parts _ _ _ _ _ (l .is-level .ensures) (r .before .before .if1 .taken) in
     let s = d .before .before .before in
-    update-level (s .args .settings) (s .args .scene) (s .args .overshoot) (s .args .delta) (s .args .server) (d .before .last-completed-timestamp .ensures) (d .compensated-delta .ensures) refl (k .0) (k .1) (k .2) (r .level-run .ensures)
+    update-level (s .args .settings) (s .args .scene) (s .args .overshoot) (s .args .delta) (s .args .server)
+    (d .before .last-completed-timestamp .ensures) (d .compensated-delta .ensures) refl (k .0) (k .1) (k .2) (r .level-run .ensures)
 
 advance-requires : tie.Need-advance-requires
 advance-requires c κs = c .before .before .before .before .before .before .pre
@@ -58,7 +59,12 @@ timeskip-requires c κs =
     let a = c .before .before .before .before .before in
     let d = a .before .before .before .before in
     let s = d .before .before .before in
-    omega (arith, a .advance .ensures .puts .at, run-few 65 (s .args .settings) (s .pre) (s .args .scene) (sub binary64 (s .args .overshoot) (d .compensated-delta .result)) (starts-few s))
+    omega (
+      arith,
+      a .advance .ensures .puts .at,
+      run-few 65 (s .args .settings) (s .pre) (s .args .scene)
+          (sub binary64 (s .args .overshoot) (d .compensated-delta .result)) (starts-few s),
+    )
 
 enum-told-2 : tie.Need-enum-told-2
 enum-told-2 c = search needs
@@ -75,7 +81,8 @@ returns-2 c =
     let e = k .before .before in
     let a = e .before .before .before .before in
     let d = a .before .before .before .before in
-    update-done _ _ _ _ _ (d .before .last-completed-timestamp .ensures) (d .compensated-delta .ensures) refl (a .advance .ensures) (e .enum-told .given .1) (k .timeskip .ensures)
+    update-done _ _ _ _ _ (d .before .last-completed-timestamp .ensures) (d .compensated-delta .ensures) refl (a .advance .ensures)
+    (e .enum-told .given .1) (k .timeskip .ensures)
 
 same-length-3 : tie.Need-same-length-3
 same-length-3 c = search needs
@@ -84,7 +91,8 @@ returns-3 : tie.Need-returns-3
 returns-3 c =
     let a = c .before .before .before .before in
     let d = a .before .before .before .before in
-    update-stopped _ _ _ _ _ (d .before .last-completed-timestamp .ensures) (d .compensated-delta .ensures) refl TooManyFrames (a .advance .ensures) (c .enum-told2 .given .1) (λ r. refl)
+    update-stopped _ _ _ _ _ (d .before .last-completed-timestamp .ensures) (d .compensated-delta .ensures) refl TooManyFrames (a .advance .ensures)
+    (c .enum-told2 .given .1) (λ r. refl)
 
 same-length-4 : tie.Need-same-length-4
 same-length-4 c = search needs
@@ -93,7 +101,8 @@ returns-4 : tie.Need-returns-4
 returns-4 c =
     let a = c .before .before .before .before in
     let d = a .before .before .before .before in
-    update-stopped _ _ _ _ _ (d .before .last-completed-timestamp .ensures) (d .compensated-delta .ensures) refl StatusStops (a .advance .ensures) (c .enum-told3 .given .1) (λ r. refl)
+    update-stopped _ _ _ _ _ (d .before .last-completed-timestamp .ensures) (d .compensated-delta .ensures) refl StatusStops (a .advance .ensures)
+    (c .enum-told3 .given .1) (λ r. refl)
 
 pub update-spec : {M : Type 1} → statement M
 update-spec =

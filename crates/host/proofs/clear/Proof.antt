@@ -43,7 +43,8 @@ returns c =
     let o = now (c .before .before .args .out) in
     let inv = c .before .loop .inv in
     let e : c .before .loop .i ≡ length o = omega (arith, c .loop-test .left, inv .0, inv .1) in
-    inv .2 ∙ ap (λ (k : ℕ). replicate k 0 ++ drop k o) e ∙ ap (λ (x : List ℕ). replicate (length o) 0 ++ x) (drop-length o) ∙ append-nil (replicate (length o) 0)
+    inv .2 ∙ ap (λ (k : ℕ). replicate k 0 ++ drop k o) e ∙ ap (λ (x : List ℕ). replicate (length o) 0 ++ x) (drop-length o)
+    ∙ append-nil (replicate (length o) 0)
 
 pub clear-spec : {M : Type 1} → statement M
 clear-spec =

@@ -48,11 +48,13 @@ module _ (s t : Float) where
   off-timestep p = λ i. cond (sym p i) (cond (secondsOk s) (stampOf (fromSeconds s t)) (pos 65538)) (pos 65537)
 
 -- the signed value of the stamp that was made
-stamp : (c : tie.After-value) → toZ w32 (ofZ w32 (toZ w16 (ofZ w16 (c .value .result)))) ≡ stampOf (fromSeconds (c .before .before .before .before .before .before .args .seconds) (c .before .before .before .before .before .before .args .timestep))
+stamp : (c : tie.After-value) → toZ w32 (ofZ w32 (toZ w16 (ofZ w16 (c .value .result)))) ≡ stampOf
+    (fromSeconds (c .before .before .before .before .before .before .args .seconds) (c .before .before .before .before .before .before .args .timestep))
 unfolding stampOf
 stamp c =
     let n = narrow c in
-    let y = fromSeconds (c .before .before .before .before .before .before .args .seconds) (c .before .before .before .before .before .before .args .timestep) in
+    let y = fromSeconds (c .before .before .before .before .before .before .args .seconds)
+    (c .before .before .before .before .before .before .args .timestep) in
     ap (λ (z : ℤ). toZ w32 (ofZ w32 z)) (toZ-ofZ {w = w16} n)
     ∙ toZ-ofZ {w = w32} (sfits-widen tt n)
     ∙ c .value .ensures
@@ -68,7 +70,8 @@ returns c =
 
 returns-2 : tie.Need-returns-2
 unfolding ofBits neg
-returns-2 c = off-seconds _ _ (sym (c .before .before .before .within .ensures) ∙ c .before .before .if1 .taken) (sym (c .before .within2 .ensures) ∙ c .if2 .left)
+returns-2 c = off-seconds _ _ (sym (c .before .before .before .within .ensures) ∙ c .before .before .if1 .taken)
+    (sym (c .before .within2 .ensures) ∙ c .if2 .left)
 
 returns-3 : tie.Need-returns-3
 unfolding ofBits neg

@@ -30,7 +30,8 @@ is : (c : tie.After-cmp) → c .cmp .result ≡ orderOf (bitsOf (c .before .befo
 is c =
     let s = c .before .before .before in
     c .cmp .ensures
-    ∙ (λ i. orderOf ((c .before .before .from-value .ensures ∙ ap bitsOf (toZ-ofZ {w = w16} (s .fits .first))) i) ((c .before .from-value2 .ensures ∙ ap bitsOf (toZ-ofZ {w = w16} (s .fits .second))) i))
+    ∙ (λ i. orderOf ((c .before .before .from-value .ensures ∙ ap bitsOf (toZ-ofZ {w = w16} (s .fits .first))) i)
+    ((c .before .from-value2 .ensures ∙ ap bitsOf (toZ-ofZ {w = w16} (s .fits .second))) i))
 
 returns : tie.Need-returns
 returns c = ap orderNumber (sym (c .enum-told .given .1) ∙ is (c .before .before))

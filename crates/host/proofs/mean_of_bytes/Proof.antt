@@ -39,7 +39,8 @@ returns-2 c =
 returns-3 : tie.Need-returns-3
 returns-3 c =
     let k = c .before .before in
-    room-refused _ _ _ _ (k .store-count .ensures) (omega (arith, c .before .if2 .left)) (λ e. omega (arith, c .if3 .taken)) ∙ settings-pass _ _ _ _ (passed (k .before))
+    room-refused _ _ _ _ (k .store-count .ensures) (omega (arith, c .before .if2 .left)) (λ e. omega (arith, c .if3 .taken))
+    ∙ settings-pass _ _ _ _ (passed (k .before))
 
 discard-count-requires : tie.Need-discard-count-requires
 discard-count-requires c κs = search needs
@@ -51,7 +52,8 @@ returns-4 : tie.Need-returns-4
 returns-4 c =
     let d = c .before in
     let k = d .before .before .before in
-    lengths-pass _ _ _ _ (k .store-count .ensures) (d .discard-count .ensures) (omega (arith, d .before .before .if2 .left)) (omega (arith, d .before .if3 .left)) (c .mean-of-first .ensures)
+    lengths-pass _ _ _ _ (k .store-count .ensures) (d .discard-count .ensures) (omega (arith, d .before .before .if2 .left))
+    (omega (arith, d .before .if3 .left)) (c .mean-of-first .ensures)
     ∙ settings-pass _ _ _ _ (passed (k .before))
 
 pub mean-of-bytes-spec : {M : Type 1} → statement M

@@ -22,7 +22,8 @@ mean-of-requires c κs = search needs
 returns-2 : tie.Need-returns-2
 returns-2 c =
     let k = c .before .before in
-    floats-mean (k .before .before .before .args .discard) (k .before .floats-of .ensures) (holds (c .before .if1 .left) (k .samples-sound .ensures)) (c .mean-of .ensures)
+    floats-mean (k .before .before .before .args .discard) (k .before .floats-of .ensures) (holds (c .before .if1 .left) (k .samples-sound .ensures))
+    (c .mean-of .ensures)
 
 pub mean-of-first-spec : {M : Type 1} → statement M
 mean-of-first-spec = tie.close (tie.spec floats-of-requires samples-sound-requires returns mean-of-requires returns-2)

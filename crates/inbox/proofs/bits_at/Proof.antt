@@ -25,7 +25,8 @@ module _ (c : tie.After-high) where
 two : (c : tie.After-middle) → Value (c .middle .given .0 .0) ≡ second (l (c .before .before .before .before)) (at (c .before .before .before .before))
 two c = sym (c .middle .given .1) ∙ c .before .before .word-at2 .ensures
 
-last : (c : tie.After-low) → Value (c .low .given .0 .0) ≡ third (l (c .before .before .before .before .before .before .before .before)) (at (c .before .before .before .before .before .before .before .before))
+last : (c : tie.After-low) → Value (c .low .given .0 .0) ≡ third (l (c .before .before .before .before .before .before .before .before))
+    (at (c .before .before .before .before .before .before .before .before))
 last c = sym (c .low .given .1) ∙ c .before .before .word-at3 .ensures
 
 word-at-requires : tie.Need-word-at-requires
@@ -56,8 +57,14 @@ join-requires : tie.Need-join-requires
 join-requires c κs =
     let k = c .before in
     let b = k .before .before .before .before in
-    let a = b .before .before .before .before in
-    (word-room 5 (2 ^ 8) (drop (at a) (l a)) _ (one a), (word-room 5 (2 ^ 28) (drop (at a + 1) (l a)) _ (two b), word-room 5 (2 ^ 28) (drop (at a + 2) (l a)) _ (last k)))
+    let a = b .before .before .before .before in (
+      word-room 5 (2 ^ 8) (drop (at a) (l a)) _ (one a),
+      (
+        word-room 5 (2 ^ 28) (drop (at a + 1) (l a)) _ (two b),
+        word-room 5 (2 ^ 28)
+            (drop (at a + 2) (l a)) _ (last k),
+      ),
+    )
 
 enum-told : tie.Need-enum-told
 enum-told c = search needs
@@ -82,19 +89,22 @@ returns c =
     let k = c .before .before in
     let b = k .before .before .before .before in
     let a = b .before .before .before .before in
-    ap Are (c .join .ensures) ∙ three (l a) (at a) (Value (a .high .given .0 .0)) (Value (b .middle .given .0 .0)) (Value (k .low .given .0 .0)) (one a) (two b) (last k)
+    ap Are (c .join .ensures) ∙ three (l a) (at a) (Value (a .high .given .0 .0)) (Value (b .middle .given .0 .0)) (Value (k .low .given .0 .0)) (one a)
+    (two b) (last k)
 
 returns-2 : tie.Need-returns-2
 returns-2 c =
     let b = c .before .before .before .before in
     let a = b .before .before .before .before in
-    three (l a) (at a) (Value (a .high .given .0 .0)) (Value (b .middle .given .0 .0)) Wrong (one a) (two b) (sym (c .enum-told .given .1) ∙ c .before .before .word-at3 .ensures)
+    three (l a) (at a) (Value (a .high .given .0 .0)) (Value (b .middle .given .0 .0)) Wrong (one a) (two b)
+    (sym (c .enum-told .given .1) ∙ c .before .before .word-at3 .ensures)
 
 returns-3 : tie.Need-returns-3
 returns-3 c =
     let b = c .before .before .before .before in
     let a = b .before .before .before .before in
-    three (l a) (at a) (Value (a .high .given .0 .0)) (Value (b .middle .given .0 .0)) Missing (one a) (two b) (sym (c .enum-told2 .given .1) ∙ c .before .before .word-at3 .ensures)
+    three (l a) (at a) (Value (a .high .given .0 .0)) (Value (b .middle .given .0 .0)) Missing (one a) (two b)
+    (sym (c .enum-told2 .given .1) ∙ c .before .before .word-at3 .ensures)
 
 returns-4 : tie.Need-returns-4
 returns-4 c =

@@ -28,12 +28,14 @@ enum-told-2 c = search needs
 returns : tie.Need-returns
 returns c =
     let a = c .before .before .before .before .before in
-    clock-by _ _ _ (At (a .s .given .0 .0)) (At (c .before .t .given .0 .0)) (sym (a .s .given .1) ∙ a .before .before .time-of .ensures) (sym (c .before .t .given .1) ∙ c .before .before .before .time-of2 .ensures)
+    clock-by _ _ _ (At (a .s .given .0 .0)) (At (c .before .t .given .0 .0)) (sym (a .s .given .1) ∙ a .before .before .time-of .ensures)
+    (sym (c .before .t .given .1) ∙ c .before .before .before .time-of2 .ensures)
 
 returns-2 : tie.Need-returns-2
 returns-2 c =
     let a = c .before .before .before .before in
-    clock-by _ _ _ (At (a .s .given .0 .0)) OutOfRange (sym (a .s .given .1) ∙ a .before .before .time-of .ensures) (sym (c .enum-told .given .1) ∙ c .before .before .time-of2 .ensures)
+    clock-by _ _ _ (At (a .s .given .0 .0)) OutOfRange (sym (a .s .given .1) ∙ a .before .before .time-of .ensures)
+    (sym (c .enum-told .given .1) ∙ c .before .before .time-of2 .ensures)
 
 returns-3 : tie.Need-returns-3
 returns-3 c =

@@ -110,61 +110,84 @@ enum-told-9 c = search needs
 returns : tie.Need-returns
 returns c =
     let k = c .before .before .before .before .before in
-    step-command (now (k .before .before .before .before .before .args .words)) _ (k .before .before .before .before .before .pre) (k .stamp .given .0 .0) (Value (c .before .handle .given .0 .0)) (sym (k .stamp .given .1) ∙ k .before .before .head-of .ensures) (sym (c .before .handle .given .1) ∙ c .before .before .before .word-at .ensures)
+    step-command (now (k .before .before .before .before .before .args .words)) _ (k .before .before .before .before .before .pre)
+    (k .stamp .given .0 .0) (Value (c .before .handle .given .0 .0)) (sym (k .stamp .given .1) ∙ k .before .before .head-of .ensures)
+    (sym (c .before .handle .given .1) ∙ c .before .before .before .word-at .ensures)
 
 returns-2 : tie.Need-returns-2
 returns-2 c =
     let k = c .before .before .before .before in
-    step-command (now (k .before .before .before .before .before .args .words)) _ (k .before .before .before .before .before .pre) (k .stamp .given .0 .0) Wrong (sym (k .stamp .given .1) ∙ k .before .before .head-of .ensures) (sym (c .enum-told .given .1) ∙ c .before .before .word-at .ensures)
+    step-command (now (k .before .before .before .before .before .args .words)) _ (k .before .before .before .before .before .pre)
+    (k .stamp .given .0 .0) Wrong (sym (k .stamp .given .1) ∙ k .before .before .head-of .ensures)
+    (sym (c .enum-told .given .1) ∙ c .before .before .word-at .ensures)
 
 returns-3 : tie.Need-returns-3
 returns-3 c =
     let k = c .before .before .before .before in
-    step-command (now (k .before .before .before .before .before .args .words)) _ (k .before .before .before .before .before .pre) (k .stamp .given .0 .0) Missing (sym (k .stamp .given .1) ∙ k .before .before .head-of .ensures) (sym (c .enum-told2 .given .1) ∙ c .before .before .word-at .ensures)
+    step-command (now (k .before .before .before .before .before .args .words)) _ (k .before .before .before .before .before .pre)
+    (k .stamp .given .0 .0) Missing (sym (k .stamp .given .1) ∙ k .before .before .head-of .ensures)
+    (sym (c .enum-told2 .given .1) ∙ c .before .before .word-at .ensures)
 
 returns-4 : tie.Need-returns-4
 returns-4 c =
     let k = c .before .before .before .before .before in
-    step-snapshot (now (k .before .before .before .before .before .args .words)) _ (k .before .before .before .before .before .pre) (k .stamp2 .given .0 .0) (Value (c .before .handle2 .given .0 .0)) (sym (k .stamp2 .given .1) ∙ k .before .before .head-of .ensures) (sym (c .before .handle2 .given .1) ∙ c .before .before .before .word-at2 .ensures)
+    step-snapshot (now (k .before .before .before .before .before .args .words)) _ (k .before .before .before .before .before .pre)
+    (k .stamp2 .given .0 .0) (Value (c .before .handle2 .given .0 .0)) (sym (k .stamp2 .given .1) ∙ k .before .before .head-of .ensures)
+    (sym (c .before .handle2 .given .1) ∙ c .before .before .before .word-at2 .ensures)
 
 returns-5 : tie.Need-returns-5
 returns-5 c =
     let k = c .before .before .before .before in
-    step-snapshot (now (k .before .before .before .before .before .args .words)) _ (k .before .before .before .before .before .pre) (k .stamp2 .given .0 .0) Wrong (sym (k .stamp2 .given .1) ∙ k .before .before .head-of .ensures) (sym (c .enum-told3 .given .1) ∙ c .before .before .word-at2 .ensures)
+    step-snapshot (now (k .before .before .before .before .before .args .words)) _ (k .before .before .before .before .before .pre)
+    (k .stamp2 .given .0 .0) Wrong (sym (k .stamp2 .given .1) ∙ k .before .before .head-of .ensures)
+    (sym (c .enum-told3 .given .1) ∙ c .before .before .word-at2 .ensures)
 
 returns-6 : tie.Need-returns-6
 returns-6 c =
     let k = c .before .before .before .before in
-    step-snapshot (now (k .before .before .before .before .before .args .words)) _ (k .before .before .before .before .before .pre) (k .stamp2 .given .0 .0) Missing (sym (k .stamp2 .given .1) ∙ k .before .before .head-of .ensures) (sym (c .enum-told4 .given .1) ∙ c .before .before .word-at2 .ensures)
+    step-snapshot (now (k .before .before .before .before .before .args .words)) _ (k .before .before .before .before .before .pre)
+    (k .stamp2 .given .0 .0) Missing (sym (k .stamp2 .given .1) ∙ k .before .before .head-of .ensures)
+    (sym (c .enum-told4 .given .1) ∙ c .before .before .word-at2 .ensures)
 
 returns-7 : tie.Need-returns-7
 returns-7 c =
     let k = c .before .before .before .before .before .before .before .before .before .before in
     let a = c .before .before .before .before .before .before in
     let b = c .before .before in
-    ap (λ (m : Message). as-step m (k .before .before .before .before .before .args .at + 7)) (c .clock-of .ensures) ∙ step-clock (now (k .before .before .before .before .before .args .words)) _ (k .before .before .before .before .before .pre) (k .id .given .0 .0) (Are (a .send .given .0 .0)) (Are (b .server .given .0 .0)) (sym (k .id .given .1) ∙ k .before .before .head-of .ensures) (sym (a .send .given .1) ∙ a .before .before .bits-at .ensures) (sym (b .server .given .1) ∙ b .before .before .bits-at2 .ensures)
+    ap (λ (m : Message). as-step m (k .before .before .before .before .before .args .at + 7)) (c .clock-of .ensures)
+    ∙ step-clock (now (k .before .before .before .before .before .args .words)) _ (k .before .before .before .before .before .pre)
+    (k .id .given .0 .0) (Are (a .send .given .0 .0)) (Are (b .server .given .0 .0)) (sym (k .id .given .1) ∙ k .before .before .head-of .ensures)
+    (sym (a .send .given .1) ∙ a .before .before .bits-at .ensures) (sym (b .server .given .1) ∙ b .before .before .bits-at2 .ensures)
 
 returns-8 : tie.Need-returns-8
 returns-8 c =
     let k = c .before .before .before .before .before .before .before .before in
     let a = c .before .before .before .before in
-    step-clock (now (k .before .before .before .before .before .args .words)) _ (k .before .before .before .before .before .pre) (k .id .given .0 .0) (Are (a .send .given .0 .0)) BitsWrong (sym (k .id .given .1) ∙ k .before .before .head-of .ensures) (sym (a .send .given .1) ∙ a .before .before .bits-at .ensures) (sym (c .enum-told5 .given .1) ∙ c .before .before .bits-at2 .ensures)
+    step-clock (now (k .before .before .before .before .before .args .words)) _ (k .before .before .before .before .before .pre) (k .id .given .0 .0)
+    (Are (a .send .given .0 .0)) BitsWrong (sym (k .id .given .1) ∙ k .before .before .head-of .ensures)
+    (sym (a .send .given .1) ∙ a .before .before .bits-at .ensures) (sym (c .enum-told5 .given .1) ∙ c .before .before .bits-at2 .ensures)
 
 returns-9 : tie.Need-returns-9
 returns-9 c =
     let k = c .before .before .before .before .before .before .before .before in
     let a = c .before .before .before .before in
-    step-clock (now (k .before .before .before .before .before .args .words)) _ (k .before .before .before .before .before .pre) (k .id .given .0 .0) (Are (a .send .given .0 .0)) BitsCut (sym (k .id .given .1) ∙ k .before .before .head-of .ensures) (sym (a .send .given .1) ∙ a .before .before .bits-at .ensures) (sym (c .enum-told6 .given .1) ∙ c .before .before .bits-at2 .ensures)
+    step-clock (now (k .before .before .before .before .before .args .words)) _ (k .before .before .before .before .before .pre) (k .id .given .0 .0)
+    (Are (a .send .given .0 .0)) BitsCut (sym (k .id .given .1) ∙ k .before .before .head-of .ensures)
+    (sym (a .send .given .1) ∙ a .before .before .bits-at .ensures) (sym (c .enum-told6 .given .1) ∙ c .before .before .bits-at2 .ensures)
 
 returns-10 : tie.Need-returns-10
 returns-10 c =
     let k = c .before .before .before .before in
-    step-clock (now (k .before .before .before .before .before .args .words)) _ (k .before .before .before .before .before .pre) (k .id .given .0 .0) BitsWrong _ (sym (k .id .given .1) ∙ k .before .before .head-of .ensures) (sym (c .enum-told7 .given .1) ∙ c .before .before .bits-at .ensures) refl
+    step-clock (now (k .before .before .before .before .before .args .words)) _ (k .before .before .before .before .before .pre)
+    (k .id .given .0 .0) BitsWrong _ (sym (k .id .given .1) ∙ k .before .before .head-of .ensures)
+    (sym (c .enum-told7 .given .1) ∙ c .before .before .bits-at .ensures) refl
 
 returns-11 : tie.Need-returns-11
 returns-11 c =
     let k = c .before .before .before .before in
-    step-clock (now (k .before .before .before .before .before .args .words)) _ (k .before .before .before .before .before .pre) (k .id .given .0 .0) BitsCut _ (sym (k .id .given .1) ∙ k .before .before .head-of .ensures) (sym (c .enum-told8 .given .1) ∙ c .before .before .bits-at .ensures) refl
+    step-clock (now (k .before .before .before .before .before .args .words)) _ (k .before .before .before .before .before .pre)
+    (k .id .given .0 .0) BitsCut _ (sym (k .id .given .1) ∙ k .before .before .head-of .ensures)
+    (sym (c .enum-told8 .given .1) ∙ c .before .before .bits-at .ensures) refl
 
 returns-12 : tie.Need-returns-12
 returns-12 c =

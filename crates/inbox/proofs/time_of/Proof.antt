@@ -43,7 +43,8 @@ returns-3 : tie.Need-returns-3
 unfolding inboxTimeOf ofBits neg
 returns-3 c =
     let x = ofBits binary64 (c .before .before .args .bits) in
-    picked x false (⊎-elim (λ w. both (le low x) (le x high) true false (w .0 .taken) (w .1 .left)) (λ w. first (le low x) (le x high) (w .left)) (c .if2 .came))
+    picked x false (⊎-elim (λ w. both (le low x) (le x high) true false (w .0 .taken) (w .1 .left)) (λ w. first (le low x) (le x high) (w .left))
+    (c .if2 .came))
 
 pub time-of-spec : {M : Type 1} → statement M
 time-of-spec = tie.close (tie.spec returns float-from-bits-x returns-2 returns-3)

@@ -19,7 +19,8 @@ returns-2 : tie.Need-returns-2
 returns-2 c = let a = c .before .before .before .args in word-kind (a .kind) (a .room) (now (a .words)) (a .at) (omega arith) (λ e. omega arith)
 
 returns-3 : tie.Need-returns-3
-returns-3 c = let a = c .before .before .before .before .args in word-value (a .kind) (a .room) (now (a .words)) (a .at) (omega arith) (omega arith) (omega arith)
+returns-3 c = let a = c .before .before .before .before .args in word-value (a .kind) (a .room) (now (a .words)) (a .at) (omega arith) (omega arith)
+    (omega arith)
 
 returns-4 : tie.Need-returns-4
 returns-4 c = let a = c .before .before .before .before .args in word-spare (a .kind) (a .room) (now (a .words)) (a .at) (omega arith) (omega arith)

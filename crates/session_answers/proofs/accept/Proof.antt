@@ -26,7 +26,8 @@ returns : tie.Need-returns
 returns c =
     let e = c .before .before .before .before .before .before in
     let a = e .before .before .before .before .before .before .before .before .args in
-    accept-is (a .session) (a .clock) (a .request) (a .a) _ (e .before .before .before .before .before .clear .ensures) (e .ended .ensures) (c .before .before .stage-after .ensures) (c .before .closed .ensures) (c .closed2 .ensures)
+    accept-is (a .session) (a .clock) (a .request) (a .a) _ (e .before .before .before .before .before .clear .ensures) (e .ended .ensures)
+    (c .before .before .stage-after .ensures) (c .before .closed .ensures) (c .closed2 .ensures)
 
 pub accept-spec : {M : Type 1} → statement M
 accept-spec =

@@ -14,7 +14,11 @@ new-timestamp-requires : tie.Need-new-timestamp-requires
 new-timestamp-requires c κs = search needs
 
 returns : tie.Need-returns
-returns c = rw (c .before .before .before .infer-current-reconciliation-status .ensures, c .before .last-completed-timestamp .ensures, c .new-timestamp .ensures)
+returns c = rw (
+  c .before .before .before .infer-current-reconciliation-status .ensures,
+  c .before .last-completed-timestamp .ensures,
+  c .new-timestamp .ensures,
+)
 
 pub report-worlds-spec : {M : Type 1} → statement M
 report-worlds-spec =

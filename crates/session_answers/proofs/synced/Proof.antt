@@ -18,7 +18,8 @@ enum-told : tie.Need-enum-told
 enum-told c = search needs
 
 returns : tie.Need-returns
-returns c = synced-none _ _ _ (c .before .before .before .before .server-seconds .ensures) (c .before .before .before .is-ready .ensures) (c .before .before .if1 .taken) (c .enum-told .given .1)
+returns c = synced-none _ _ _ (c .before .before .before .before .server-seconds .ensures) (c .before .before .before .is-ready .ensures)
+    (c .before .before .if1 .taken) (c .enum-told .given .1)
 
 from-seconds-requires : tie.Need-from-seconds-requires
 from-seconds-requires c κs = search needs
@@ -28,7 +29,9 @@ new-requires c κs = search needs
 
 returns-2 : tie.Need-returns-2
 unfolding ofBits
-returns-2 c = synced-at _ _ _ (c .before .before .before .before .before .before .before .server-seconds .ensures) (c .before .before .before .before .before .before .is-ready .ensures) (c .before .before .before .before .before .if1 .taken) (c .before .before .before .time .given .1) (c .before .from-seconds .ensures) (c .new .ensures)
+returns-2 c = synced-at _ _ _ (c .before .before .before .before .before .before .before .server-seconds .ensures)
+    (c .before .before .before .before .before .before .is-ready .ensures) (c .before .before .before .before .before .if1 .taken)
+    (c .before .before .before .time .given .1) (c .before .from-seconds .ensures) (c .new .ensures)
 
 returns-3 : tie.Need-returns-3
 returns-3 c = synced-not _ _ _ (c .before .is-ready .ensures) (c .if1 .left)

@@ -27,7 +27,8 @@ unfolding lagFramesOf
 returns c =
     let t = c .before in
     let f : SFits w16 (c .value .result) = search needs in
-    toZ-ofZ {w = w16} f ∙ c .value .ensures ∙ ap signedOf (t .trunc .ensures ∙ ap (λ (x : Float). bitsOf (stampOf x)) (t .before .round .ensures)) ∙ signed-bits _ (lag-fits _ _)
+    toZ-ofZ {w = w16} f ∙ c .value .ensures ∙ ap signedOf (t .trunc .ensures ∙ ap (λ (x : Float). bitsOf (stampOf x)) (t .before .round .ensures))
+    ∙ signed-bits _ (lag-fits _ _)
 
 pub lag-frames-spec : {M : Type 1} → statement M
 lag-frames-spec = tie.close (tie.spec round-requires trunc-requires value-requires returns)

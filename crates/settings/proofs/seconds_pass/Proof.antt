@@ -38,17 +38,24 @@ unfolding secondsPass ofBits
 returns-3 c =
     let p = c .before .before in
     let q = p .before .before in
-    simp (holds (q .if1 .left) (q .before .within .ensures), holds (p .if2 .left) (p .before .within2 .ensures), fails (c .if3 .taken) (c .before .within3 .ensures))
+    simp (
+      holds (q .if1 .left) (q .before .within .ensures),
+      holds (p .if2 .left) (p .before .within2 .ensures),
+      fails (c .if3 .taken)
+          (c .before .within3 .ensures),
+    )
 
 lag-frames-requires : tie.Need-lag-frames-requires
 lag-frames-requires c κs = search needs
 
 -- the lag's frame count at the test
 module _ (c : tie.After-lag-frames) where
-  frames-over : ltZ (pos mostLagFrames) (toZ w16 (ofZ w16 (c .lag-frames .result))) ≡ true → leZ (lagFrameCountOf (c .before .before .before .before .before .before .before .args .s)) (pos mostLagFrames) ≡ false
+  frames-over : ltZ (pos mostLagFrames) (toZ w16 (ofZ w16 (c .lag-frames .result))) ≡ true
+      → leZ (lagFrameCountOf (c .before .before .before .before .before .before .before .args .s)) (pos mostLagFrames) ≡ false
   frames-over t = lag-over _ (lag-fits _ _) (c .lag-frames .ensures) mostLagFrames t
 
-  frames-under : ltZ (pos mostLagFrames) (toZ w16 (ofZ w16 (c .lag-frames .result))) ≡ false → leZ (lagFrameCountOf (c .before .before .before .before .before .before .before .args .s)) (pos mostLagFrames) ≡ true
+  frames-under : ltZ (pos mostLagFrames) (toZ w16 (ofZ w16 (c .lag-frames .result))) ≡ false
+      → leZ (lagFrameCountOf (c .before .before .before .before .before .before .before .args .s)) (pos mostLagFrames) ≡ true
   frames-under t = lag-under _ (lag-fits _ _) (c .lag-frames .ensures) mostLagFrames t
 
 returns-4 : tie.Need-returns-4
@@ -57,7 +64,13 @@ returns-4 c =
     let o = c .before .before in
     let p = o .before .before in
     let q = p .before .before in
-    simp (holds (q .if1 .left) (q .before .within .ensures), holds (p .if2 .left) (p .before .within2 .ensures), holds (o .if3 .left) (o .before .within3 .ensures), frames-over (c .before) (c .if4 .taken))
+    simp (
+      holds (q .if1 .left) (q .before .within .ensures),
+      holds (p .if2 .left) (p .before .within2 .ensures),
+      holds (o .if3 .left)
+          (o .before .within3 .ensures),
+      frames-over (c .before) (c .if4 .taken),
+    )
 
 within-requires-4 : tie.Need-within-requires-4
 within-requires-4 c κs = search needs
@@ -69,7 +82,13 @@ returns-5 c =
     let o = n .before .before in
     let p = o .before .before in
     let q = p .before .before in
-    simp (holds (q .if1 .left) (q .before .within .ensures), holds (p .if2 .left) (p .before .within2 .ensures), holds (o .if3 .left) (o .before .within3 .ensures), frames-under (n .before) (n .if4 .left)) (c .within4 .ensures)
+    simp (
+      holds (q .if1 .left) (q .before .within .ensures),
+      holds (p .if2 .left) (p .before .within2 .ensures),
+      holds (o .if3 .left)
+          (o .before .within3 .ensures),
+      frames-under (n .before) (n .if4 .left),
+    ) (c .within4 .ensures)
 
 pub seconds-pass-spec : {M : Type 1} → statement M
 seconds-pass-spec =

@@ -26,7 +26,8 @@ returns : tie.Need-returns
 returns c =
     let u = c .before .before .before in
     let p = u .before .before .before in
-    load-does _ _ _ _ _ (p .before .snapshot-word .ensures) (p .put .ensures) (u .update-timestamp .ensures) (c .before .held-count .ensures) (c .held-count2 .ensures)
+    load-does _ _ _ _ _ (p .before .snapshot-word .ensures) (p .put .ensures) (u .update-timestamp .ensures) (c .before .held-count .ensures)
+    (c .held-count2 .ensures)
 
 pub apply-completed-snapshot-spec : {M : Type 1} → statement M
 apply-completed-snapshot-spec =

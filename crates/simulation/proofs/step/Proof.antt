@@ -29,7 +29,13 @@ put-requires : tie.Need-put-requires
 put-requires c κs =
     let k = c .before .before .before .before .before in
     let s = k .before .before .before .before .before .before in
-    omega (arith, k .apply-up-to .ensures .at, taken-few (s .args .world .commands) (k .before .before .add .result), held-few (s .args .world .commands) (full s))
+    omega (
+      arith,
+      k .apply-up-to .ensures .at,
+      taken-few (s .args .world .commands) (k .before .before .add .result),
+      held-few
+          (s .args .world .commands) (full s),
+    )
 
 update-timestamp-requires : tie.Need-update-timestamp-requires
 update-timestamp-requires c κs = search needs

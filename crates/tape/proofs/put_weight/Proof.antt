@@ -31,7 +31,8 @@ returns c =
     let second = third .before .before .before .before .before in
     let first = second .before .before .before .before .before in
     let bits = first .before .before .before .before .args .bits in
-    puts-weight bits (first .before .weight-word .ensures) (first .put .ensures) (second .before .weight-word2 .ensures) (second .put2 .ensures) (third .before .weight-word3 .ensures) (third .put3 .ensures)
+    puts-weight bits (first .before .weight-word .ensures) (first .put .ensures) (second .before .weight-word2 .ensures) (second .put2 .ensures)
+    (third .before .weight-word3 .ensures) (third .put3 .ensures)
 
 pub put-weight-spec : {M : Type 1} → statement M
 put-weight-spec =

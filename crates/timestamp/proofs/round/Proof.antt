@@ -20,14 +20,16 @@ unfolding ofBits
 returns c =
     let x = c .before .before .args .x in
     let e = c .before .trunc .ensures in
-    ap (λ (y : Float). add binary64 y one64) e ∙ up-half x (held (c .before .before)) (subst (λ (y : Float). le half (sub binary64 x y) ≡ true) e (c .if1 .taken))
+    ap (λ (y : Float). add binary64 y one64) e ∙ up-half x (held (c .before .before))
+    (subst (λ (y : Float). le half (sub binary64 x y) ≡ true) e (c .if1 .taken))
 
 returns-2 : tie.Need-returns-2
 unfolding ofBits neg
 returns-2 c =
     let x = c .before .before .before .args .x in
     let e = c .before .before .trunc .ensures in
-    ap (λ (y : Float). sub binary64 y one64) e ∙ down-half x (held (c .before .before .before)) (subst (λ (y : Float). le (sub binary64 x y) minus-half ≡ true) e (c .if2 .taken))
+    ap (λ (y : Float). sub binary64 y one64) e ∙ down-half x (held (c .before .before .before))
+    (subst (λ (y : Float). le (sub binary64 x y) minus-half ≡ true) e (c .if2 .taken))
 
 returns-3 : tie.Need-returns-3
 unfolding ofBits neg
@@ -35,7 +37,8 @@ returns-3 c =
     let x = c .before .before .before .args .x in
     let e = c .before .before .trunc .ensures in
     e
-    ∙ no-way x (held (c .before .before .before)) (subst (λ (y : Float). le half (sub binary64 x y) ≡ false) e (c .before .if1 .left)) (subst (λ (y : Float). le (sub binary64 x y) minus-half ≡ false) e (c .if2 .left))
+    ∙ no-way x (held (c .before .before .before)) (subst (λ (y : Float). le half (sub binary64 x y) ≡ false) e (c .before .if1 .left))
+    (subst (λ (y : Float). le (sub binary64 x y) minus-half ≡ false) e (c .if2 .left))
 
 pub round-spec : {M : Type 1} → statement M
 round-spec = tie.close (tie.spec trunc-requires returns returns-2 returns-3)

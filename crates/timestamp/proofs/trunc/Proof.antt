@@ -101,7 +101,8 @@ module _ (c : tie.Else3) where
 float-from-bits-result-2 : tie.Need-float-from-bits-result-2
 unfolding bits masks s
 float-from-bits-result-2 c =
-    subst (λ (n : ℕ). T (not (nanBits binary64 n))) (sym (read c)) (masked-no-nan (bits (s c)) (expo (bits (s c)) - 1) (1075 - expo (bits (s c))) (up c) (sum c) (few c))
+    subst (λ (n : ℕ). T (not (nanBits binary64 n))) (sym (read c))
+    (masked-no-nan (bits (s c)) (expo (bits (s c)) - 1) (1075 - expo (bits (s c))) (up c) (sum c) (few c))
 
 returns-4 : tie.Need-returns-4
 unfolding bits masks s

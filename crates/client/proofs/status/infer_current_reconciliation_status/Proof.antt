@@ -36,7 +36,8 @@ is-overshot-requires c κs = search needs
 
 returns-3 : tie.Need-returns-3
 returns-3 c =
-    status-is _ (c .before .before .before .before .before .before .last-completed-timestamp .ensures) (c .before .before .before .before .before .new-timestamp .ensures)
+    status-is _ (c .before .before .before .before .before .before .last-completed-timestamp .ensures)
+    (c .before .before .before .before .before .new-timestamp .ensures)
     (ne-eqb _ _ (c .before .before .if1 .left))
     refl
     (sym (c .before .is-overshot .ensures) ∙ c .if3 .taken)
@@ -47,7 +48,8 @@ is-snapshot-newer-requires c κs = search needs
 
 returns-4 : tie.Need-returns-4
 returns-4 c =
-    status-is _ (c .before .before .before .before .before .before .before .before .before .last-completed-timestamp .ensures) (c .before .before .before .before .before .before .before .before .new-timestamp .ensures)
+    status-is _ (c .before .before .before .before .before .before .before .before .before .last-completed-timestamp .ensures)
+    (c .before .before .before .before .before .before .before .before .new-timestamp .ensures)
     (ne-eqb _ _ (c .before .before .before .before .before .if1 .left))
     refl
     (sym (c .before .before .before .before .is-overshot .ensures) ∙ c .before .before .before .if3 .left)
@@ -55,7 +57,8 @@ returns-4 c =
 
 returns-5 : tie.Need-returns-5
 returns-5 c =
-    status-is _ (c .before .before .before .before .before .before .before .before .before .last-completed-timestamp .ensures) (c .before .before .before .before .before .before .before .before .new-timestamp .ensures)
+    status-is _ (c .before .before .before .before .before .before .before .before .before .last-completed-timestamp .ensures)
+    (c .before .before .before .before .before .before .before .before .new-timestamp .ensures)
     (ne-eqb _ _ (c .before .before .before .before .before .if1 .left))
     refl
     (sym (c .before .before .before .before .is-overshot .ensures) ∙ c .before .before .before .if3 .left)

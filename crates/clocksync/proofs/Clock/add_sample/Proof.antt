@@ -33,7 +33,8 @@ returns c =
     let g = c .before in
     let l = g .before in
     let a = l .before .before .before .args in
-    added-few (a .settings) (a .self) (a .x) (full (l .before .before .before)) (l .before .before .least .ensures) (l .laid-from .ensures) (g .samples-to-store .ensures) (c .if1 .taken)
+    added-few (a .settings) (a .self) (a .x) (full (l .before .before .before)) (l .before .before .least .ensures) (l .laid-from .ensures)
+    (g .samples-to-store .ensures) (c .if1 .taken)
 
 samples-to-discard-requires : tie.Need-samples-to-discard-requires
 samples-to-discard-requires c κs = search needs
@@ -56,7 +57,8 @@ returns-2 c =
     let g = f .before in
     let l = g .before in
     let a = l .before .before .before .args in
-    added-full (a .settings) (a .self) (a .x) (full (l .before .before .before)) (l .before .before .least .ensures) (l .laid-from .ensures) (g .samples-to-store .ensures) (f .if1 .left) (d .samples-to-discard .ensures) (m .mean-of .ensures) (y .synced .ensures) (c .laid-from2 .ensures)
+    added-full (a .settings) (a .self) (a .x) (full (l .before .before .before)) (l .before .before .least .ensures) (l .laid-from .ensures)
+    (g .samples-to-store .ensures) (f .if1 .left) (d .samples-to-discard .ensures) (m .mean-of .ensures) (y .synced .ensures) (c .laid-from2 .ensures)
 
 pub add-sample-spec : {M : Type 1} → statement M
 add-sample-spec =

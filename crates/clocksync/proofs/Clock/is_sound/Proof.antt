@@ -14,7 +14,8 @@ samples-to-store-requires : tie.Need-samples-to-store-requires
 samples-to-store-requires c κs = search needs
 
 returns : tie.Need-returns
-returns c = verdict-full (c .before .before .args .settings) (c .before .before .args .self) (omega (arith, c .before .samples-to-store .ensures, c .if1 .taken))
+returns c = verdict-full (c .before .before .args .settings) (c .before .before .args .self)
+    (omega (arith, c .before .samples-to-store .ensures, c .if1 .taken))
 
 below : (c : tie.Else1) → c .before .before .args .self .len < samplesToStoreOf (c .before .before .args .settings)
 below c = omega (arith, c .before .samples-to-store .ensures, c .if1 .left)
@@ -41,7 +42,8 @@ returns-4 c =
     let p = c .before .before in
     let q = p .before .before .before in
     let a = q .before .before .before .args in
-    verdict-timer (a .settings) (a .self) (below (q .before)) (q .if2 .left) (holds (p .if3 .left) (p .before .samples-sound .ensures)) (fails (c .if4 .taken) (c .before .timer-sound .ensures))
+    verdict-timer (a .settings) (a .self) (below (q .before)) (q .if2 .left) (holds (p .if3 .left) (p .before .samples-sound .ensures))
+    (fails (c .if4 .taken) (c .before .timer-sound .ensures))
 
 enum-told : tie.Need-enum-told
 enum-told c = search needs
@@ -58,7 +60,8 @@ returns-5 c =
     let p = o .before .before in
     let q = p .before .before .before in
     let a = q .before .before .before .args in
-    sym (ap offsetOk (c .enum-told .given .1)) ∙ verdict-offset (a .settings) (a .self) (below (q .before)) (q .if2 .left) (holds (p .if3 .left) (p .before .samples-sound .ensures)) (holds (o .if4 .left) (o .before .timer-sound .ensures))
+    sym (ap offsetOk (c .enum-told .given .1)) ∙ verdict-offset (a .settings) (a .self) (below (q .before)) (q .if2 .left)
+    (holds (p .if3 .left) (p .before .samples-sound .ensures)) (holds (o .if4 .left) (o .before .timer-sound .ensures))
 
 returns-6 : tie.Need-returns-6
 returns-6 c =
@@ -67,7 +70,9 @@ returns-6 c =
     let p = o .before .before in
     let q = p .before .before .before in
     let a = q .before .before .before .args in
-    c .sample-sound .ensures ∙ sym (ap offsetOk (n .offset .given .1)) ∙ verdict-offset (a .settings) (a .self) (below (q .before)) (q .if2 .left) (holds (p .if3 .left) (p .before .samples-sound .ensures)) (holds (o .if4 .left) (o .before .timer-sound .ensures))
+    c .sample-sound .ensures ∙ sym (ap offsetOk (n .offset .given .1))
+    ∙ verdict-offset (a .settings) (a .self) (below (q .before)) (q .if2 .left) (holds (p .if3 .left) (p .before .samples-sound .ensures))
+    (holds (o .if4 .left) (o .before .timer-sound .ensures))
 
 pub is-sound-spec : {M : Type 1} → statement M
 is-sound-spec =

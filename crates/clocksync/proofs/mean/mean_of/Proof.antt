@@ -27,7 +27,8 @@ returns c =
     let u = c .before .before in
     let o = u .before .before in
     let a = o .before .before .args in
-    mean-is (a .samples) (o .sorted .result) (a .len) (a .discard) (search needs) (o .before .least .ensures) (o .sorted .ensures) (u .before .less .ensures) (u .sum-between .ensures) (c .before .less2 .ensures) (c .nearest-u64-to-f64 .ensures)
+    mean-is (a .samples) (o .sorted .result) (a .len) (a .discard) (search needs) (o .before .least .ensures) (o .sorted .ensures)
+    (u .before .less .ensures) (u .sum-between .ensures) (c .before .less2 .ensures) (c .nearest-u64-to-f64 .ensures)
 
 pub mean-of-spec : {M : Type 1} → statement M
 mean-of-spec =

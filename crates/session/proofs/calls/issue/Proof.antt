@@ -34,7 +34,12 @@ refuse-issue-requires c κs = search needs
 
 returns : tie.Need-returns
 returns c =
-    issue-refused _ _ (c .before .before .before .before .before .before .before .before .before .last-completed-timestamp .ensures) (c .before .before .before .before .before .before .before .before .add .ensures) (c .before .before .before .before .before .before .before .scene-of .ensures) (c .before .before .before .before .before .before .receive-command .ensures) (c .before .before .before .before .before .is-sound .ensures) refl (c .before .before .before .before .has-worlds .ensures) (c .before .before .before .is-ready .ensures) (c .before .before .of-issue .ensures)
+    issue-refused _ _ (c .before .before .before .before .before .before .before .before .before .last-completed-timestamp .ensures)
+    (c .before .before .before .before .before .before .before .before .add .ensures)
+    (c .before .before .before .before .before .before .before .scene-of .ensures)
+    (c .before .before .before .before .before .before .receive-command .ensures)
+    (c .before .before .before .before .before .is-sound .ensures) refl (c .before .before .before .before .has-worlds .ensures)
+    (c .before .before .before .is-ready .ensures) (c .before .before .of-issue .ensures)
     (c .before .if1 .taken) (c .refuse-issue .ensures)
 
 accept-issue-requires : tie.Need-accept-issue-requires
@@ -42,7 +47,12 @@ accept-issue-requires c κs = search needs
 
 returns-2 : tie.Need-returns-2
 returns-2 c =
-    issue-accepted _ _ (c .before .before .before .before .before .before .before .before .before .last-completed-timestamp .ensures) (c .before .before .before .before .before .before .before .before .add .ensures) (c .before .before .before .before .before .before .before .scene-of .ensures) (c .before .before .before .before .before .before .receive-command .ensures) (c .before .before .before .before .before .is-sound .ensures) refl (c .before .before .before .before .has-worlds .ensures) (c .before .before .before .is-ready .ensures) (c .before .before .of-issue .ensures)
+    issue-accepted _ _ (c .before .before .before .before .before .before .before .before .before .last-completed-timestamp .ensures)
+    (c .before .before .before .before .before .before .before .before .add .ensures)
+    (c .before .before .before .before .before .before .before .scene-of .ensures)
+    (c .before .before .before .before .before .before .receive-command .ensures)
+    (c .before .before .before .before .before .is-sound .ensures) refl (c .before .before .before .before .has-worlds .ensures)
+    (c .before .before .before .is-ready .ensures) (c .before .before .of-issue .ensures)
     (c .before .if1 .left) (c .accept-issue .ensures)
 
 pub issue-spec : {M : Type 1} → statement M

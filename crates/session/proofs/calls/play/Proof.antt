@@ -19,7 +19,9 @@ same-length c = search needs
 returns : tie.Need-returns
 returns c =
     let a = c .before .before .before .before .before .before .before .before .before .before .before .before .args in
-    played-by (a .session) (a .got) (a .clock) (a .delta) (a .seconds) _ (c .before .before .before .before .before .before .before .receive-snapshots .ensures) (c .before .before .before .before .before .server-time .ensures) (c .before .before .update .ensures)
+    played-by (a .session) (a .got) (a .clock) (a .delta) (a .seconds) _
+    (c .before .before .before .before .before .before .before .receive-snapshots .ensures)
+    (c .before .before .before .before .before .server-time .ensures) (c .before .before .update .ensures)
 
 pub play-spec : {M : Type 1} → statement M
 play-spec =

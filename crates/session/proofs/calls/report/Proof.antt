@@ -17,13 +17,15 @@ refuse-report-requires : tie.Need-refuse-report-requires
 refuse-report-requires c κs = search needs
 
 returns : tie.Need-returns
-returns c = report-refused _ (c .before .before .before .before .is-sound .ensures) (c .before .before .before .has-worlds .ensures) (c .before .before .of-report .ensures) (c .before .if1 .taken) (c .refuse-report .ensures)
+returns c = report-refused _ (c .before .before .before .before .is-sound .ensures) (c .before .before .before .has-worlds .ensures)
+    (c .before .before .of-report .ensures) (c .before .if1 .taken) (c .refuse-report .ensures)
 
 report-worlds-requires : tie.Need-report-worlds-requires
 report-worlds-requires c κs = search needs
 
 returns-2 : tie.Need-returns-2
-returns-2 c = report-accepted _ (c .before .before .before .before .is-sound .ensures) (c .before .before .before .has-worlds .ensures) (c .before .before .of-report .ensures) (c .before .if1 .left) (c .report-worlds .ensures)
+returns-2 c = report-accepted _ (c .before .before .before .before .is-sound .ensures) (c .before .before .before .has-worlds .ensures)
+    (c .before .before .of-report .ensures) (c .before .if1 .left) (c .report-worlds .ensures)
 
 pub report-spec : {M : Type 1} → statement M
 report-spec =

@@ -16,10 +16,12 @@ enum-known-x : tie.Need-enum-known-x
 enum-known-x c = search needs
 
 returns : tie.Need-returns
-returns c = sym (ap (λ (t : ServerTime). serverTimeBy t (c .before .before .before .args .seconds)) (sym (c .before .before .server-seconds .ensures) ∙ c .enum-told .given .1))
+returns c = sym (ap (λ (t : ServerTime). serverTimeBy t (c .before .before .before .args .seconds))
+    (sym (c .before .before .server-seconds .ensures) ∙ c .enum-told .given .1))
 
 returns-2 : tie.Need-returns-2
-returns-2 c = sym (ap (λ (t : ServerTime). serverTimeBy t (c .before .before .before .before .args .seconds)) (sym (c .before .before .before .server-seconds .ensures) ∙ c .before .x .given .1))
+returns-2 c = sym (ap (λ (t : ServerTime). serverTimeBy t (c .before .before .before .before .args .seconds))
+    (sym (c .before .before .before .server-seconds .ensures) ∙ c .before .x .given .1))
 
 pub server-time-spec : {M : Type 1} → statement M
 server-time-spec =

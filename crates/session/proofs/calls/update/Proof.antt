@@ -17,7 +17,8 @@ same-length : tie.Need-same-length
 same-length c = search needs
 
 returns : tie.Need-returns
-returns c = update-refused _ _ _ _ _ (c .before .before .before .before .before .refused-at-once .ensures) (c .before .before .before .before .if1 .taken) (c .before .before .refuse .ensures)
+returns c = update-refused _ _ _ _ _ (c .before .before .before .before .before .refused-at-once .ensures)
+    (c .before .before .before .before .if1 .taken) (c .before .before .refuse .ensures)
 
 has-worlds-requires : tie.Need-has-worlds-requires
 has-worlds-requires c κs = search needs
@@ -29,7 +30,9 @@ same-length-2 : tie.Need-same-length-2
 same-length-2 c = search needs
 
 returns-2 : tie.Need-returns-2
-returns-2 c = update-by _ _ _ _ _ (c .before .before .before .before .before .before .before .refused-at-once .ensures) false (c .before .before .before .before .before .before .if1 .left) (c .before .before .before .before .before .has-worlds .ensures) (not-true _ (c .before .before .before .before .if2 .taken)) (c .before .before .update-clock .ensures)
+returns-2 c = update-by _ _ _ _ _ (c .before .before .before .before .before .before .before .refused-at-once .ensures) false
+    (c .before .before .before .before .before .before .if1 .left) (c .before .before .before .before .before .has-worlds .ensures)
+    (not-true _ (c .before .before .before .before .if2 .taken)) (c .before .before .update-clock .ensures)
 
 listen-requires : tie.Need-listen-requires
 listen-requires c κs = search needs
@@ -54,8 +57,16 @@ same-length-3 c = search needs
 
 returns-3 : tie.Need-returns-3
 returns-3 c =
-    update-by _ _ _ _ _ (c .before .before .before .before .before .before .before .before .before .before .before .before .before .before .before .refused-at-once .ensures) true (c .before .before .before .before .before .before .before .before .before .before .before .before .before .before .if1 .left) (c .before .before .before .before .before .before .before .before .before .before .before .before .before .has-worlds .ensures) (not-false _ (c .before .before .before .before .before .before .before .before .before .before .before .before .if2 .left))
-    (worlds-refused _ _ _ _ (c .before .before .before .before .before .before .before .before .before .listen .ensures) (c .before .before .before .before .before .before .before .before .hear-all .ensures) (c .before .before .before .before .before .before .before .scene-of .ensures) (c .before .before .before .before .before .before .receive-commands .ensures) (c .before .before .before .before .before .by-arrivals .ensures) _ (c .before .before .before .before .if3 .taken) (c .before .before .refuse2 .ensures))
+    update-by _ _ _ _ _ (c .before .before .before .before .before .before .before .before .before .before .before .before .before .before .before
+    .refused-at-once .ensures) true (c .before .before .before .before .before .before .before .before .before .before .before .before .before
+    .before .if1 .left) (c .before .before .before .before .before .before .before .before .before .before .before .before .before .has-worlds
+    .ensures) (not-false _ (c .before .before .before .before .before .before .before .before .before .before .before .before .if2 .left))
+    (worlds-refused _ _ _ _ (c .before .before .before .before .before .before .before .before .before .listen .ensures)
+    (c .before .before .before .before .before .before .before .before .hear-all .ensures)
+    (c .before .before .before .before .before .before .before .scene-of .ensures)
+    (c .before .before .before .before .before .before .receive-commands .ensures)
+    (c .before .before .before .before .before .by-arrivals .ensures) _ (c .before .before .before .before .if3 .taken)
+    (c .before .before .refuse2 .ensures))
 
 tick-requires : tie.Need-tick-requires
 tick-requires c κs = search needs
@@ -64,7 +75,9 @@ settle-requires : tie.Need-settle-requires
 settle-requires c κs = search needs
 
 play-requires : tie.Need-play-requires
-play-requires c κs = once-few _ _ _ _ (c .before .before .before .before .before .before .before .before .before .before .before .before .before .before .before .refused-at-once .ensures) (c .before .before .before .before .before .before .before .before .before .before .before .before .before .before .if1 .left)
+play-requires c κs = once-few _ _ _ _ (c .before .before .before .before .before .before .before .before .before .before .before .before .before .before
+    .before .refused-at-once .ensures) (c .before .before .before .before .before .before .before .before .before .before .before .before .before
+    .before .if1 .left)
 
 refused-at-end-requires : tie.Need-refused-at-end-requires
 refused-at-end-requires c κs = search needs
@@ -77,9 +90,27 @@ same-length-4 c = search needs
 
 returns-4 : tie.Need-returns-4
 returns-4 c =
-    update-by _ _ _ _ _ (c .before .before .before .before .before .before .before .before .before .before .before .before .before .before .before .before .before .before .before .before .before .before .before .before .refused-at-once .ensures) true (c .before .before .before .before .before .before .before .before .before .before .before .before .before .before .before .before .before .before .before .before .before .before .before .if1 .left) (c .before .before .before .before .before .before .before .before .before .before .before .before .before .before .before .before .before .before .before .before .before .before .has-worlds .ensures) (not-false _ (c .before .before .before .before .before .before .before .before .before .before .before .before .before .before .before .before .before .before .before .before .before .if2 .left))
-    (worlds-stopped _ _ _ _ (c .before .before .before .before .before .before .before .before .before .before .before .before .before .before .before .before .before .before .listen .ensures) (c .before .before .before .before .before .before .before .before .before .before .before .before .before .before .before .before .before .hear-all .ensures) (c .before .before .before .before .before .before .before .before .before .before .before .before .before .before .before .before .scene-of .ensures) (c .before .before .before .before .before .before .before .before .before .before .before .before .before .before .before .receive-commands .ensures) (c .before .before .before .before .before .before .before .before .before .before .before .before .before .before .by-arrivals .ensures)
-    (c .before .before .before .before .before .before .before .before .before .before .before .before .before .if3 .left) (c .before .before .before .before .before .before .before .before .before .before .before .before .tick .ensures) (c .before .before .before .before .before .before .before .before .before .before .settle .ensures) (c .before .before .before .before .before .before .before .before .play .ensures) (c .before .before .before .before .before .refused-at-end .ensures) refl (c .before .before .before .before .if4 .taken) (c .before .before .refuse3 .ensures))
+    update-by _ _ _ _ _ (c .before .before .before .before .before .before .before .before .before .before .before .before .before .before .before
+    .before .before .before .before .before .before .before .before .before .refused-at-once .ensures) true
+    (c .before .before .before .before .before .before .before .before .before .before .before .before .before .before .before .before .before
+    .before .before .before .before .before .before .if1 .left)
+    (c .before .before .before .before .before .before .before .before .before .before .before .before .before .before .before .before .before
+    .before .before .before .before .before .has-worlds .ensures)
+    (not-false _ (c .before .before .before .before .before .before .before .before .before .before .before .before .before .before .before .before
+    .before .before .before .before .before .if2 .left))
+    (worlds-stopped _ _ _ _ (c .before .before .before .before .before .before .before .before .before .before .before .before .before .before .before
+    .before .before .before .listen .ensures) (c .before .before .before .before .before .before .before .before .before .before .before .before
+    .before .before .before .before .before .hear-all .ensures)
+    (c .before .before .before .before .before .before .before .before .before .before .before .before .before .before .before .before .scene-of
+    .ensures) (c .before .before .before .before .before .before .before .before .before .before .before .before .before .before .before
+    .receive-commands .ensures) (c .before .before .before .before .before .before .before .before .before .before .before .before .before .before
+    .by-arrivals .ensures)
+    (c .before .before .before .before .before .before .before .before .before .before .before .before .before .if3 .left)
+    (c .before .before .before .before .before .before .before .before .before .before .before .before .tick .ensures)
+    (c .before .before .before .before .before .before .before .before .before .before .settle .ensures)
+    (c .before .before .before .before .before .before .before .before .play .ensures)
+    (c .before .before .before .before .before .refused-at-end .ensures) refl (c .before .before .before .before .if4 .taken)
+    (c .before .before .refuse3 .ensures))
 
 accept-requires : tie.Need-accept-requires
 accept-requires c κs = search needs
@@ -89,9 +120,27 @@ same-length-5 c = search needs
 
 returns-5 : tie.Need-returns-5
 returns-5 c =
-    update-by _ _ _ _ _ (c .before .before .before .before .before .before .before .before .before .before .before .before .before .before .before .before .before .before .before .before .before .before .before .before .refused-at-once .ensures) true (c .before .before .before .before .before .before .before .before .before .before .before .before .before .before .before .before .before .before .before .before .before .before .before .if1 .left) (c .before .before .before .before .before .before .before .before .before .before .before .before .before .before .before .before .before .before .before .before .before .before .has-worlds .ensures) (not-false _ (c .before .before .before .before .before .before .before .before .before .before .before .before .before .before .before .before .before .before .before .before .before .if2 .left))
-    (worlds-accepted _ _ _ _ (c .before .before .before .before .before .before .before .before .before .before .before .before .before .before .before .before .before .before .listen .ensures) (c .before .before .before .before .before .before .before .before .before .before .before .before .before .before .before .before .before .hear-all .ensures) (c .before .before .before .before .before .before .before .before .before .before .before .before .before .before .before .before .scene-of .ensures) (c .before .before .before .before .before .before .before .before .before .before .before .before .before .before .before .receive-commands .ensures) (c .before .before .before .before .before .before .before .before .before .before .before .before .before .before .by-arrivals .ensures)
-    (c .before .before .before .before .before .before .before .before .before .before .before .before .before .if3 .left) (c .before .before .before .before .before .before .before .before .before .before .before .before .tick .ensures) (c .before .before .before .before .before .before .before .before .before .before .settle .ensures) (c .before .before .before .before .before .before .before .before .play .ensures) (c .before .before .before .before .before .refused-at-end .ensures) refl (c .before .before .before .before .if4 .left) (c .before .before .accept .ensures))
+    update-by _ _ _ _ _ (c .before .before .before .before .before .before .before .before .before .before .before .before .before .before .before
+    .before .before .before .before .before .before .before .before .before .refused-at-once .ensures) true
+    (c .before .before .before .before .before .before .before .before .before .before .before .before .before .before .before .before .before
+    .before .before .before .before .before .before .if1 .left)
+    (c .before .before .before .before .before .before .before .before .before .before .before .before .before .before .before .before .before
+    .before .before .before .before .before .has-worlds .ensures)
+    (not-false _ (c .before .before .before .before .before .before .before .before .before .before .before .before .before .before .before .before
+    .before .before .before .before .before .if2 .left))
+    (worlds-accepted _ _ _ _ (c .before .before .before .before .before .before .before .before .before .before .before .before .before .before .before
+    .before .before .before .listen .ensures) (c .before .before .before .before .before .before .before .before .before .before .before .before
+    .before .before .before .before .before .hear-all .ensures)
+    (c .before .before .before .before .before .before .before .before .before .before .before .before .before .before .before .before .scene-of
+    .ensures) (c .before .before .before .before .before .before .before .before .before .before .before .before .before .before .before
+    .receive-commands .ensures) (c .before .before .before .before .before .before .before .before .before .before .before .before .before .before
+    .by-arrivals .ensures)
+    (c .before .before .before .before .before .before .before .before .before .before .before .before .before .if3 .left)
+    (c .before .before .before .before .before .before .before .before .before .before .before .before .tick .ensures)
+    (c .before .before .before .before .before .before .before .before .before .before .settle .ensures)
+    (c .before .before .before .before .before .before .before .before .play .ensures)
+    (c .before .before .before .before .before .refused-at-end .ensures) refl (c .before .before .before .before .if4 .left)
+    (c .before .before .accept .ensures))
 
 pub update-spec : {M : Type 1} → statement M
 update-spec =

@@ -23,7 +23,10 @@ same-length : tie.Need-same-length
 same-length c = search needs
 
 returns : tie.Need-returns
-returns c = clock-refused _ _ _ _ (c .before .before .before .before .before .before .before .before .listen .ensures) (c .before .before .before .before .before .before .before .hear-all .ensures) (c .before .before .before .before .before .before .has-world-message .ensures) (c .before .before .before .before .before .while-syncing .ensures) _ (c .before .before .before .before .if1 .taken) (c .before .before .refuse .ensures)
+returns c = clock-refused _ _ _ _ (c .before .before .before .before .before .before .before .before .listen .ensures)
+    (c .before .before .before .before .before .before .before .hear-all .ensures)
+    (c .before .before .before .before .before .before .has-world-message .ensures)
+    (c .before .before .before .before .before .while-syncing .ensures) _ (c .before .before .before .before .if1 .taken) (c .before .before .refuse .ensures)
 
 tick-requires : tie.Need-tick-requires
 tick-requires c κs = search needs
@@ -42,8 +45,13 @@ same-length-2 c = search needs
 
 returns-2 : tie.Need-returns-2
 returns-2 c =
-    clock-moved _ _ _ _ (c .before .before .before .before .before .before .before .before .before .before .before .before .listen .ensures) (c .before .before .before .before .before .before .before .before .before .before .before .hear-all .ensures) (c .before .before .before .before .before .before .before .before .before .before .has-world-message .ensures) (c .before .before .before .before .before .before .before .before .before .while-syncing .ensures) _
-    (c .before .before .before .before .before .before .before .before .if1 .left) (c .before .before .before .before .before .before .before .tick .ensures) (c .before .before .before .before .before .settle .ensures) (c .before .before .before .before .synced .ensures) (c .before .before .unplayed .ensures)
+    clock-moved _ _ _ _ (c .before .before .before .before .before .before .before .before .before .before .before .before .listen .ensures)
+    (c .before .before .before .before .before .before .before .before .before .before .before .hear-all .ensures)
+    (c .before .before .before .before .before .before .before .before .before .before .has-world-message .ensures)
+    (c .before .before .before .before .before .before .before .before .before .while-syncing .ensures) _
+    (c .before .before .before .before .before .before .before .before .if1 .left)
+    (c .before .before .before .before .before .before .before .tick .ensures) (c .before .before .before .before .before .settle .ensures)
+    (c .before .before .before .before .synced .ensures) (c .before .before .unplayed .ensures)
 
 pub update-clock-spec : {M : Type 1} → statement M
 update-clock-spec =

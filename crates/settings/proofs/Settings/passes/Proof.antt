@@ -29,7 +29,12 @@ unfolding passesOf
 returns-3 c =
     let p = c .before .before in
     let q = p .before .before in
-    simp (holds (q .if1 .left) (q .before .seconds-pass .ensures), holds (p .if2 .left) (p .before .thresholds-pass .ensures), fails (c .if3 .taken) (c .before .counts-pass .ensures))
+    simp (
+      holds (q .if1 .left) (q .before .seconds-pass .ensures),
+      holds (p .if2 .left) (p .before .thresholds-pass .ensures),
+      fails (c .if3 .taken)
+          (c .before .counts-pass .ensures),
+    )
 
 is-known-requires : tie.Need-is-known-requires
 is-known-requires c κs = search needs
@@ -40,7 +45,12 @@ returns-4 c =
     let o = c .before in
     let p = o .before .before in
     let q = p .before .before in
-    simp (holds (q .if1 .left) (q .before .seconds-pass .ensures), holds (p .if2 .left) (p .before .thresholds-pass .ensures), holds (o .if3 .left) (o .before .counts-pass .ensures)) (c .is-known .ensures)
+    simp (
+      holds (q .if1 .left) (q .before .seconds-pass .ensures),
+      holds (p .if2 .left) (p .before .thresholds-pass .ensures),
+      holds (o .if3 .left)
+          (o .before .counts-pass .ensures),
+    ) (c .is-known .ensures)
 
 pub passes-spec : {M : Type 1} → statement M
 passes-spec =

@@ -1,4 +1,5 @@
--- `trunc` meets its contract: the fraction's bits are cleared, which changes no stamp; then the ends of the range, a NaN, and between, where the whole part fits. Assumes nothing.
+-- `trunc` meets its contract: the fraction's bits are cleared, which changes no stamp; then the ends of the range, a NaN, and between, where the whole part
+-- fits. Assumes nothing.
 use borrow.Author.Needs.{needs}
 use mathlib.Core.Path.{_≡_, sym, ap, _∙_, subst}
 use lib.Dec.{T}
@@ -54,7 +55,8 @@ returns-2 : tie.Need-returns-2
 unfolding stampOf
 returns-2 c =
     c .from-value .ensures
-    ∙ ap bitsOf (ap (λ (z : ℤ). toZ w16 (ofZ w16 z)) (back (c .before)) ∙ toZ-ofZ {w = w16} (narrow (c .before)) ∙ whole (c .before) ∙ same (c .before .before .before .before))
+    ∙ ap bitsOf (ap (λ (z : ℤ). toZ w16 (ofZ w16 z)) (back (c .before)) ∙ toZ-ofZ {w = w16} (narrow (c .before)) ∙ whole (c .before)
+    ∙ same (c .before .before .before .before))
 
 returns-3 : tie.Need-returns-3
 unfolding stampOf
@@ -62,7 +64,8 @@ returns-3 c = ap bitsOf (sym (no-number (c .before .before .before .trunc .resul
 
 returns-4 : tie.Need-returns-4
 unfolding stampOf ofBits neg
-returns-4 c = ap bitsOf (sym (bottoms (c .before .before .before .trunc .result) (c .before .before .if1 .left) (c .before .if2 .left) (c .if3 .left)) ∙ same (c .before .before .before))
+returns-4 c = ap bitsOf (sym (bottoms (c .before .before .before .trunc .result) (c .before .before .if1 .left) (c .before .if2 .left) (c .if3 .left))
+    ∙ same (c .before .before .before))
 
 pub trunc-spec : {M : Type 1} → statement M
 trunc-spec =
