@@ -31,7 +31,7 @@ pub fn is_weight(t: f64) -> bool
 }
 
 // The time between two stamps at a weight, not wrapped.
-pub fn time_between(before: Timestamp, after: Timestamp, t: f64) -> f64
+pub(crate) fn time_between(before: Timestamp, after: Timestamp, t: f64) -> f64
     ensures { λ r. ⌜ r ≡ timeOf before after t ⌝ }
 {
     let from = FloatTimestamp::from_timestamp(before);
@@ -40,7 +40,7 @@ pub fn time_between(before: Timestamp, after: Timestamp, t: f64) -> f64
 }
 
 // The displayed time: worked out anew where two states are published.
-pub fn displayed(p: Published, t: f64) -> Published
+pub(crate) fn displayed(p: Published, t: f64) -> Published
     ensures { λ r. ⌜ r ≡ displayedOf p t ⌝ }
 {
     let before = p.before;
@@ -60,7 +60,7 @@ pub fn displayed(p: Published, t: f64) -> Published
 }
 
 // The last queued stamp, set anew where it cannot be compared with the client's stamp or is later than it.
-pub fn revised(last: LastStamp, old: Timestamp, lag: u16) -> LastStamp
+pub(crate) fn revised(last: LastStamp, old: Timestamp, lag: u16) -> LastStamp
     ensures { λ r. ⌜ r ≡ revisedOf last old lag ⌝ }
 {
     let LastStamp::Last(l) = last else {

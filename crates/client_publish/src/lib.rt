@@ -39,7 +39,7 @@ pub struct Stated {
 }
 
 // Nothing is published: neither world has had a snapshot.
-pub fn publish_none(s: Scene, tape: &mut [u32], at: usize) -> Stated
+pub(crate) fn publish_none(s: Scene, tape: &mut [u32], at: usize) -> Stated
     requires { ⌜ at < 3000000000 ⌝ }
     ensures { λ r. ⌜ States (publishedNone s) s (now (tape .entry)) at r (now (tape .exit)) ⌝ }
 {
@@ -51,7 +51,7 @@ pub fn publish_none(s: Scene, tape: &mut [u32], at: usize) -> Stated
 }
 
 // The world of a side is published as it is.
-pub fn publish_side(s: Scene, side: u32, tape: &mut [u32], at: usize) -> Stated
+pub(crate) fn publish_side(s: Scene, side: u32, tape: &mut [u32], at: usize) -> Stated
     requires { ⌜ at < 3000000000 ⌝ }
     ensures { λ r. ⌜ States (publishedSide s side) s (now (tape .entry)) at r (now (tape .exit)) ⌝ }
 {
@@ -64,7 +64,7 @@ pub fn publish_side(s: Scene, side: u32, tape: &mut [u32], at: usize) -> Stated
 }
 
 // A mix of both worlds is published, with the weight of the new one.
-pub fn publish_mix(s: Scene, weight: f64, tape: &mut [u32], at: usize) -> Stated
+pub(crate) fn publish_mix(s: Scene, weight: f64, tape: &mut [u32], at: usize) -> Stated
     requires { ⌜ at < 3000000000 ⌝ }
     ensures { λ r. ⌜ States (publishedMix s weight) s (now (tape .entry)) at r (now (tape .exit)) ⌝ }
 {
@@ -90,7 +90,7 @@ pub fn publish_old_state(s: Scene, tape: &mut [u32], at: usize) -> Stated
 }
 
 // Whether a weight is so near to 1 that the new world is published as it is: less than 2^-52 away.
-pub fn is_near_one(weight: f64) -> bool
+pub(crate) fn is_near_one(weight: f64) -> bool
     ensures { λ r. ⌜ r ≡ nearOne weight ⌝ }
 {
     let d = weight - 1.0;
@@ -101,7 +101,7 @@ pub fn is_near_one(weight: f64) -> bool
 }
 
 // Both worlds are initialised: the old one at weight 0, the new one near weight 1, and a mix in between.
-pub fn publish_both(s: Scene, tape: &mut [u32], at: usize) -> Stated
+pub(crate) fn publish_both(s: Scene, tape: &mut [u32], at: usize) -> Stated
     requires { ⌜ at < 3000000000 ⌝ }
     ensures { λ r. ⌜ States (publishedBoth s) s (now (tape .entry)) at r (now (tape .exit)) ⌝ }
 {

@@ -19,7 +19,7 @@ use command::Outcome;
 use timestamp::Timestamp;
 
 // Whether an insertion found its buffer full.
-pub fn is_full(o: Outcome) -> bool
+pub(crate) fn is_full(o: Outcome) -> bool
     ensures { λ r. ⌜ r ≡ fullBy o ⌝ }
 {
     match o {
@@ -30,7 +30,7 @@ pub fn is_full(o: Outcome) -> bool
 }
 
 // How many entries an insertion put in.
-pub fn taken_by(o: Outcome) -> usize
+pub(crate) fn taken_by(o: Outcome) -> usize
     ensures { λ r. ⌜ r ≡ takenBy o ⌝ }
 {
     match o {
@@ -41,7 +41,7 @@ pub fn taken_by(o: Outcome) -> usize
 }
 
 // Whether one of three insertions found its buffer full.
-pub fn any_full(base: Outcome, left: Outcome, right: Outcome) -> bool
+pub(crate) fn any_full(base: Outcome, left: Outcome, right: Outcome) -> bool
     ensures { λ r. ⌜ r ≡ anyFull base left right ⌝ }
 {
     if is_full(base) {
@@ -54,7 +54,7 @@ pub fn any_full(base: Outcome, left: Outcome, right: Outcome) -> bool
 }
 
 // A ledger with what an insertion put in.
-pub fn take(l: Ledger, o: Outcome) -> Ledger
+pub(crate) fn take(l: Ledger, o: Outcome) -> Ledger
     ensures { λ r. ⌜ r ≡ takes l (takenBy o) ⌝ }
 {
     ledgers::count_taken(l, taken_by(o))
@@ -98,14 +98,14 @@ pub fn receive_command(s: Scene, entry: Entry) -> Received
 }
 
 // Whether a snapshot is later than the client's stamp.
-pub fn is_from_future(stamp: Timestamp, old: Timestamp) -> bool
+pub(crate) fn is_from_future(stamp: Timestamp, old: Timestamp) -> bool
     ensures { λ r. ⌜ r ≡ fromFutureOf stamp old ⌝ }
 {
     status::is_later(stamp, old)
 }
 
 // Whether a snapshot is later than the last one queued, where there was one.
-pub fn is_fresh(last: LastStamp, stamp: Timestamp) -> bool
+pub(crate) fn is_fresh(last: LastStamp, stamp: Timestamp) -> bool
     ensures { λ r. ⌜ r ≡ freshOf last stamp ⌝ }
 {
     match last {
@@ -115,7 +115,7 @@ pub fn is_fresh(last: LastStamp, stamp: Timestamp) -> bool
 }
 
 // The last queued stamp is the queued snapshot's, where there is one.
-pub fn noted(q: Queued, last: LastStamp) -> LastStamp
+pub(crate) fn noted(q: Queued, last: LastStamp) -> LastStamp
     ensures { λ r. ⌜ r ≡ notedOf q last ⌝ }
 {
     match q {

@@ -10,7 +10,13 @@ use timestamp::Ordering;
 use timestamp::Timestamp;
 
 // The world of a side is set to a stamp.
-pub fn reset_side(s: Scene, side: u32, stamp: Timestamp, tape: &mut [u32], at: usize) -> Shown
+pub(crate) fn reset_side(
+    s: Scene,
+    side: u32,
+    stamp: Timestamp,
+    tape: &mut [u32],
+    at: usize,
+) -> Shown
     requires { ⌜ at < 3000000000 ⌝ }
     ensures { λ r. ⌜ Plays (resetSide s side stamp) (now (tape .entry)) at r (now (tape .exit)) ⌝ }
 {
@@ -28,7 +34,7 @@ pub fn reset_side(s: Scene, side: u32, stamp: Timestamp, tape: &mut [u32], at: u
 }
 
 // The new world goes along with a skip where its stamp is the old one's.
-pub fn reset_along(s: Scene, stamp: Timestamp, tape: &mut [u32], at: usize) -> Shown
+pub(crate) fn reset_along(s: Scene, stamp: Timestamp, tape: &mut [u32], at: usize) -> Shown
     requires { ⌜ at < 3000000000 ⌝ }
     ensures { λ r. ⌜ Plays (resetAlong s stamp) (now (tape .entry)) at r (now (tape .exit)) ⌝ }
 {
@@ -42,7 +48,7 @@ pub fn reset_along(s: Scene, stamp: Timestamp, tape: &mut [u32], at: usize) -> S
 }
 
 // Whether a skip goes to an earlier stamp.
-pub fn skips_back(stamp: Timestamp, old: Timestamp) -> bool
+pub(crate) fn skips_back(stamp: Timestamp, old: Timestamp) -> bool
     ensures { λ r. ⌜ r ≡ skipsBack stamp old ⌝ }
 {
     match stamp.cmp(old) {
@@ -53,7 +59,7 @@ pub fn skips_back(stamp: Timestamp, old: Timestamp) -> bool
 }
 
 // The base is emptied by a skip back, so that none of its commands is played at a wrong time later.
-pub fn emptied_base(s: Scene, back: bool) -> Scene
+pub(crate) fn emptied_base(s: Scene, back: bool) -> Scene
     ensures { λ r. ⌜ r ≡ emptiedBase back s ⌝ }
 {
     if back {

@@ -10,8 +10,8 @@ use lib.ListN.{length, take, drop, getD, set, replicate, length-append, length-t
 use lib.Seq.{slice, slice-cons, take-suc, take-take, drop-append-le, take-suc-set, take-set-lt, drop-set-lt, take-append-seam}
 use lib.Ieee.{Float, nan, binary64, lt, add}
 use Rattle.clocksync.specs.Mean.{sampleInserted, placeOf, sortedOnto, sortedOf, sumFrom}
-use Rattle.timestamp.specs.Floats.{zero64}
-use Rattle.clocksync.specs.Clock.{laidOut, samplesOk, sampleOk}
+use Rattle.timestamp.specs.Floats.{zero64, sampleOk}
+use Rattle.clocksync.specs.Clock.{laidOut, samplesOk}
 
 -- ---- laid out in slots
 

@@ -18,15 +18,15 @@ use Rattle.float_laws.proofs.Order.{float-le-trans, float-le-of-not-lt, between
 use Rattle.float_laws.proofs.Within.{within-widen, within-of-tests, tests-of-within}
 use Rattle.float_laws.proofs.Clock.{AllWithin, sumUp, mean-within, offset-within, add-finite}
 use Rattle.settings.specs.declared.Settings.{Settings}
-use Rattle.settings.specs.Settings.{hour64, samplesToDiscardOf, samplesToStoreOf, passesOf}
+use Rattle.settings.specs.Settings.{samplesToDiscardOf, samplesToStoreOf, passesOf}
+use Rattle.timestamp.specs.Floats.{hour64, zero64, sampleOk}
 use Rattle.timestamp.proofs.Tests.{apart, both}
 use Rattle.settings.proofs.Limits.{Limited, period-within, discard-few, store-few, samples-pass}
 use Rattle.settings.proofs.Few.{needed-range}
 use Rattle.clocksync.specs.Offset.{offsetOf}
 use Rattle.clocksync.specs.Mean.{sampleInserted, sortedOnto, sortedOf, innerOf, sumFrom, averageOf, meanOf}
-use Rattle.timestamp.specs.Floats.{zero64}
 use Rattle.clocksync.specs.Clock.{heldOf, newOf, timedOf, tickedOf, deviatesOf, offsetAfter, sampledOf, filledOf, addedOf, namedOf, sampleOf, settledOf}
-use Rattle.clocksync.specs.Clock.{sampleOk, samplesOk, timerOk, offsetOk, soundClock}
+use Rattle.clocksync.specs.Clock.{samplesOk, timerOk, offsetOk, soundClock}
 use Rattle.clocksync.specs.declared.Offset.{Offset}
 use Rattle.clocksync.specs.declared.Offset.the-variants.{NoOffset, Seconds}
 use Rattle.clocksync.specs.declared.Clock.{Clock}

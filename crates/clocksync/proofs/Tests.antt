@@ -4,8 +4,7 @@ use mathlib.Core.Bool.{Bool, cond, true, false, _&&_}
 use lib.Ieee.{Float, nan, inf, fin, neg, lt, le, eq, binary64, add}
 use lib.Ieee.Scale.{finite}
 use Rattle.timestamp.proofs.Basics.{not-true}
-use Rattle.settings.specs.Settings.{hour64}
-use Rattle.timestamp.specs.Floats.{zero64, absOf}
+use Rattle.timestamp.specs.Floats.{hour64, zero64, absOf}
 use Rattle.clocksync.specs.Clock.{timerOk, timedOf, tickedOf}
 use Rattle.clocksync.specs.declared.Clock.{Clock}
 use Rattle.clocksync.specs.declared.Ticked.{Ticked}

@@ -5,15 +5,14 @@ use Prim.Native.Nat.{ℕ, _-_, min}
 use mathlib.Core.Bool.{Bool, true, false, cond, not, _&&_, _||_}
 use mathlib.Core.List.{List, [], _∷_, _++_}
 use lib.Dec.{leb, ltb, eqb}
-use lib.IntN.{pos}
 use lib.ListN.{length, take, drop, replicate}
-use lib.Ieee.{Float, fin, binary64, lt, le, add, sub}
+use lib.Ieee.{Float, binary64, lt, le, add, sub}
 use lib.Ieee.Scale.{finite}
 use Rattle.settings.specs.declared.Settings.{Settings}
-use Rattle.settings.specs.Settings.{between, hour64, samplesToDiscardOf, samplesToStoreOf}
+use Rattle.settings.specs.Settings.{samplesToDiscardOf, samplesToStoreOf}
+use Rattle.timestamp.specs.Floats.{hour64, zero64, absOf, sampleOk}
 use Rattle.clocksync.specs.Offset.{offsetOf}
 use Rattle.clocksync.specs.Mean.{meanOf}
-use Rattle.timestamp.specs.Floats.{zero64, absOf}
 use Rattle.clocksync.specs.declared.Offset.{Offset}
 use Rattle.clocksync.specs.declared.Offset.the-variants.{NoOffset, Seconds}
 use Rattle.clocksync.specs.declared.ClientId.{ClientId}
@@ -128,10 +127,6 @@ abbrev pub readyOf : Clock → Bool
 readyOf c = bothOf (c .offset) (c .id)
 
 -- ---- "Sound"
-
--- finite and within 2^33
-abbrev pub sampleOk : Float → Bool
-sampleOk x = between (fin true 1 (pos 33)) (fin false 1 (pos 33)) x
 
 -- every sample is
 unfoldable pub samplesOk : List Float → Bool

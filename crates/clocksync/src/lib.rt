@@ -6,7 +6,8 @@ ghost use Prim.Native.Nat.{_≤_};
 ghost use lib.ListN.{take, drop};
 ghost use Rattle.clocksync.specs.Offset.{offsetOf};
 ghost use Rattle.clocksync.specs.Clock.{laidOut, newOf, tickedOf, listenOf, heardOf, firstOf, otherOf, deviatesOf, offsetAfter, addedOf, settledOf};
-ghost use Rattle.clocksync.specs.Clock.{serverSecondsOf, readyOf, sampleOk, timerOk, samplesOk, soundClock};
+ghost use Rattle.clocksync.specs.Clock.{serverSecondsOf, readyOf, timerOk, samplesOk, soundClock};
+ghost use Rattle.timestamp.specs.Floats.{sampleOk};
 use settings::Settings;
 
 mod mean;
@@ -254,7 +255,7 @@ fn met_other(was: bool, known: ClientId, id: u32) -> bool
 }
 
 // The offset that a clock message measures: the server's time less the middle of the client's two times.
-pub fn measured_offset(send: f64, server: f64, seconds: f64) -> f64
+pub(crate) fn measured_offset(send: f64, server: f64, seconds: f64) -> f64
     ensures { λ r. ⌜ r ≡ offsetOf send server seconds ⌝ }
 {
     server - (send + seconds) / 2.0
@@ -304,10 +305,10 @@ fn synced(old: Offset, mean: f64, deviation: f64) -> Offset
 }
 
 // Whether a sample, or an offset, is finite and within 2^33.
-pub fn sample_sound(x: f64) -> bool
+pub(crate) fn sample_sound(x: f64) -> bool
     ensures { λ r. ⌜ r ≡ sampleOk x ⌝ }
 {
-    settings::within(-8589934592.0, 8589934592.0, x)
+    settings::within(-refusals::LARGEST_SAMPLE, refusals::LARGEST_SAMPLE, x)
 }
 
 // Whether each of the first n is.
@@ -329,7 +330,7 @@ pub fn samples_sound(samples: [f64; 64], n: usize) -> bool
 fn timer_sound(timer: f64) -> bool
     ensures { λ r. ⌜ r ≡ timerOk timer ⌝ }
 {
-    if timer <= 3600.0 {
+    if timer <= refusals::HOUR {
         return timer > -1.0 / 0.0;
     }
     false

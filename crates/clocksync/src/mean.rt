@@ -79,14 +79,14 @@ fn sum_between(samples: [f64; 64], start: usize, end: usize) -> f64
 }
 
 // The smaller of two counts.
-pub fn least(a: usize, b: usize) -> usize
+pub(crate) fn least(a: usize, b: usize) -> usize
     ensures { λ r. ⌜ r ≡ min a b ⌝ }
 {
     if a < b { a } else { b }
 }
 
 // A count less another, and 0 where that is more.
-pub fn less(a: usize, b: usize) -> usize
+pub(crate) fn less(a: usize, b: usize) -> usize
     ensures { λ r. ⌜ r ≡ a - b ⌝ }
 {
     if a < b { 0 } else { a - b }

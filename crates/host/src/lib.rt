@@ -1,13 +1,10 @@
 // What hosts in C and Rust call directly: functions on numbers and bytes, exported under C names with the library's prefix.
 // The header include/kadwunge.h declares them. Every argument is answered; none is required to be anything.
 ghost use mathlib.Core.Path.{_≡_};
-ghost use mathlib.Core.Bool.{cond};
 ghost use Prim.Native.Nat.{_+_, _*_, _≤_};
 ghost use lib.ListN.{length, take, replicate};
 ghost use lib.Ieee.{binary64, ofBits};
 ghost use Rattle.timestamp.specs.Timestamps.{bitsOf, orderOf, orderNumber};
-ghost use Rattle.clocksync.specs.Clock.{samplesOk};
-ghost use Rattle.clocksync.specs.Mean.{meanOf};
 ghost use Rattle.host.specs.Host.{frameStampOf};
 ghost use Rattle.host.specs.Mean.{littleOf, wordAt, floatsOf, bytesOf, judgedMean, meanAnswerOf, AnswersMean};
 use timestamp::Ordering;
@@ -41,7 +38,7 @@ pub extern "C" fn kadwunge_frame_stamp(seconds: f64, timestep: f64) -> i32
     ensures { λ r. ⌜ r ≡ frameStampOf seconds timestep ⌝ }
 {
     if settings::within(0.0009765625, 1.0, timestep) {
-        if settings::within(-4294967296.0, 4294967296.0, seconds) {
+        if settings::within(-refusals::LONGEST_TIME, refusals::LONGEST_TIME, seconds) {
             return Timestamp::from_seconds(seconds, timestep).value() as i32;
         }
         return 65538;

@@ -18,7 +18,8 @@ use Rattle.inbox.specs.declared.Time.{Time}
 use Rattle.inbox.specs.declared.Time.the-variants.{At, OutOfRange}
 use Rattle.inbox.specs.declared.Message.{Message}
 use Rattle.inbox.specs.declared.Message.the-variants.{Command, Snapshot, Clock, BadTime, WrongWord, CutShort}
-use Rattle.inbox.specs.Inbox.{lowBitsOf, isWord, stampFrom, dueWordOf, headOf, floatBitsOf, timeOk, pickTime, inboxTimeOf, pickClock, clockOf, Front}
+use Rattle.inbox.specs.Inbox.{lowBitsOf, isWord, stampFrom, dueWordOf, headOf, floatBitsOf, pickTime, inboxTimeOf, pickClock, clockOf, Front}
+use Rattle.timestamp.specs.Floats.{timeOk}
 use Rattle.inbox.specs.Inbox.{frontWith}
 use Rattle.inbox.specs.Inbox.{thenHandle, thenTime, byHead, frontOf, messagesAfter, messagesOf}
 use Rattle.inbox.proofs.Words.{word-room}

@@ -2,7 +2,7 @@
 use mathlib.Core.Path.{_≡_, refl}
 use mathlib.Core.Bool.{false}
 use lib.Ieee.{nan, le, lt, eq}
-use Rattle.inbox.specs.Inbox.{timeOk}
+use Rattle.timestamp.specs.Floats.{timeOk}
 
 -- a NaN is no time
 pub nan-out : timeOk nan ≡ false

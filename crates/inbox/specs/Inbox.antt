@@ -6,8 +6,8 @@ use mathlib.Core.Bool.{Bool, true, false, cond, _&&_, _||_}
 use mathlib.Core.List.{List, [], _∷_}
 use lib.ListN.{length, drop}
 use lib.Dec.{ltb, eqb}
-use lib.IntN.{pos}
-use lib.Ieee.{Float, fin, binary64, le, ofBits}
+use lib.Ieee.{Float, binary64, ofBits}
+use Rattle.timestamp.specs.Floats.{timeOk}
 use Rattle.refusals.specs.Limits.{mostWords, handleRoom}
 use Rattle.refusals.specs.Refusals.{accepted, lengthRefusal, wordRefusal, cutRefusal, clockTimeRefusal}
 use Rattle.timestamp.specs.declared.Timestamp.{Timestamp}
@@ -70,10 +70,6 @@ unfoldable pub floatBitsOf : List ℕ → Bits
 floatBitsOf ws =
     thenBits (dueWordOf 5 (2 ^ 8) ws) (λ high. thenBits (dueWordOf 5 (2 ^ 28) (drop 1 ws))
     (λ middle. thenBits (dueWordOf 5 (2 ^ 28) (drop 2 ws)) (λ low. Are (joinedOf high middle low))))
-
--- a time is finite and within 2 ^ 32 on both sides of 0; a NaN is not, since it compares as false
-abbrev pub timeOk : Float → Bool
-timeOk x = le (fin true 1 (pos 32)) x && le x (fin false 1 (pos 32))
 
 -- the time, where the test holds
 abbrev pub pickTime : Bool → Float → Time

@@ -89,7 +89,7 @@ fn lowest_with(found: u32, m: Message) -> u32
 }
 
 // The message at a place, and the place after it.
-pub fn message_at(words: &[u32], at: usize) -> Step
+pub(crate) fn message_at(words: &[u32], at: usize) -> Step
     requires { ⌜ at < length (now words) ⌝ }
     ensures { λ r. ⌜ r ≡ readAt (now (words .entry)) at ⌝ }
 {
@@ -161,7 +161,7 @@ pub fn message_at(words: &[u32], at: usize) -> Step
 }
 
 // The refusal that a message stands for, or 0.
-pub fn number_of(m: Message) -> u32
+pub(crate) fn number_of(m: Message) -> u32
     ensures { λ r. ⌜ r ≡ messageNumberOf m ⌝ }
 {
     match m {
@@ -295,7 +295,7 @@ fn time_of(bits: u64) -> Time
         return Time::OutOfRange;
     }
     let x = f64::from_bits(bits);
-    if x >= -4294967296.0 && x <= 4294967296.0 {
+    if x >= -refusals::LONGEST_TIME && x <= refusals::LONGEST_TIME {
         Time::At(x)
     } else {
         Time::OutOfRange

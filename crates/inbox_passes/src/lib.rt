@@ -26,7 +26,7 @@ pub struct Noting {
 }
 
 // Whether a message is a command or a snapshot, or one was met before.
-pub fn met_one(found: bool, m: Message) -> bool
+pub(crate) fn met_one(found: bool, m: Message) -> bool
     ensures { λ r. ⌜ r ≡ metOne found m ⌝ }
 {
     match m {
@@ -57,7 +57,7 @@ pub fn has_world_message(words: &[u32]) -> bool
 }
 
 // Whether an inbox has a command or a snapshot, or one was met before.
-pub fn met_in(words: &[u32], start: bool) -> bool
+pub(crate) fn met_in(words: &[u32], start: bool) -> bool
     ensures { λ r. ⌜ r ≡ metIn (now (words .entry)) start ⌝ }
 {
     let mut r = reader::new(words);
@@ -71,7 +71,7 @@ pub fn met_in(words: &[u32], start: bool) -> bool
 }
 
 // A clock message is heard; any other is passed over.
-pub fn hear_one(a: Hearing, m: Message) -> Hearing
+pub(crate) fn hear_one(a: Hearing, m: Message) -> Hearing
     ensures { λ r. ⌜ r ≡ hearNext a m ⌝ }
 {
     match m {
@@ -100,7 +100,7 @@ pub fn hear_all(words: &[u32], start: Heard, seconds: f64) -> Heard
 }
 
 // The clock messages of an inbox, in their order.
-pub fn hear_in(words: &[u32], start: Hearing) -> Hearing
+pub(crate) fn hear_in(words: &[u32], start: Hearing) -> Hearing
     ensures { λ r. ⌜ r ≡ hearIn (now (words .entry)) start ⌝ }
 {
     let mut r = reader::new(words);
@@ -114,7 +114,7 @@ pub fn hear_in(words: &[u32], start: Hearing) -> Hearing
 }
 
 // A command is received; any other message is passed over. Once a buffer was full it stays said.
-pub fn receive_one(a: Received, m: Message) -> Received
+pub(crate) fn receive_one(a: Received, m: Message) -> Received
     ensures { λ r. ⌜ r ≡ receiveOne a m ⌝ }
 {
     match m {
@@ -146,7 +146,7 @@ pub fn receive_commands(words: &[u32], start: Received) -> Received
 }
 
 // A snapshot is received; any other message is passed over.
-pub fn note_next(a: Noting, m: Message) -> Noting
+pub(crate) fn note_next(a: Noting, m: Message) -> Noting
     ensures { λ r. ⌜ r ≡ noteNext a m ⌝ }
 {
     match m {
@@ -174,7 +174,7 @@ pub fn receive_snapshots(words: &[u32], start: ClientWorldSimulations) -> Client
 }
 
 // The snapshots of an inbox, in their order.
-pub fn note_in(words: &[u32], start: Noting) -> Noting
+pub(crate) fn note_in(words: &[u32], start: Noting) -> Noting
     ensures { λ r. ⌜ r ≡ noteIn (now (words .entry)) start ⌝ }
 {
     let mut r = reader::new(words);

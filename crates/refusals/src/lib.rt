@@ -1,4 +1,4 @@
-// The numbers under which calls are turned down, the order in which each call is judged, and the limits that are whole numbers. A call hands
+// The numbers under which calls are turned down, the order in which each call is judged, and the limits. A call hands
 // in what its tests found and gets the number that it answers, or 0. It answers to no file of crystalorb, which has no such numbers.
 ghost use mathlib.Core.Path.{_≡_};
 ghost use Rattle.refusals.specs.Refusals.{openRefusalBy, onceRefusalBy, syncingRefusalBy, arrivalRefusalBy, endRefusalBy, issueRefusalBy};
@@ -53,6 +53,13 @@ pub const MOST_FRAMES: u32 = 65;
 pub const MOST_STEPS: u32 = 64;
 // The lag is at most so many frames.
 pub const MOST_LAG_FRAMES: i16 = 16383;
+
+// The seconds of an hour: the limit of a delta, of the request timer and of thresholds.
+pub const HOUR: f64 = 3600.0;
+// Times are within 2^32 seconds on both sides of 0.
+pub const LONGEST_TIME: f64 = 4294967296.0;
+// Clock samples are within 2^33 seconds on both sides of 0.
+pub const LARGEST_SAMPLE: f64 = 8589934592.0;
 
 // Why the frames of an update ended: all were played, a 66th was due, or the Rust stops in one.
 pub enum Stop {

@@ -1,5 +1,5 @@
-// The calls on a session: open, update, issue, report, and the line that prints it. A line is first read whole, without the session, and
-// then played: the session is a large value, and every step of a function that holds it is dear to prove.
+// The calls on a session: open, update, issue, report, and the line that prints it. A line is first read whole, without the session, which
+// is a large value to carry through a proof; then it is played.
 use super::answers;
 use super::fields;
 use super::fields::Fields;

@@ -5,11 +5,11 @@ use mathlib.Core.Bool.{Bool, true, false, cond, _&&_}
 use mathlib.Core.List.{List, []}
 use lib.Dec.{eqb, leb}
 use lib.ListN.{length}
-use lib.IntN.{pos}
-use lib.Ieee.{Float, fin, binary64, add}
+use lib.Ieee.{Float, binary64, add}
 use Rattle.refusals.specs.Refusals.{accepted, openRefusalBy, onceRefusalBy, syncingRefusalBy, arrivalRefusalBy, endRefusalBy, reportRefusalBy}
 use Rattle.settings.specs.declared.Settings.{Settings}
-use Rattle.settings.specs.Settings.{passesOf, between}
+use Rattle.settings.specs.Settings.{passesOf}
+use Rattle.timestamp.specs.Floats.{between, tweenOf, hour64, minusHour64, timeOk}
 use Rattle.clocksync.specs.declared.Clock.{Clock}
 use Rattle.clocksync.specs.declared.ServerTime.{ServerTime}
 use Rattle.clocksync.specs.declared.ServerTime.the-variants.{NoTime, At}
@@ -20,7 +20,6 @@ use Rattle.client.specs.declared.Received.{Received}
 use Rattle.client.specs.Sides.{newWorldsOf, withWorlds}
 use Rattle.client_receive.specs.Receive.{noneReceived}
 use Rattle.client_publish.specs.Ending.{weightOk}
-use Rattle.timestamp.specs.Floats.{tweenOf}
 use Rattle.fixed_timestepper.specs.TimeKeeper.{Run, updatedOf}
 use Rattle.session_state.specs.declared.Session.{Session}
 use Rattle.session_state.specs.Session.{hasWorlds, startingOf}
@@ -44,7 +43,7 @@ openOf c = record { refusal = openRefusalBy (passesOf c); session = startOf c }
 
 -- |delta| ≤ 3,600 and |seconds| ≤ 2^32, both finite
 unfoldable pub timesOk : Float → Float → Bool
-timesOk delta seconds = between (fin true 225 (pos 4)) (fin false 225 (pos 4)) delta && between (fin true 1 (pos 32)) (fin false 1 (pos 32)) seconds
+timesOk delta seconds = between minusHour64 hour64 delta && timeOk seconds
 
 -- the refusal of an update by its input, or by an unsound session
 unfoldable pub refusedAtOnce : Session → Float → Float → List ℕ → ℕ

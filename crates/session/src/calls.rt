@@ -45,10 +45,10 @@ pub fn open(settings: Settings) -> OpenAnswer
 pub(crate) fn times_ok(delta: f64, seconds: f64) -> bool
     ensures { λ r. ⌜ r ≡ timesOk delta seconds ⌝ }
 {
-    if !settings::within(-3600.0, 3600.0, delta) {
+    if !settings::within(-refusals::HOUR, refusals::HOUR, delta) {
         return false;
     }
-    settings::within(-4294967296.0, 4294967296.0, seconds)
+    settings::within(-refusals::LONGEST_TIME, refusals::LONGEST_TIME, seconds)
 }
 
 // The refusal of an update by its input and the session's soundness, or 0.

@@ -120,14 +120,14 @@ pub fn scene_of(session: Session) -> Scene
 }
 
 // A ledger with what its side holds now.
-pub fn closed(l: Ledger, buffer: CommandBuffer) -> Ledger
+pub(crate) fn closed(l: Ledger, buffer: CommandBuffer) -> Ledger
     ensures { λ r. ⌜ r ≡ closedOf l buffer ⌝ }
 {
     ledgers::close(l, command::held_count(buffer))
 }
 
 // The stage after an update: Ready once there is something to display.
-pub fn stage_after(stage: Stage, time: DisplayTime) -> Stage
+pub(crate) fn stage_after(stage: Stage, time: DisplayTime) -> Stage
     ensures { λ r. ⌜ r ≡ stageAfter stage time ⌝ }
 {
     match stage {

@@ -12,18 +12,18 @@ use lib.Ieee.Bits.{is-true}
 use lib.Ieee.Fits.{and-l, and-r}
 use borrow.Author.Tests.{lt-ltb, ltb-true, eqb-true, eq-eqb}
 use Rattle.float_laws.specs.Bounds.{Within}
-use Rattle.timestamp.specs.Floats.{zero64, one64}
+use Rattle.timestamp.specs.Floats.{zero64, one64, between, timeOk}
 use Rattle.float_laws.proofs.Order.{between-finite, float-le-trans}
 use Rattle.float_laws.proofs.Within.{within-widen, within-of-tests, add-within}
 use Rattle.timestamp.proofs.Basics.{holds-true, not-true}
 use Rattle.settings.specs.declared.Settings.{Settings}
-use Rattle.settings.specs.Settings.{passesOf, between, samplesToDiscardOf, samplesToStoreOf}
+use Rattle.settings.specs.Settings.{passesOf, samplesToDiscardOf, samplesToStoreOf}
 use Rattle.timestamp.proofs.Tests.{apart, both}
 use Rattle.settings.proofs.Limits.{timestep-within, lag-within}
 use Rattle.command.specs.Soundness.{soundBuffer}
 use Rattle.inbox.specs.declared.Message.{Message}
 use Rattle.inbox.specs.declared.Message.the-variants.{Command, Snapshot, Clock, BadTime, WrongWord, CutShort}
-use Rattle.inbox.specs.Inbox.{messagesOf, timeOk}
+use Rattle.inbox.specs.Inbox.{messagesOf}
 use Rattle.inbox.specs.Passes.{over}
 use Rattle.inbox.proofs.Passes.{Each, over-keeps}
 use Rattle.inbox.proofs.Bounds.{Bounded, messages-bounded}

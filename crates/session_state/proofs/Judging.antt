@@ -9,9 +9,8 @@ use Rattle.timestamp.specs.declared.Timestamp.{Timestamp}
 use Rattle.simulation.specs.declared.Simulation.{Simulation}
 use Rattle.client.specs.declared.ClientWorldSimulations.{ClientWorldSimulations}
 use Rattle.client.specs.Sides.{newSideOf, oldSideOf, worldOf, oldStampOf, newStampOf}
-use Rattle.settings.specs.Settings.{between}
+use Rattle.timestamp.specs.Floats.{between, zero64, one64}
 use Rattle.session_state.specs.Sound.{weightSound, initSound}
-use Rattle.timestamp.specs.Floats.{zero64, one64}
 
 -- from the lower end up, the upper end decides
 pub from-low : (lo hi x : Float) → le lo x ≡ true → le x hi ≡ between lo hi x

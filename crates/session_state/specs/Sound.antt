@@ -3,9 +3,9 @@
 use mathlib.Core.Bool.{Bool, true, false, cond, _&&_}
 use lib.Dec.{eqb, ltb}
 use lib.Ieee.{Float, eq}
-use Rattle.timestamp.specs.Floats.{zero64, one64}
+use Rattle.timestamp.specs.Floats.{zero64, one64, between}
 use Rattle.refusals.specs.Limits.{handleRoom}
-use Rattle.settings.specs.Settings.{passesOf, between}
+use Rattle.settings.specs.Settings.{passesOf}
 use Rattle.clocksync.specs.declared.Clock.{Clock}
 use Rattle.clocksync.specs.declared.Offset.{Offset}
 use Rattle.clocksync.specs.declared.Offset.the-variants.{NoOffset, Seconds}

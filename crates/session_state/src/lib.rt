@@ -53,7 +53,7 @@ pub fn is_ready(stage: Stage) -> bool
 }
 
 // A queued snapshot's handle is within 24 bits.
-pub fn queued_sound(q: Queued) -> bool
+pub(crate) fn queued_sound(q: Queued) -> bool
     ensures { λ r. ⌜ r ≡ queuedSound q ⌝ }
 {
     match q {
@@ -63,7 +63,7 @@ pub fn queued_sound(q: Queued) -> bool
 }
 
 // The blend weight is 0 to 1, and 0 where the stamps differ.
-pub fn weight_sound(w: ClientWorldSimulations) -> bool
+pub(crate) fn weight_sound(w: ClientWorldSimulations) -> bool
     ensures { λ r. ⌜ r ≡ weightSound w ⌝ }
 {
     let t = w.weight;
@@ -79,7 +79,7 @@ pub fn weight_sound(w: ClientWorldSimulations) -> bool
 }
 
 // The old world is initialised only if the new one is.
-pub fn init_sound(w: ClientWorldSimulations) -> bool
+pub(crate) fn init_sound(w: ClientWorldSimulations) -> bool
     ensures { λ r. ⌜ r ≡ initSound w ⌝ }
 {
     let old = sides::get_side(w, sides::old_side(w));
@@ -91,7 +91,7 @@ pub fn init_sound(w: ClientWorldSimulations) -> bool
 }
 
 // A buffer is sound. One that holds nothing is not handed on, which would copy its slots.
-pub fn buffer_sound(b: CommandBuffer) -> bool
+pub(crate) fn buffer_sound(b: CommandBuffer) -> bool
     ensures { λ r. ⌜ r ≡ soundBuffer b ⌝ }
 {
     let n = b.len;
@@ -102,7 +102,7 @@ pub fn buffer_sound(b: CommandBuffer) -> bool
 }
 
 // The three buffers are sound.
-pub fn buffers_sound(w: ClientWorldSimulations) -> bool
+pub(crate) fn buffers_sound(w: ClientWorldSimulations) -> bool
     ensures { λ r. ⌜ r ≡ buffersSound w ⌝ }
 {
     let left = w.left;
@@ -117,7 +117,7 @@ pub fn buffers_sound(w: ClientWorldSimulations) -> bool
 }
 
 // The worlds are sound.
-pub fn worlds_sound(w: ClientWorldSimulations) -> bool
+pub(crate) fn worlds_sound(w: ClientWorldSimulations) -> bool
     ensures { λ r. ⌜ r ≡ worldsSound w ⌝ }
 {
     let s = w.snapshots;
@@ -135,7 +135,7 @@ pub fn worlds_sound(w: ClientWorldSimulations) -> bool
 }
 
 // The overshoot is 0 to the timestep.
-pub fn overshoot_sound(overshoot: f64, timestep: f64) -> bool
+pub(crate) fn overshoot_sound(overshoot: f64, timestep: f64) -> bool
     ensures { λ r. ⌜ r ≡ overshootSound overshoot timestep ⌝ }
 {
     if overshoot >= 0.0 {
@@ -145,7 +145,7 @@ pub fn overshoot_sound(overshoot: f64, timestep: f64) -> bool
 }
 
 // Once worlds exist there is an offset and an id; before, there is no offset.
-pub fn connected(stage: Stage, c: Clock) -> bool
+pub(crate) fn connected(stage: Stage, c: Clock) -> bool
     ensures { λ r. ⌜ r ≡ connectedOf stage c ⌝ }
 {
     let offset = c.offset;

@@ -17,8 +17,8 @@ use lib.Ieee.Order.{round-mono}
 use lib.Ieee.Scale.{finite}
 use borrow.Author.Tests.{leb-true, ltb-true}
 use Rattle.timestamp.specs.Whole.{ceilOf}
-use Rattle.settings.specs.Settings.{between, atLeastOne, discardOf, storeOf, samplesPass}
-use Rattle.timestamp.specs.Floats.{one64, two64, zero64}
+use Rattle.settings.specs.Settings.{atLeastOne, discardOf, storeOf, samplesPass}
+use Rattle.timestamp.specs.Floats.{between, one64, two64, zero64}
 use Rattle.settings.proofs.Tests.{le-at}
 use Rattle.timestamp.proofs.Tests.{apart}
 use Rattle.settings.proofs.Discard.{plus, round-plus, above-one, not-above-one}

@@ -6,8 +6,8 @@ use mathlib.Core.Bool.{Bool, false, cond, _&&_}
 use lib.Dec.{leb}
 use lib.IntN.{ℤ, pos, negsuc}
 use lib.Signed.{leZ}
-use lib.Ieee.{Float, fin, binary64, mul, div, lt, le, ofInt, toUnsigned}
-use Rattle.timestamp.specs.Floats.{zero64, one64, two64}
+use lib.Ieee.{Float, fin, binary64, mul, div, lt, ofInt, toUnsigned}
+use Rattle.timestamp.specs.Floats.{zero64, one64, two64, between, hour64}
 use Rattle.timestamp.specs.Whole.{ceilOf, roundOf}
 use Rattle.timestamp.specs.FloatTimestamps.{stampOf}
 use Rattle.refusals.specs.Limits.{mostSteps, mostLagFrames}
@@ -25,14 +25,6 @@ sixty64 = fin false 15 (pos 2)
 -- 64
 abbrev pub sixtyFour64 : Float
 sixtyFour64 = fin false 1 (pos 6)
-
--- 3,600
-abbrev pub hour64 : Float
-hour64 = fin false 225 (pos 4)
-
--- x is from lo to hi; -0 is as good as 0, and a NaN is in no range
-abbrev pub between : Float → Float → Float → Bool
-between lo hi x = le lo x && le x hi
 
 -- ---- derived numbers
 

@@ -2,7 +2,8 @@
 // src/lib.rs of crystalorb hold. Every function is total: it has its answer also for settings that do not pass.
 ghost use mathlib.Core.Path.{_≡_};
 ghost use Rattle.timestamp.specs.Timestamps.{bitsOf};
-ghost use Rattle.settings.specs.Settings.{between, lagFramesOf, discardOf, storeOf, secondsPass, thresholdsPass, samplesPass, countsPass, passesOf};
+ghost use Rattle.settings.specs.Settings.{lagFramesOf, discardOf, storeOf, secondsPass, thresholdsPass, samplesPass, countsPass, passesOf};
+ghost use Rattle.timestamp.specs.Floats.{between};
 ghost use Rattle.settings.specs.Settings.{lagFrameCountOf, blendProgressOf, samplesToDiscardOf, samplesToStoreOf};
 ghost use Rattle.settings.specs.Tweening.{methodOf, knownOf, shapedOf};
 use timestamp::FloatTimestamp;
@@ -146,7 +147,7 @@ pub fn within(lo: f64, hi: f64, x: f64) -> bool
 }
 
 // How many frames of the timestep a lag is.
-pub fn lag_frames(lag: f64, timestep: f64) -> i16
+pub(crate) fn lag_frames(lag: f64, timestep: f64) -> i16
     ensures { λ r. ⌜ r ≡ lagFramesOf lag timestep ⌝ }
 {
     FloatTimestamp(timestamp::round(lag / timestep))
@@ -202,13 +203,13 @@ fn seconds_pass(s: Settings) -> bool
 fn thresholds_pass(s: Settings) -> bool
     ensures { λ r. ⌜ r ≡ thresholdsPass s ⌝ }
 {
-    if !within(0.0, 3600.0, s.period) {
+    if !within(0.0, refusals::HOUR, s.period) {
         return false;
     }
-    if !within(0.0, 3600.0, s.deviation) {
+    if !within(0.0, refusals::HOUR, s.deviation) {
         return false;
     }
-    within(0.0, 3600.0, s.skip)
+    within(0.0, refusals::HOUR, s.skip)
 }
 
 // The samples needed and the rate of outliers.

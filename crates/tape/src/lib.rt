@@ -58,7 +58,7 @@ pub fn publish_word(side: u32) -> u32
 }
 
 // The word for the publishing of a mix of the two worlds.
-pub fn mix_word() -> u32
+pub(crate) fn mix_word() -> u32
     ensures { λ r. ⌜ r ≡ mixWord ⌝ }
 {
     1342177280

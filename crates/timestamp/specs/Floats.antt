@@ -1,8 +1,8 @@
 -- Floats that several definitions need, each under one name: IEEE 754 binary64 values, and small operations on them that document 01 names in passing.
 -- Definitions only. Assumes nothing.
-use mathlib.Core.Bool.{false, cond}
+use mathlib.Core.Bool.{Bool, true, false, cond, _&&_}
 use lib.IntN.{pos}
-use lib.Ieee.{Float, fin, binary64, sub, div, neg, lt}
+use lib.Ieee.{Float, fin, binary64, sub, div, neg, lt, le}
 
 -- +0.0
 abbrev pub zero64 : Float
@@ -27,3 +27,25 @@ clampedOf x = cond (lt x zero64) zero64 (cond (lt one64 x) one64 x)
 -- the tween weight before it is shaped: 1 - overshoot / timestep
 abbrev pub tweenOf : Float → Float → Float
 tweenOf overshoot timestep = sub binary64 one64 (div binary64 overshoot timestep)
+
+-- ---- ranges and limits
+
+-- x is from lo to hi; -0 is as good as 0, and a NaN is in no range
+abbrev pub between : Float → Float → Float → Bool
+between lo hi x = le lo x && le x hi
+
+-- 3,600: the seconds of an hour
+abbrev pub hour64 : Float
+hour64 = fin false 225 (pos 4)
+
+-- -3,600
+abbrev pub minusHour64 : Float
+minusHour64 = fin true 225 (pos 4)
+
+-- a time is finite and within 2 ^ 32 on both sides of 0
+abbrev pub timeOk : Float → Bool
+timeOk x = between (fin true 1 (pos 32)) (fin false 1 (pos 32)) x
+
+-- a clock sample is finite and within 2 ^ 33
+abbrev pub sampleOk : Float → Bool
+sampleOk x = between (fin true 1 (pos 33)) (fin false 1 (pos 33)) x

@@ -11,7 +11,8 @@ use mir.Facts.{toZ-ofZ, sfits-widen}
 use Rattle.timestamp.specs.Timestamps.{signedOf}
 use Rattle.timestamp.specs.FloatTimestamps.{fromSeconds, stampOf}
 use Rattle.timestamp.proofs.Signed.{signed-bits}
-use Rattle.host.specs.Host.{timestepOk, secondsOk, frameStampOf}
+use Rattle.host.specs.Host.{timestepOk, frameStampOf}
+use Rattle.timestamp.specs.Floats.{timeOk}
 use Rattle.host.proofs.kadwunge_frame_stamp.Statement.{statement}
 use Rattle.host.proofs.kadwunge_frame_stamp.Tie as tie
 
@@ -35,17 +36,17 @@ cast-result c = subst (λ (z : ℤ). SFits w32 z) (sym (toZ-ofZ {w = w16} (narro
 
 -- what the definition gives, by the answers of its two tests
 module _ (s t : Float) where
-  in-both : timestepOk t ≡ true → secondsOk s ≡ true → stampOf (fromSeconds s t) ≡ frameStampOf s t
+  in-both : timestepOk t ≡ true → timeOk s ≡ true → stampOf (fromSeconds s t) ≡ frameStampOf s t
   unfolding frameStampOf
   in-both p q = λ i. cond (sym p i) (cond (sym q i) (stampOf (fromSeconds s t)) (pos 65538)) (pos 65537)
 
-  off-seconds : timestepOk t ≡ true → secondsOk s ≡ false → pos 65538 ≡ frameStampOf s t
+  off-seconds : timestepOk t ≡ true → timeOk s ≡ false → pos 65538 ≡ frameStampOf s t
   unfolding frameStampOf
   off-seconds p q = λ i. cond (sym p i) (cond (sym q i) (stampOf (fromSeconds s t)) (pos 65538)) (pos 65537)
 
   off-timestep : timestepOk t ≡ false → pos 65537 ≡ frameStampOf s t
   unfolding frameStampOf
-  off-timestep p = λ i. cond (sym p i) (cond (secondsOk s) (stampOf (fromSeconds s t)) (pos 65538)) (pos 65537)
+  off-timestep p = λ i. cond (sym p i) (cond (timeOk s) (stampOf (fromSeconds s t)) (pos 65538)) (pos 65537)
 
 -- the signed value of the stamp that was made
 stamp : (c : tie.After-value) → toZ w32 (ofZ w32 (toZ w16 (ofZ w16 (c .value .result)))) ≡ stampOf

@@ -4,7 +4,8 @@ use mathlib.Core.Logic.{⊎-elim}
 use mathlib.Core.Bool.{Bool, true, false, _&&_}
 use lib.IntN.{pos}
 use lib.Ieee.{Float, fin, binary64, le, ofBits, neg}
-use Rattle.inbox.specs.Inbox.{timeOk, pickTime, inboxTimeOf}
+use Rattle.inbox.specs.Inbox.{pickTime, inboxTimeOf}
+use Rattle.timestamp.specs.Floats.{timeOk}
 use Rattle.timestamp.proofs.Patterns.{is-nan, no-nan}
 use Rattle.inbox.proofs.Times.{nan-out}
 use Rattle.inbox.proofs.time_of.Statement.{statement}
