@@ -1,6 +1,5 @@
 -- The ledger of a side, as document 01 has it under "src/client.rs": what each count is, and how it goes on. A count that is added goes into these definitions
--- and
--- into the functions of ledgers.rt, and nowhere else.
+-- and into the functions of ledgers.rt, and nowhere else.
 -- Definitions only. Assumes nothing.
 use Prim.Native.Nat.{ℕ, _+_, _%_, _^_}
 use Rattle.client.specs.declared.Ledger.{Ledger}

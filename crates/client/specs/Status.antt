@@ -1,6 +1,5 @@
 -- The status of a client: document 01, "src/client.rs". Status is `ReconciliationStatus`, with its weight in Blending and a `FastforwardingHealth` inside
--- Fastforwarding.
--- Definitions only. Assumes nothing.
+-- Fastforwarding. Definitions only. Assumes nothing.
 use mathlib.Core.Bool.{Bool, true, false}
 use lib.Dec.{eqb}
 use lib.Ieee.{Float, lt}

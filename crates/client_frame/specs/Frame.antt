@@ -1,6 +1,5 @@
 -- One frame: document 01, "src/client.rs". What its status opens it with, a step of the old world, the catching up of the new one, what is published, and
--- refusal 26.
--- Definitions only. Assumes nothing.
+-- refusal 26. Definitions only. Assumes nothing.
 use Prim.Native.Nat.{ℕ, zero, suc, _+_, _%_, _^_}
 use mathlib.Core.Bool.{Bool, true, false, cond}
 use mathlib.Core.List.{List, [], _∷_}

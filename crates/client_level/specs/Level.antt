@@ -1,6 +1,5 @@
 -- A level frame, by what inner functions of the code ask and give. No contract of a call cites this module: a level frame is a frame, of which Frame of
--- client_frame is the definition.
--- Definitions only. Assumes nothing.
+-- client_frame is the definition. Definitions only. Assumes nothing.
 use Prim.Native.Nat.{ℕ}
 use mathlib.Core.Bool.{Bool, true, false, not, _&&_}
 use mathlib.Core.List.{List, [], _∷_}

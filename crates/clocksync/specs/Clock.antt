@@ -1,6 +1,5 @@
 -- Document 01, "src/clocksync.rs", and from "Sound" what it says of the clock: the request timer, the clock messages of an inbox, and the one sample that an
--- update takes from the last of them.
--- Definitions only. Assumes nothing.
+-- update takes from the last of them. Definitions only. Assumes nothing.
 use Prim.Native.Nat.{ℕ, _-_, min}
 use mathlib.Core.Bool.{Bool, true, false, cond, not, _&&_, _||_}
 use mathlib.Core.List.{List, [], _∷_, _++_}

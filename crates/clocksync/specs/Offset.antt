@@ -1,6 +1,5 @@
 -- Document 01, "src/clocksync.rs": the offset that a clock message measures, each operation IEEE 754's in the Rust's order. Its exact value is RFC 5905's
--- offset with T2 = T3, the server's time.
--- Definitions only. Assumes nothing.
+-- offset with T2 = T3, the server's time. Definitions only. Assumes nothing.
 use lib.Ieee.{Float, binary64, add, sub, div}
 use Rattle.timestamp.specs.Floats.{two64}
 use Rattle.float_laws.specs.Fractions.{Q, addQ, subQ}

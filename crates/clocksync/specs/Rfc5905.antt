@@ -1,7 +1,6 @@
 -- RFC 5905, "Network Time Protocol Version 4", section 8: the offset theta of the server's clock to the client's, as an exact fraction. A fraction is a `Q`,
--- the number (p - n) / d.
--- T1 is the client's time when it sent the request, T2 the server's time when that came, T3 the server's time when it sent the reply, T4 the client's time when
--- that came.
+-- the number (p - n) / d. T1 is the client's time when it sent the request, T2 the server's time when that came, T3 the server's time when it sent the reply,
+-- T4 the client's time when that came.
 -- Definitions only. Assumes nothing.
 use Prim.Native.Nat.{_*_}
 use native.Mathlib.Nat.{mul-pos}

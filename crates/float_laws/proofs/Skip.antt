@@ -15,7 +15,8 @@ use lib.Ieee.Scale.{finite}
 use Rattle.float_laws.specs.Fractions.{Le, Lt, pnum, nnum, val}
 use Rattle.float_laws.specs.Bounds.{Between, wholeQ, InUnit}
 use Rattle.timestamp.specs.Floats.{zero64, one64, tweenOf}
-use Rattle.float_laws.specs.Laws.{Step, halfCycle, wrap, lastStamp, firstStamp, SkipCycle}
+use Rattle.float_laws.specs.Laws.{Step, lastStamp, firstStamp, SkipCycle}
+use Rattle.timestamp.specs.FloatTimestamps.{half64, fromUnwrapped}
 use Rattle.float_laws.proofs.Value.{le-to-val, lt-to-val, lt-of-val}
 use Rattle.float_laws.proofs.Round.{fits-bounds}
 use Rattle.float_laws.proofs.Bounds.{held-eqv, diffQ, held-diff, sub-between, mul-between, div-between}
@@ -26,8 +27,8 @@ use Rattle.float_laws.proofs.Overshoot.{mul-unit}
 use Rattle.float_laws.proofs.Wrap.{wrap-near, wrap-unit, wrap-cycle}
 
 -- Where c - x is from 0 to 1, the overshoot is from 0 to the timestep.
-pub skip-in : (z t : Float) → Step t → InUnit z → Between (val zero64) (mul binary64 (wrap z) t) (val t)
-skip-in z t s w = mul-unit (wrap z) t (s .fits-t) (s .finite-t) (step-nonneg t s) (wrap-unit z w)
+pub skip-in : (z t : Float) → Step t → InUnit z → Between (val zero64) (mul binary64 (fromUnwrapped z) t) (val t)
+skip-in z t s w = mul-unit (fromUnwrapped z) t (s .fits-t) (s .finite-t) (step-nonneg t s) (wrap-unit z w)
 
 -- ---- a target above the last stamp
 
@@ -38,8 +39,8 @@ skip-cycle x t p h k s =
     let z = sub binary64 firstStamp x in
     let w = sub-between binary64 (wholeQ true (2 ^ 16)) (wholeQ true (2 ^ 16 - 1)) firstStamp x (held-whole true (2 ^ 16) (lit< tt))
     (held-whole true (2 ^ 16 - 1) (lit< tt)) tt p
-    (omega (arith, le-to-val x halfCycle p tt k)) (omega (arith, lt-to-val lastStamp x tt p h)) in
-    mul-unit (wrap z) t (s .fits-t) (s .finite-t) (step-nonneg t s) (wrap-cycle z w)
+    (omega (arith, le-to-val x half64 p tt k)) (omega (arith, lt-to-val lastStamp x tt p h)) in
+    mul-unit (fromUnwrapped z) t (s .fits-t) (s .finite-t) (step-nonneg t s) (wrap-cycle z w)
 
 -- A value above 32,767 has at most 38 digits below the point.
 small-exp : (m k : ℕ) → m < 2 ^ 53 → 32767 * 2 ^ k < m → k ≤ 38
@@ -76,8 +77,8 @@ above-last x t p h = go x t p (lt-to-val lastStamp x tt p h)
         omega (arith, up-one (suc m) (2 ^ j) (2 ^ suc k) P (pow-pos j) i)
 
 -- 32,767 - x is from -1 to -2 ^ -38, and wrapping leaves it there.
-past : (x : Float) → T (fits binary64 x) → T (finite x) → T (lt lastStamp x) → T (le x halfCycle)
-    → Between (diffQ 0 (2 ^ 38) 38) (wrap (sub binary64 lastStamp x)) (diffQ 0 1 38)
+past : (x : Float) → T (fits binary64 x) → T (finite x) → T (lt lastStamp x) → T (le x half64)
+    → Between (diffQ 0 (2 ^ 38) 38) (fromUnwrapped (sub binary64 lastStamp x)) (diffQ 0 1 38)
 past x t p h k =
     let L = held-diff binary64 0 (2 ^ 38) 38 (lit≤ tt) (lit< tt) (lit< tt) in
     let H = held-diff binary64 0 1 38 (lit≤ tt) (lit< tt) (lit< tt) in
@@ -86,7 +87,7 @@ past x t p h k =
     (held-eqv binary64 (diffQ (2 ^ 53 - 1) 0 38) (diffQ (0 + 2 ^ 53) 1 38) (held-diff binary64 (2 ^ 53 - 1) 0 38 (lit≤ tt) (lit< tt) (lit< tt))
     (lit≤ tt, lit≤ tt))
     (lit≤ tt) (lit< tt)
-    (sub-between binary64 (diffQ 0 (2 ^ 38) 38) (diffQ 0 1 38) lastStamp x L H tt p (omega (arith, le-to-val x halfCycle p tt k))
+    (sub-between binary64 (diffQ 0 (2 ^ 38) 38) (diffQ 0 1 38) lastStamp x L H tt p (omega (arith, le-to-val x half64 p tt k))
     (omega (arith, above-last x t p h)))
 
 -- In seconds: at most -u / 2 ^ 55, where u is the units of t.
@@ -125,10 +126,10 @@ past-share o t s b =
         omega arith
 
 -- Where x is above 32,767 and c is 32,767, the tween weight of the overshoot is above 1.
-pub skip-out : (x t : Float) → T (fits binary64 x) → T (finite x) → T (lt lastStamp x) → T (le x halfCycle) → Step t
-    → T (lt one64 (tweenOf (mul binary64 (wrap (sub binary64 lastStamp x)) t) t))
+pub skip-out : (x t : Float) → T (fits binary64 x) → T (finite x) → T (lt lastStamp x) → T (le x half64) → Step t
+    → T (lt one64 (tweenOf (mul binary64 (fromUnwrapped (sub binary64 lastStamp x)) t) t))
 skip-out x t f p h k s =
-    let y = wrap (sub binary64 lastStamp x) in
+    let y = fromUnwrapped (sub binary64 lastStamp x) in
     let o = mul binary64 y t in
     let q = div binary64 o t in
     let b = past-share o t s (past-seconds y t s (past x f p h k)) in

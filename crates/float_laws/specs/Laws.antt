@@ -1,15 +1,15 @@
 -- Laws of binary64 arithmetic for two requests of document 02, which nothing uses yet: each is stated here by name, and proofs/ proves it under the same
--- name in small letters.
--- The operations are IEEE 754's, the rounding of each included. Definitions only. Assumes nothing.
+-- name in small letters. The operations are IEEE 754's, the rounding of each included. Definitions only. Assumes nothing.
 use Prim.Native.Nat.{ℕ, zero, suc}
 use mathlib.Core.Bool.{true, false, cond}
 use lib.IntN.{pos, negsuc}
 use lib.Dec.{T}
-use lib.Ieee.{Float, fin, lt, le, binary64, fits, add, sub, mul, rem}
+use lib.Ieee.{Float, fin, lt, le, binary64, fits, add, sub, mul}
 use lib.Ieee.Positive.{positive}
 use lib.Ieee.Scale.{finite}
 use Rattle.float_laws.specs.Fractions.{val}
 use Rattle.float_laws.specs.Bounds.{Between}
+use Rattle.timestamp.specs.FloatTimestamps.{half64, fromUnwrapped}
 use Rattle.timestamp.specs.Floats.{zero64, one64, tweenOf}
 
 -- ---- a timestep
@@ -56,22 +56,6 @@ TweenUnit =
 
 -- ---- a skip past the last stamp of a cycle: for request 2 of document 02
 
--- The float 32,768.
-abbrev pub halfCycle : Float
-halfCycle = fin false 1 (pos 15)
-
--- The float 65,536.
-abbrev pub cycle : Float
-cycle = fin false 1 (pos 16)
-
--- A cycle is added to a remainder below 0.
-abbrev pub upward : Float → Float
-upward r = cond (lt r zero64) (add binary64 r cycle) r
-
--- The frame count x wrapped: (x + 32,768) rem 65,536 - 32,768, the remainder never negative.
-abbrev pub wrap : Float → Float
-wrap x = sub binary64 (upward (rem binary64 (add binary64 x halfCycle) cycle)) halfCycle
-
 -- The float 32,767, the last stamp of a cycle.
 abbrev pub lastStamp : Float
 lastStamp = fin false 32767 (pos 0)
@@ -83,5 +67,5 @@ firstStamp = fin true 1 (pos 15)
 -- Where a skip's target x is above 32,767 and it sets the stamp -32,768, the overshoot is from 0 to the timestep.
 unfoldable pub SkipCycle : Type 0
 SkipCycle =
-    (x t : Float) → T (finite x) → T (lt lastStamp x) → T (le x halfCycle) → Step t →
-    Between (val zero64) (mul binary64 (wrap (sub binary64 firstStamp x)) t) (val t)
+    (x t : Float) → T (finite x) → T (lt lastStamp x) → T (le x half64) → Step t →
+    Between (val zero64) (mul binary64 (fromUnwrapped (sub binary64 firstStamp x)) t) (val t)

@@ -1,6 +1,5 @@
 -- What the hosts' calls on stamps answer: document 01, the last section, "Forms the Rust has and Rattle lacks". (The order's number is `orderNumber` of
--- timestamp's specs/Timestamps.)
--- Definitions only. Assumes nothing.
+-- timestamp's specs/Timestamps.) Definitions only. Assumes nothing.
 use mathlib.Core.Bool.{Bool, cond}
 use lib.IntN.{ℤ, pos}
 use lib.Ieee.{Float}

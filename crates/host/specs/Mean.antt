@@ -1,6 +1,5 @@
 -- What the hosts' call for a mean answers: document 01, the last section, "Forms the Rust has and Rattle lacks", with refusals 1 and 8 of "Turned down by the
--- input".
--- Definitions only. Assumes nothing.
+-- input". Definitions only. Assumes nothing.
 use Prim.Native.Nat.{ℕ, zero, suc, _+_, _*_, _/_, _%_, _^_}
 use mathlib.Core.Path.{_≡_}
 use mathlib.Core.Bool.{cond, _&&_}

@@ -1,6 +1,5 @@
 -- The words of an inbox as document 01 has them under "Inbox and tape", with refusals 3 to 6 of "Turned down by the input". A word is a natural number below 2
--- ^ 32.
--- Definitions only. Assumes nothing.
+-- ^ 32. Definitions only. Assumes nothing.
 use Prim.Native.Nat.{ℕ, zero, suc, _+_, _-_, _*_, _/_, _%_, _^_}
 use mathlib.Core.Bool.{Bool, true, false, cond, _&&_, _||_}
 use mathlib.Core.List.{List, [], _∷_}

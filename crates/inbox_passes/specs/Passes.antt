@@ -1,6 +1,5 @@
 -- The reading of an inbox: document 01, "Inbox and tape". Clock messages are read first, then commands, then snapshots: three passes, each a fold over the
--- messages.
--- Definitions only. Assumes nothing.
+-- messages. Definitions only. Assumes nothing.
 use Prim.Native.Nat.{ℕ}
 use mathlib.Core.Bool.{Bool, true, false}
 use mathlib.Core.List.{List}

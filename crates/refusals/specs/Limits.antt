@@ -1,4 +1,4 @@
--- The limits of document 01 that are whole numbers. The limits of settings and times that are floats stand with the settings.
+-- The limits of document 01 that are whole numbers. Those that are floats stand in timestamp (Floats) and, where they are of settings alone, in settings.
 -- Definitions only. Assumes nothing.
 use Prim.Native.Nat.{ℕ, _^_}
 

@@ -1,6 +1,5 @@
 -- The numbers under which calls are turned down: document 01, "Turned down by the input" and "Turned down by the session". And the order in which each call is
--- judged: the
--- lowest number first, but 25 to 27 by which is met first. Definitions only. Assumes nothing.
+-- judged: the lowest number first, but 25 to 27 by which is met first. Definitions only. Assumes nothing.
 use Prim.Native.Nat.{ℕ}
 use mathlib.Core.Bool.{Bool, cond}
 use lib.Dec.{eqb}

@@ -42,7 +42,7 @@ use Rattle.session_answers.specs.Answers.{unreported, reportedOf}
 use Rattle.session_answers.specs.Inner.{acceptedBy}
 use Rattle.session.specs.Calls.{timesOk, refusedAtOnce, heardOther, clockAfter, requestOf, clockMovedOf, clockUpdateOf, concludedOf, serverTimeBy}
 use Rattle.session.specs.Calls.{laggedOf, unreceived, sceneAfter, playedOf, worldsUpdateOf, updateBy, updateOf, reportRefusalOf, reportOf}
-use Rattle.session.specs.Inner.{endRefusalOf, concludedBy, unendedWith}
+use Rattle.session.specs.Inner.{endRefusalOf, unendedWith}
 
 -- ---- refused or not
 
@@ -108,6 +108,12 @@ module _ (s : Session) (delta seconds : Float) (inbox : List ℕ) {start heard :
       (updates-as (λ i. unplayedOf 0 ((hx ∙ (λ j. syncedOf s (clock-is s delta seconds inbox hl hh ht hc j) seconds)) i) (ht i .request) len) h)
 
 -- ---- an update of the worlds
+
+-- the reply to an update once its frames have ended
+unfoldable concludedBy : Session → Clock → Bool → Advanced → List ℕ → Reply
+concludedBy s c request a tape =
+    let n = endRefusalOf s a (length tape) in
+    cond (eqb n accepted) (acceptedBy s c request a tape) (refusedWith n s (length tape) .reply)
 
 -- a run before its end, as the code holds it
 module _ (s : Session) (c : Clock) (request : Bool) (u : Run) {was mid : List ℕ} {a : Advanced} (h : Advances u was a mid) where

@@ -1,13 +1,10 @@
--- What inner functions of the code give, of a run as they hold it, its words being on the tape already. No contract of a call cites this module: `concluded-is`
--- and
--- `worlds-played` of proofs/Answering tie it to Calls. Definitions only. Assumes nothing.
+-- What inner functions of the code give, of a run as they hold it, its words being on the tape already. No contract of a call cites this module:
+-- `worlds-stopped` and `worlds-accepted` of proofs/Answering tie it to Calls. Definitions only. Assumes nothing.
 use Prim.Native.Nat.{ℕ}
-use mathlib.Core.Bool.{Bool, cond}
 use mathlib.Core.List.{List}
-use lib.Dec.{eqb, leb}
-use lib.ListN.{length}
+use lib.Dec.{leb}
 use lib.Ieee.{Float}
-use Rattle.refusals.specs.Refusals.{accepted, endRefusalBy}
+use Rattle.refusals.specs.Refusals.{endRefusalBy}
 use Rattle.clocksync.specs.declared.Clock.{Clock}
 use Rattle.client.specs.declared.Received.{Received}
 use Rattle.client_publish.specs.Ending.{weightOk}
@@ -15,8 +12,6 @@ use Rattle.timestamp.specs.Floats.{tweenOf}
 use Rattle.fixed_timestepper.specs.declared.Advanced.{Advanced}
 use Rattle.fixed_timestepper.specs.TimeKeeper.{Run, unendedOf}
 use Rattle.session_state.specs.declared.Session.{Session}
-use Rattle.session_answers.specs.Answers.{Reply, refusedWith}
-use Rattle.session_answers.specs.Inner.{acceptedBy}
 use Rattle.session.specs.Calls.{sceneWith, laggedOf}
 
 -- the frames of an update and its skip, once its commands are received
@@ -26,9 +21,3 @@ unendedWith s r c delta seconds inbox = unendedOf (s .settings) (sceneWith r inb
 -- the refusal of an update whose frames have ended
 abbrev pub endRefusalOf : Session → Advanced → ℕ → ℕ
 endRefusalOf s a len = endRefusalBy (a .stop) (weightOk (tweenOf (a .overshoot) (s .settings .timestep))) (leb (a .at) len)
-
--- the reply to an update once its frames have ended
-unfoldable pub concludedBy : Session → Clock → Bool → Advanced → List ℕ → Reply
-concludedBy s c request a tape =
-    let n = endRefusalOf s a (length tape) in
-    cond (eqb n accepted) (acceptedBy s c request a tape) (refusedWith n s (length tape) .reply)

@@ -1,6 +1,5 @@
 -- What calls answer once they are decided: document 01, "Kept, and written anew" (open, update, issue, report), "src/client/stage.rs", and what a refused call
--- answers.
--- Definitions only. Assumes nothing.
+-- answers. Definitions only. Assumes nothing.
 use Prim.Native.Nat.{ℕ, _-_}
 use mathlib.Core.Bool.{Bool, false, cond}
 use mathlib.Core.List.{List, [], _++_}

@@ -1,6 +1,5 @@
--- What the code gives of a run as it holds it, its words being on the tape already. No contract of a call cites this module: `accepted-is` of session's
--- proofs/Answering
--- ties it to Answers. Definitions only. Assumes nothing.
+-- What the code gives of a run as it holds it, its words being on the tape already. No contract of a call cites this module: `worlds-accepted` of
+-- session's proofs/Answering ties it to Answers. Definitions only. Assumes nothing.
 use Prim.Native.Nat.{ℕ}
 use mathlib.Core.Bool.{Bool}
 use mathlib.Core.List.{List}

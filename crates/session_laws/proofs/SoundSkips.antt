@@ -18,7 +18,8 @@ use borrow.Author.Tests.{le-leb, lt-ltb}
 use Rattle.float_laws.specs.Fractions.{Q, Le, Eqv, addQ, pnum, nnum, val}
 use Rattle.float_laws.specs.Bounds.{Between, wholeQ, Within, InUnit}
 use Rattle.timestamp.specs.Floats.{zero64, one64, tweenOf}
-use Rattle.float_laws.specs.Laws.{Step, halfCycle, wrap, lastStamp}
+use Rattle.float_laws.specs.Laws.{Step, lastStamp}
+use Rattle.timestamp.specs.FloatTimestamps.{half64, fromUnwrapped, fromSeconds, floatOf, ceilStampOf}
 use Rattle.float_laws.proofs.Value.{q-le-trans, le-to-val, le-of-val, lt-to-val}
 use Rattle.float_laws.proofs.Order.{between-finite, float-le-of-not-lt}
 use Rattle.float_laws.proofs.Round.{has-value-finite, has-value-eqv}
@@ -29,7 +30,6 @@ use Rattle.float_laws.proofs.Wrap.{wrap-within}
 use Rattle.float_laws.proofs.Skip.{skip-in, skip-out}
 use Rattle.timestamp.specs.Timestamps.{signedOf, bitsOf}
 use Rattle.timestamp.specs.Whole.{ceilOf}
-use Rattle.timestamp.specs.FloatTimestamps.{fromUnwrapped, fromSeconds, floatOf, ceilStampOf}
 use Rattle.timestamp.proofs.Basics.{holds-true}
 use Rattle.timestamp.proofs.Saturate.{saturates}
 use Rattle.timestamp.proofs.Signed.{signed-low, signed-high}
@@ -204,17 +204,17 @@ target-fits server t = sub-fits binary64 _ _
 
 -- the overshoot of a target x within half a cycle
 module _ (x t : Float) (f : T (fits binary64 x)) (w : Within x (2 ^ 15)) (s : Step t) where
-  over-in : weightOk (tweenOf (mul binary64 (wrap (sub binary64 (floatOf (bitsOf (ceilStampOf x))) x)) t) t) ≡ true
-      → Between (val zero64) (mul binary64 (wrap (sub binary64 (floatOf (bitsOf (ceilStampOf x))) x)) t) (val t)
+  over-in : weightOk (tweenOf (mul binary64 (fromUnwrapped (sub binary64 (floatOf (bitsOf (ceilStampOf x))) x)) t) t) ≡ true
+      → Between (val zero64) (mul binary64 (fromUnwrapped (sub binary64 (floatOf (bitsOf (ceilStampOf x))) x)) t) (val t)
   over-in ok = go (lt lastStamp x) refl
     where
-      go : (b : Bool) → lt lastStamp x ≡ b → Between (val zero64) (mul binary64 (wrap (sub binary64 (floatOf (bitsOf (ceilStampOf x))) x)) t) (val t)
+      go : (b : Bool) → lt lastStamp x ≡ b → Between (val zero64) (mul binary64 (fromUnwrapped (sub binary64 (floatOf (bitsOf (ceilStampOf x))) x)) t) (val t)
       go true e =
           let h = holds-true (lt lastStamp x) e in
           let c : floatOf (bitsOf (ceilStampOf x)) ≡ lastStamp = ap (λ (z : ℤ). floatOf (bitsOf z)) (ceil-last x (w .0) h (w .2)) ∙ last-float in
-          let o = subst (λ (y : Float). weightOk (tweenOf (mul binary64 (wrap (sub binary64 y x)) t) t) ≡ true) c ok in
-          let l = tests-of-within x (fin true 1 (pos 15)) halfCycle (2 ^ 15) (refl, refl) (refl, refl) w in
-          absurd (over-one (tweenOf (mul binary64 (wrap (sub binary64 lastStamp x)) t) t) o (skip-out x t f (w .0) h (l .2) s))
+          let o = subst (λ (y : Float). weightOk (tweenOf (mul binary64 (fromUnwrapped (sub binary64 y x)) t) t) ≡ true) c ok in
+          let l = tests-of-within x (fin true 1 (pos 15)) half64 (2 ^ 15) (refl, refl) (refl, refl) w in
+          absurd (over-one (tweenOf (mul binary64 (fromUnwrapped (sub binary64 lastStamp x)) t) t) o (skip-out x t f (w .0) h (l .2) s))
       go false e =
           let h = float-le-of-not-lt lastStamp x tt (w .0) (subst (λ (b : Bool). T (not b)) (sym e) tt) in
           skip-in (sub binary64 (floatOf (bitsOf (ceilStampOf x))) x) t s

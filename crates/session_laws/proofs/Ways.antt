@@ -1,6 +1,5 @@
 -- Every way in which an update is answered: refused under a number, its clock moved on, or its frames played. Who shows a thing of each has it of the update.
--- And the same of
--- an issue. Assumes nothing.
+-- And the same of an issue. Assumes nothing.
 use Prim.{⊥}
 use mathlib.Core.Path.{_≡_, refl}
 use mathlib.Core.Bool.{Bool, true, false, cond}

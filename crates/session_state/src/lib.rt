@@ -1,6 +1,5 @@
 // The session of a client, all of its state by value, and whether it is sound: what calls leave, as document 01 lists it. It answers to `Client` and the stages
-// of
-// src/client/stage*.rs of crystalorb.
+// of src/client/stage*.rs of crystalorb.
 ghost use mathlib.Core.Path.{_≡_};
 ghost use Rattle.command.specs.Soundness.{soundBuffer};
 ghost use Rattle.session_state.specs.Session.{hasWorlds, isReady};

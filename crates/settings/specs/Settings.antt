@@ -1,6 +1,5 @@
 -- Document 01, the paragraph "Settings": the limits that refusal 1 is about, and the numbers that the Rust's `Config` derives, each operation IEEE 754's in the
--- Rust's order.
--- Definitions only. Assumes nothing.
+-- Rust's order. Definitions only. Assumes nothing.
 use Prim.Native.Nat.{ℕ, _+_, _*_}
 use mathlib.Core.Bool.{Bool, false, cond, _&&_}
 use lib.Dec.{leb}

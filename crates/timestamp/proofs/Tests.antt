@@ -1,6 +1,5 @@
 -- Tests in a row: what the code learns where it has tested a call's answer, `r` being the answer and `t` what the call's contract says it is, and what `&&` of
--- tests says
--- of each. Assumes nothing.
+-- tests says of each. Assumes nothing.
 use mathlib.Core.Path.{_≡_, refl, sym, _∙_}
 use mathlib.Core.Bool.{Bool, true, false, not, _&&_, false≢true}
 use borrow.Author.Tests.{not-true, not-false}

@@ -1,6 +1,5 @@
 -- Frame counts as document 01 has them, under "src/timestamp.rs": binary64 values in the stamps' space, and their way to a stamp. Each operation is IEEE 754's,
--- in the Rust's order.
--- Definitions only. Assumes nothing.
+-- in the Rust's order. Definitions only. Assumes nothing.
 use Prim.Native.Nat.{ℕ}
 use mathlib.Core.Bool.{false, cond}
 use lib.IntN.{ℤ, pos}

@@ -1,6 +1,5 @@
 -- The whole numbers next to a binary64 value, defined on its mathematical value. A NaN and an infinity stay as they are, and a result of 0 keeps the value's
--- sign.
--- Definitions only. Assumes nothing.
+-- sign. Definitions only. Assumes nothing.
 use Prim.Native.Nat.{ℕ, _+_, _-_, _*_, _/_}
 use mathlib.Core.Bool.{Bool, cond}
 use lib.Ieee.{Float, nan, inf, fin, binary64, up, down, round}
