@@ -26,14 +26,14 @@ use Rattle.fixed_timestepper.specs.TimeKeeper.{updatedOf}
 use Rattle.session_state.specs.Sound.{queuedSound, weightSound, initSound, buffersSound, worldsSound, overshootSound, connectedOf, soundOf}
 use Rattle.inbox_passes.specs.Passes.{hasForWorlds, heardIn, receivedIn, notedIn}
 use Rattle.refusals.specs.Refusals.{onceRefusalBy}
-use Rattle.session_answers.specs.Answers.{Reply, Updates, refusedWith, syncedOf, acceptedOf}
+use Rattle.session_answers.specs.Answers.{Reply, Updates, answerOf, refusedWith, syncedOf, acceptedOf}
 use Rattle.session.specs.Calls.{startOf, openOf, timesOk, refusedAtOnce, clockUpdateOf, concludedOf, playedOf, worldsUpdateOf, updateOf}
 use Rattle.session.specs.Issue.{issueOf}
 use Rattle.demand.specs.Calls.{Chain}
 use Rattle.demand.specs.Demand.{Demand3}
 use Rattle.demand.proofs.Demand.{demand-3}
 use Rattle.cases.specs.Table.{settingsWith, clockAt, opened, heardOnce, heardTwice, heardThrice, frameOne, atFour, atFive, atSix}
-use Rattle.cases.specs.Example.{answerOf, unplayed, catching, playing, Counts, Example}
+use Rattle.cases.specs.Example.{unplayed, catching, playing, Counts, Example}
 
 -- what is computed, under the definitions of the calls
 counts : Counts
@@ -76,7 +76,7 @@ counts =
 -- an update is answered as its contract says
 answered : (a : Reply) → Updates a (answerOf a) (a .tape)
 answered a =
-    record { refusal = refl; session = refl; frames = refl; steps = refl; request = refl; left = refl; right = refl; words = refl; tape = refl }
+    record { answer = refl; tape = refl }
 
 chain-catching : Chain (heardThrice 3 98 .session) catching
 unfolding frameOne

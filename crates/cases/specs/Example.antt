@@ -8,8 +8,7 @@ use lib.ListN.{replicate}
 use lib.Ieee.{nan}
 use Rattle.session_state.specs.declared.Session.{Session}
 use Rattle.session_state.specs.Sound.{soundOf}
-use Rattle.session_answers.specs.declared.UpdateAnswer.{UpdateAnswer}
-use Rattle.session_answers.specs.Answers.{Reply}
+use Rattle.session_answers.specs.Answers.{Reply, answerOf}
 use Rattle.session.specs.Calls.{updateOf}
 use Rattle.session.specs.Issue.{issueOf}
 use Rattle.demand.specs.Calls.{Call, Update, Issue, Chain, sum, framesOf, catchUpsOf, loadWordsOf, ledgerOn}
@@ -24,20 +23,6 @@ abbrev pub refusals : List Call → List ℕ
 refusals [] = []
 refusals (Update d t box was r last ∷ cs) = r .refusal ∷ refusals cs
 refusals (Issue h r ∷ cs) = r .refusal ∷ refusals cs
-
--- the answer of an update whose reply is this
-abbrev pub answerOf : Reply → UpdateAnswer
-answerOf r =
-    record {
-      refusal = r .refusal;
-      session = r .session;
-      frames = r .frames;
-      steps = r .steps;
-      request = r .request;
-      left = r .left;
-      right = r .right;
-      words = r .words;
-    }
 
 -- an update of delta 1 at n seconds with this inbox, and its reply
 abbrev pub played : ℕ → List ℕ → Reply → Call

@@ -130,8 +130,8 @@ unfoldable pub frameFour : Answer
 frameFour = updateAt (frameThree .reply .session) 104 []
 
 -- what happened in the four updates
-unfoldable pub caught : List Event
-caught = frameOne .trace ++ (frameTwo .trace ++ (frameThree .trace ++ frameFour .trace))
+unfoldable pub traceOfFour : List Event
+traceOfFour = frameOne .trace ++ (frameTwo .trace ++ (frameThree .trace ++ frameFour .trace))
 
 -- the loads of the frames of a trace
 abbrev pub loadsIn : List Event → List Loading
@@ -188,9 +188,9 @@ pub record Marked : Type 0 where
   -- a tween weight of 0.5, shaped by rounding half away from zero, is 1
   pub tween : shapedOf Nearest (fin false 1 (negsuc 0)) ≡ one64
   -- m = 3, g = 7: the first of four frames loads 7 behind, and the others load nothing
-  pub loads : loadsIn caught ≡ Loaded 7 ∷ NoLoad ∷ NoLoad ∷ NoLoad ∷ []
+  pub loads : loadsIn traceOfFour ≡ Loaded 7 ∷ NoLoad ∷ NoLoad ∷ NoLoad ∷ []
   -- behind 5, 3, 1, 0 after them
-  pub behind : behindsIn caught ≡ 5 ∷ 3 ∷ 1 ∷ 0 ∷ []
+  pub behind : behindsIn traceOfFour ≡ 5 ∷ 3 ∷ 1 ∷ 0 ∷ []
   -- and so in the sessions that the four updates return
   pub left-behind : behindsAfter (frameOne ∷ frameTwo ∷ frameThree ∷ frameFour ∷ []) ≡ 5 ∷ 3 ∷ 1 ∷ 0 ∷ []
   -- the run: it is opened, and the clock message at 1 s is of these words

@@ -1,9 +1,9 @@
 -- What every update ends with: document 01, "src/client.rs" and "src/world/display_state.rs", and refusal 27.
 -- Definitions only. Assumes nothing.
 use Prim.Native.Nat.{ℕ}
-use mathlib.Core.Bool.{Bool, cond, _&&_}
-use lib.Ieee.{Float, binary64, add, mul, le}
-use Rattle.timestamp.specs.Floats.{zero64, one64}
+use mathlib.Core.Bool.{Bool, cond}
+use lib.Ieee.{Float, binary64, add, mul}
+use Rattle.timestamp.specs.Floats.{zero64, one64, between}
 use Rattle.timestamp.specs.declared.Timestamp.{Timestamp}
 use Rattle.timestamp.specs.Timestamps.{differenceOf, inRange}
 use Rattle.timestamp.specs.FloatTimestamps.{floatOf}
@@ -19,7 +19,7 @@ use Rattle.client.specs.Status.{laterOf}
 
 -- a tween weight is in 0 to 1; where it is not, refusal 27
 unfoldable pub weightOk : Float → Bool
-weightOk t = le zero64 t && le t one64
+weightOk t = between zero64 one64 t
 
 -- the time between the stamps b and a at a weight, in frames, not wrapped
 unfoldable pub timeOf : Timestamp → Timestamp → Float → Float

@@ -117,18 +117,7 @@ replyOf r last =
     record { refusal = r .refusal; session = r .session; frames = r .frames; steps = r .steps; request = r .request; left = r .left; right = r .right; words = r .words; tape = last }
 
 replies : {a : Reply} {r : UpdateAnswer} {last : List ℕ} → Updates a r last → replyOf r last ≡ a
-replies u =
-    λ i. record {
-      refusal = u .refusal i;
-      session = u .session i;
-      frames = u .frames i;
-      steps = u .steps i;
-      request = u .request i;
-      left = u .left i;
-      right = u .right i;
-      words = u .words i;
-      tape = u .tape i;
-    }
+replies u = λ i. replyOf (u .answer i) (u .tape i)
 
 -- an update
 pub one-update : (s : Session) (delta seconds : Float) (inbox was : List ℕ) (r : UpdateAnswer) (last : List ℕ)

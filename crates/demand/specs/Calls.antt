@@ -51,7 +51,7 @@ outcomeOf (Update d t box was r last) =
     record { session = r .session; frames = r .frames; caught = r .steps; left = r .left; right = r .right; room = length was; tape = last }
 outcomeOf (Issue h r) = quiet (r .session) (r .left) (r .right)
 
--- what happened to the worlds in one call that was handed the session s, by its arguments and its refusal
+-- what happened to the worlds in one call that was handed the session s, whose worlds exist, by its arguments and its refusal
 abbrev pub happened : Session → Call → List Event
 happened s (Update d t box was r last) = eventsOf s d t box (r .refusal)
 happened s (Issue h r) = []

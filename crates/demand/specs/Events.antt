@@ -6,6 +6,7 @@ use mathlib.Core.List.{List, [], _∷_, _++_}
 use lib.Dec.{eqb}
 use lib.Ieee.{Float, binary64, add, sub, lt}
 use Rattle.refusals.specs.Limits.{mostFrames}
+use Rattle.refusals.specs.Refusals.{accepted}
 use Rattle.settings.specs.declared.Settings.{Settings}
 use Rattle.client.specs.declared.Scene.{Scene}
 use Rattle.client.specs.Sides.{oldStampOf}
@@ -61,4 +62,4 @@ playedIn s delta seconds inbox =
 
 -- an update of a session whose worlds exist, which answered this refusal: nothing where it was refused
 unfoldable pub eventsOf : Session → Float → Float → List ℕ → ℕ → List Event
-eventsOf s delta seconds inbox refusal = cond (eqb refusal 0) (playedIn s delta seconds inbox) []
+eventsOf s delta seconds inbox refusal = cond (eqb refusal accepted) (playedIn s delta seconds inbox) []

@@ -13,8 +13,8 @@ use lib.Ieee.Positive.{den}
 use lib.Ieee.Scale.{finite}
 use Rattle.float_laws.specs.Fractions.{Q, Le, pnum, nnum, val}
 use Rattle.float_laws.specs.Bounds.{Between}
-use Rattle.timestamp.specs.Floats.{zero64}
-use Rattle.float_laws.specs.Laws.{Step, sixtyFour, catchUp, enough, SixtyFiveSuffice}
+use Rattle.timestamp.specs.Floats.{zero64, sixtyFour64}
+use Rattle.float_laws.specs.Laws.{Step, catchUp, enough, SixtyFiveSuffice}
 use Rattle.float_laws.proofs.Value.{q-le-trans, le-to-val, le-of-val, lt-to-val}
 use Rattle.float_laws.proofs.Order.{float-le-of-not-lt}
 use Rattle.float_laws.proofs.Bounds.{Held, held-val, held-zero, diffQ, held-diff, add-between, sub-between, mul-between}
@@ -38,19 +38,19 @@ held-floor t s k h = held-diff binary64 (k * unitsOf t) (64 * suc (unitsOf t)) 1
     (units-room (unitsOf t) (units-most t s))
 
 -- 64 t, rounded, is at most 64 (u + 1) units.
-most-delta : (t : Float) → Step t → Between (val zero64) (mul binary64 sixtyFour t) (diffQ (64 * suc (unitsOf t)) 0 17)
+most-delta : (t : Float) → Step t → Between (val zero64) (mul binary64 sixtyFour64 t) (diffQ (64 * suc (unitsOf t)) 0 17)
 most-delta t s =
     let z = least-unsigned t (s .finite-t) (s .least) in
-    mul-between binary64 (val zero64) (diffQ (64 * suc (unitsOf t)) 0 17) sixtyFour t held-zero
+    mul-between binary64 (val zero64) (diffQ (64 * suc (unitsOf t)) 0 17) sixtyFour64 t held-zero
     (held-diff binary64 (64 * suc (unitsOf t)) 0 17 (lit≤ tt) (units-room (unitsOf t) (units-most t s)) (lit< tt)) tt (s .finite-t)
     (omega (arith, z)) (omega (arith, z, units-over t))
 
 -- The value that an update starts from, after no addition.
 pub frames-start : (o d t : Float) → Step t → T (finite o) → T (finite d) → T (le zero64 o) → T (le o t) → T (le zero64 d)
-    → T (le d (mul binary64 sixtyFour t)) → After t 0 (sub binary64 o d)
+    → T (le d (mul binary64 sixtyFour64 t)) → After t 0 (sub binary64 o d)
 frames-start o d t s po pd h k i j =
     let m = most-delta t s in
-    let D = q-le-trans (val d) (val (mul binary64 sixtyFour t)) (diffQ (64 * suc (unitsOf t)) 0 17) (le-to-val d (mul binary64 sixtyFour t) pd (m .0) j)
+    let D = q-le-trans (val d) (val (mul binary64 sixtyFour64 t)) (diffQ (64 * suc (unitsOf t)) 0 17) (le-to-val d (mul binary64 sixtyFour64 t) pd (m .0) j)
     (m .2) in
     let b = sub-between binary64 (floorQ t 0) (val t) o d (held-floor t s 0 (lit≤ tt)) (held-val binary64 t (s .fits-t) (s .finite-t)) po pd
     (low-side (pnum o) (nnum o) (den o) (pnum d) (nnum d) (den d) (unitsOf t) (le-to-val zero64 o tt po h) D)

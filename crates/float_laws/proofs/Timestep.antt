@@ -10,8 +10,8 @@ use lib.Ieee.Positive.{den, den-pos, positive}
 use lib.Ieee.Scale.{finite}
 use Rattle.float_laws.specs.Fractions.{Le, mulQ, pnum, nnum, val}
 use Rattle.float_laws.specs.Bounds.{wholeQ, Within}
-use Rattle.timestamp.specs.Floats.{zero64, one64}
-use Rattle.float_laws.specs.Laws.{leastStep, Step}
+use Rattle.timestamp.specs.Floats.{zero64, one64, least64}
+use Rattle.float_laws.specs.Laws.{Step}
 use Rattle.float_laws.proofs.Value.{le-to-val, lt-of-val}
 use Rattle.float_laws.proofs.Order.{float-le-trans, positive-of-lt, positive-nnum}
 use Rattle.float_laws.proofs.Operations.{divQ}
@@ -19,11 +19,11 @@ use Rattle.float_laws.proofs.Bounds.{div-between}
 use Rattle.float_laws.proofs.Within.{held-whole, within-low, within-high}
 
 -- A float that is at least 1/1024 is positive.
-least-positive : (t : Float) → T (finite t) → T (le leastStep t) → T (positive t)
-least-positive t p h = positive-of-lt t p (lt-of-val zero64 t tt p (omega (arith, den-pos t, le-to-val leastStep t tt p h)))
+least-positive : (t : Float) → T (finite t) → T (le least64 t) → T (positive t)
+least-positive t p h = positive-of-lt t p (lt-of-val zero64 t tt p (omega (arith, den-pos t, le-to-val least64 t tt p h)))
 
 -- A float that is at least 1/1024 has no numerator below 0.
-pub least-unsigned : (t : Float) → T (finite t) → T (le leastStep t) → nnum t ≡ 0
+pub least-unsigned : (t : Float) → T (finite t) → T (le least64 t) → nnum t ≡ 0
 least-unsigned t p h = positive-nnum t (least-positive t p h)
 
 -- A timestep is positive.
@@ -33,7 +33,7 @@ step-positive t s = least-positive t (s .finite-t) (s .least)
 -- A timestep is at least 0, as the test says it.
 pub step-nonneg : (t : Float) → Step t → T (le zero64 t)
 unfolding le
-step-nonneg t s = float-le-trans zero64 leastStep t tt (s .least)
+step-nonneg t s = float-le-trans zero64 least64 t tt (s .least)
 
 -- ---- frames to seconds and seconds to frames
 
@@ -51,11 +51,11 @@ mul-step-low x t n s h = low-side (pnum x) (nnum x) (den x) (pnum t) (nnum t) (d
         (low-at p m d q e (omega arith) k)
 
 -- 1/1024 ≤ t on numerators.
-least-reach : (t : Float) → T (finite t) → T (le leastStep t) → den t ≤ pnum t * 1024
-least-reach t p h = omega (arith, least-unsigned t p h, le-to-val leastStep t tt p h)
+least-reach : (t : Float) → T (finite t) → T (le least64 t) → den t ≤ pnum t * 1024
+least-reach t p h = omega (arith, least-unsigned t p h, le-to-val least64 t tt p h)
 
 -- The lower bound -n of x gives the lower bound -1024 n of the exact quotient.
-pub div-least-low : (x t : Float) (n : ℕ) (p : T (finite t)) → T (le leastStep t) → (q : T (positive t)) → nnum x ≤ pnum x + n * den x
+pub div-least-low : (x t : Float) (n : ℕ) (p : T (finite t)) → T (le least64 t) → (q : T (positive t)) → nnum x ≤ pnum x + n * den x
     → Le (wholeQ true (n * 1024)) (divQ (val x) t q)
 div-least-low x t n p l q h = low-side (pnum x) (nnum x) (den x) (pnum t) (den t) (least-reach t p l) h
   where
@@ -63,7 +63,7 @@ div-least-low x t n p l q h = low-side (pnum x) (nnum x) (den x) (pnum t) (den t
     low-side p m d q e h k = let u = mul-le-mul-right e k in let v = mul-le-mul-right (n * d) h in omega arith
 
 -- |x| ≤ n gives |x / t| ≤ 1024 n, rounding included, for any t that is at least 1/1024.
-pub div-least-within : (x t : Float) (n : ℕ) → n * 1024 < 2 ^ 53 → Within x n → T (finite t) → T (le leastStep t) → Within (div binary64 x t) (n * 1024)
+pub div-least-within : (x t : Float) (n : ℕ) → n * 1024 < 2 ^ 53 → Within x n → T (finite t) → T (le least64 t) → Within (div binary64 x t) (n * 1024)
 div-least-within x t n s a p l =
     let q = least-positive t p l in
     div-between binary64 (wholeQ true (n * 1024)) (wholeQ false (n * 1024)) x t (held-whole true (n * 1024) s) (held-whole false (n * 1024) s) (a .0) q
@@ -87,7 +87,7 @@ unitsOf t = pnum t * 2 ^ 17 / den t
 pub units-least : (t : Float) → Step t → 2 ^ 7 ≤ unitsOf t
 units-least t s =
     let z = least-unsigned t (s .finite-t) (s .least) in
-    le-div-iff-mul-le (den-pos t) .1 (omega (arith, z, le-to-val leastStep t tt (s .finite-t) (s .least)))
+    le-div-iff-mul-le (den-pos t) .1 (omega (arith, z, le-to-val least64 t tt (s .finite-t) (s .least)))
 
 -- A timestep has at most 2 ^ 17 units.
 pub units-most : (t : Float) → Step t → unitsOf t ≤ 2 ^ 17

@@ -1,8 +1,9 @@
--- Laws of binary64 arithmetic for two requests of document 02, which nothing uses yet: each is stated here by name, and proofs/ proves it under the same
--- name in small letters. The operations are IEEE 754's, the rounding of each included. Definitions only. Assumes nothing.
+-- Laws of binary64 arithmetic for two requests of document 02: each is stated here by name, and proofs/ proves it under the same name in small letters. Nothing
+-- uses the laws SixtyFiveSuffice, TweenUnit and SkipCycle yet; what they speak of is used by the laws of soundness.
+-- The operations are IEEE 754's, the rounding of each included. Definitions only. Assumes nothing.
 use Prim.Native.Nat.{ℕ, zero, suc}
 use mathlib.Core.Bool.{true, false, cond}
-use lib.IntN.{pos, negsuc}
+use lib.IntN.{pos}
 use lib.Dec.{T}
 use lib.Ieee.{Float, fin, lt, le, binary64, fits, add, sub, mul}
 use lib.Ieee.Positive.{positive}
@@ -10,26 +11,19 @@ use lib.Ieee.Scale.{finite}
 use Rattle.float_laws.specs.Fractions.{val}
 use Rattle.float_laws.specs.Bounds.{Between}
 use Rattle.timestamp.specs.FloatTimestamps.{half64, fromUnwrapped}
-use Rattle.timestamp.specs.Floats.{zero64, one64, tweenOf}
+use Rattle.refusals.specs.Limits.{mostFrames}
+use Rattle.timestamp.specs.Floats.{zero64, one64, tweenOf, least64, sixtyFour64}
 
 -- ---- a timestep
-
--- The float 1/1024.
-abbrev pub leastStep : Float
-leastStep = fin false 1 (negsuc 9)
 
 -- t is a timestep: a finite binary64 value from 1/1024 to 1.
 pub record Step (t : Float) : Type 0 where
   pub fits-t : T (fits binary64 t)
   pub finite-t : T (finite t)
-  pub least : T (le leastStep t)
+  pub least : T (le least64 t)
   pub most : T (le t one64)
 
 -- ---- the frames of an update: for request 13 of document 02
-
--- The float 64.
-abbrev pub sixtyFour : Float
-sixtyFour = fin false 1 (pos 6)
 
 -- At most n additions of t to x, which end where the value is not below 0.
 abbrev pub catchUp : ℕ → Float → Float → Float
@@ -38,12 +32,12 @@ catchUp (suc n) x t = cond (lt x zero64) (catchUp n (add binary64 x t) t) x
 
 -- So many additions suffice.
 abbrev pub enough : ℕ
-enough = 65
+enough = mostFrames
 
 -- An update starts from o - d with 0 ≤ o ≤ t and 0 ≤ d ≤ 64 t, and adds t while the value is below 0: after at most 65 additions the value is from 0 to t.
 unfoldable pub SixtyFiveSuffice : Type 0
 SixtyFiveSuffice =
-    (o d t : Float) → Step t → T (finite o) → T (finite d) → T (le zero64 o) → T (le o t) → T (le zero64 d) → T (le d (mul binary64 sixtyFour t)) →
+    (o d t : Float) → Step t → T (finite o) → T (finite d) → T (le zero64 o) → T (le o t) → T (le zero64 d) → T (le d (mul binary64 sixtyFour64 t)) →
     T (le zero64 (catchUp enough (sub binary64 o d) t)) × T (le (catchUp enough (sub binary64 o d) t) t)
 
 -- ---- the tween weight: for request 2 of document 02, by which refusal 27 goes

@@ -4,8 +4,7 @@ use mathlib.Core.Bool.{Bool, cond}
 use lib.IntN.{ℤ, pos}
 use lib.Ieee.{Float}
 use Rattle.timestamp.specs.FloatTimestamps.{fromSeconds, stampOf}
-use Rattle.settings.specs.Settings.{least64}
-use Rattle.timestamp.specs.Floats.{between, one64, timeOk}
+use Rattle.timestamp.specs.Floats.{least64, between, one64, timeOk}
 
 -- a timestep is in the settings' range, 1/1024 to 1 second
 abbrev pub timestepOk : Float → Bool

@@ -1,5 +1,5 @@
 -- What calls answer once they are decided, over plain values: each way to fill an answer, from what its parts gave. Assumes nothing.
-use mathlib.Core.Path.{_≡_, refl, ap, sym, _∙_}
+use mathlib.Core.Path.{_≡_, ap, sym, _∙_}
 use mathlib.Core.Bool.{Bool, true, false, cond}
 use mathlib.Core.List.{List}
 use Prim.Native.Nat.{ℕ}
@@ -36,7 +36,10 @@ pub unplayed-is : (n : ℕ) (s : Session) (request : Bool) (was : List ℕ) {l r
     → Updates (unplayedOf n s request (length was))
     (record { refusal = n; session = s; frames = 0; steps = 0; request = request; left = l; right = r; words = 0 }) last
 unplayed-is n s request was e hl hr =
-    record { refusal = refl; session = refl; frames = refl; steps = refl; request = refl; left = hl; right = hr; words = refl; tape = e ∙ cleared-all was }
+    record {
+      answer = λ i. record { refusal = n; session = s; frames = 0; steps = 0; request = request; left = hl i; right = hr i; words = 0 };
+      tape = e ∙ cleared-all was;
+    }
 
 -- it was refused
 pub refuse-is : (n : ℕ) (s : Session) (len : ℕ) {r : UpdateAnswer} {last : List ℕ} → Updates (unplayedOf n s false len) r last
@@ -79,13 +82,15 @@ pub accept-is : (s : Session) (c : Clock) (request : Bool) (a : Advanced) (was :
 unfolding acceptedBy
 accept-is s c request a was hz hw hs hL hR =
     record {
-      refusal = refl;
-      session = λ i. sessionWith s ((hs ∙ ap (λ (v : ClientWorldSimulations). stageAfter (s .stage) (v .published .time)) hw) i) c (hw i) (a .overshoot);
-      frames = refl;
-      steps = refl;
-      request = refl;
-      left = hL ∙ ap (λ (v : ClientWorldSimulations). closedOf (a .scene .left) (v .left .commands)) hw;
-      right = hR ∙ ap (λ (v : ClientWorldSimulations). closedOf (a .scene .right) (v .right .commands)) hw;
-      words = refl;
+      answer = λ i. record {
+        refusal = 0;
+        session = sessionWith s ((hs ∙ ap (λ (v : ClientWorldSimulations). stageAfter (s .stage) (v .published .time)) hw) i) c (hw i) (a .overshoot);
+        frames = a .frames;
+        steps = a .scene .steps;
+        request = request;
+        left = (hL ∙ ap (λ (v : ClientWorldSimulations). closedOf (a .scene .left) (v .left .commands)) hw) i;
+        right = (hR ∙ ap (λ (v : ClientWorldSimulations). closedOf (a .scene .right) (v .right .commands)) hw) i;
+        words = a .at;
+      };
       tape = hz;
     }

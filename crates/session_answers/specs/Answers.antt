@@ -1,4 +1,4 @@
--- What calls answer once they are decided: document 01, "Kept, and written anew" (open, update, issue, report), "src/client/stage.rs", and what a refused call
+-- What calls answer once they are decided: document 01, "Kept, and written anew" (update, issue, report), "src/client/stage.rs", and what a refused call
 -- answers. Definitions only. Assumes nothing.
 use Prim.Native.Nat.{ℕ, _-_}
 use mathlib.Core.Bool.{Bool, false, cond}
@@ -50,16 +50,23 @@ pub record Reply : Type 0 where
   pub words : ℕ
   pub tape : List ℕ
 
--- an update as the code leaves it: its answer, and every word of its tape
+-- the answer of an update whose reply is this: each field of the answer
+abbrev pub answerOf : Reply → UpdateAnswer
+answerOf a =
+    record {
+      refusal = a .refusal;
+      session = a .session;
+      frames = a .frames;
+      steps = a .steps;
+      request = a .request;
+      left = a .left;
+      right = a .right;
+      words = a .words;
+    }
+
+-- an update as the code leaves it: its whole answer, and every word of its tape
 pub record Updates (a : Reply) (r : UpdateAnswer) (last : List ℕ) : Type 0 where
-  pub refusal : r .refusal ≡ a .refusal
-  pub session : r .session ≡ a .session
-  pub frames : r .frames ≡ a .frames
-  pub steps : r .steps ≡ a .steps
-  pub request : r .request ≡ a .request
-  pub left : r .left ≡ a .left
-  pub right : r .right ≡ a .right
-  pub words : r .words ≡ a .words
+  pub answer : r ≡ answerOf a
   pub tape : last ≡ a .tape
 
 -- a reply, and the trace of what happened to the worlds: the code gives the reply alone

@@ -162,7 +162,7 @@ pub fn accept(
     let before = session.stage;
     let stage = stage_after(before, time);
     UpdateAnswer {
-        refusal: 0,
+        refusal: refusals::ACCEPTED,
         session: Session {
             settings,
             stage,
@@ -203,7 +203,7 @@ pub fn accept_issue(session: Session, stamp: Timestamp, got: Received) -> IssueA
     let mut s = session;
     s.worlds = worlds;
     IssueAnswer {
-        refusal: 0,
+        refusal: refusals::ACCEPTED,
         session: s,
         stamp,
         left: closed(after.left, left.commands),
@@ -238,7 +238,7 @@ pub fn report_worlds(session: Session) -> ReportAnswer
     let published = worlds.published;
     let time = published.time;
     ReportAnswer {
-        refusal: 0,
+        refusal: refusals::ACCEPTED,
         stage,
         status,
         old: sides::last_completed_timestamp(worlds),

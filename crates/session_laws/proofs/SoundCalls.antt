@@ -6,14 +6,14 @@ use Prim.Native.Nat.{ℕ, _<_}
 use lib.Dec.{T}
 use lib.ListN.{length}
 use lib.Ieee.{Float, binary64, fits, add, le}
-use Rattle.timestamp.specs.Floats.{zero64, tweenOf}
+use Rattle.timestamp.specs.Floats.{zero64, tweenOf, least64}
 use Rattle.float_laws.proofs.Order.{float-le-trans}
 use Rattle.timestamp.specs.declared.Timestamp.{Timestamp}
 use Rattle.timestamp.specs.Timestamps.{bitsOf}
 use Rattle.timestamp.specs.FloatTimestamps.{fromSeconds, stampOf}
 use Rattle.timestamp.proofs.Basics.{not-true, not-false}
 use Rattle.settings.specs.declared.Settings.{Settings}
-use Rattle.settings.specs.Settings.{passesOf, least64}
+use Rattle.settings.specs.Settings.{passesOf}
 use Rattle.settings.proofs.Limits.{timestep-within}
 use Rattle.refusals.specs.Limits.{handleRoom}
 use Rattle.refusals.proofs.Accepted.{open-accepted, open-refused}

@@ -11,7 +11,7 @@ use lib.Ieee.{Float, nan, inf, fin, binary64, fits, sub, mul, lt, le}
 use lib.Ieee.Scale.{finite}
 use Rattle.float_laws.specs.Fractions.{val}
 use Rattle.float_laws.specs.Bounds.{Within}
-use Rattle.timestamp.specs.Floats.{one64, tweenOf, zero64}
+use Rattle.timestamp.specs.Floats.{one64, tweenOf, zero64, least64, sixtyFour64}
 use Rattle.float_laws.specs.Laws.{Step}
 use Rattle.float_laws.proofs.Value.{q-le-refl, le-of-val}
 use Rattle.float_laws.proofs.Order.{between-finite, float-le-trans, float-le-of-lt, float-le-of-not-lt}
@@ -21,7 +21,7 @@ use Rattle.float_laws.proofs.Timestep.{div-least-within}
 use Rattle.float_laws.proofs.Frames.{After, frames-start, frames-step}
 use Rattle.timestamp.specs.declared.Timestamp.{Timestamp}
 use Rattle.settings.specs.declared.Settings.{Settings}
-use Rattle.settings.specs.Settings.{passesOf, blendProgressOf, least64, sixtyFour64}
+use Rattle.settings.specs.Settings.{passesOf, blendProgressOf}
 use Rattle.settings.proofs.Limits.{timestep-within, blend-within, max-tests, steps-few, sixty-four-exact}
 use Rattle.client.specs.declared.Scene.{Scene}
 use Rattle.client.specs.Sides.{oldStampOf}

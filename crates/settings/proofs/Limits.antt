@@ -23,8 +23,8 @@ use Rattle.timestamp.proofs.Whole.{holds}
 use Rattle.timestamp.proofs.Basics.{split, signs-apart}
 use Rattle.settings.specs.declared.Settings.{Settings}
 use Rattle.settings.specs.Tweening.{knownOf}
-use Rattle.settings.specs.Settings.{least64, sixty64, sixtyFour64, lagFramesOf, lagFrameCountOf, samplesToDiscardOf, samplesToStoreOf}
-use Rattle.timestamp.specs.Floats.{hour64, between, zero64, one64}
+use Rattle.settings.specs.Settings.{sixty64, lagFramesOf, lagFrameCountOf, samplesToDiscardOf, samplesToStoreOf}
+use Rattle.timestamp.specs.Floats.{least64, sixtyFour64, hour64, between, zero64, one64}
 use Rattle.settings.specs.Settings.{secondsPass, thresholdsPass, samplesPass, countsPass, passesOf}
 use Rattle.settings.proofs.Tests.{le-at}
 use Rattle.timestamp.proofs.Tests.{apart}

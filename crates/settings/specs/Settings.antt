@@ -3,27 +3,19 @@
 use Prim.Native.Nat.{ℕ, _+_, _*_}
 use mathlib.Core.Bool.{Bool, false, cond, _&&_}
 use lib.Dec.{leb}
-use lib.IntN.{ℤ, pos, negsuc}
+use lib.IntN.{ℤ, pos}
 use lib.Signed.{leZ}
 use lib.Ieee.{Float, fin, binary64, mul, div, lt, ofInt, toUnsigned}
-use Rattle.timestamp.specs.Floats.{zero64, one64, two64, between, hour64}
+use Rattle.timestamp.specs.Floats.{zero64, one64, two64, between, hour64, least64, sixtyFour64}
 use Rattle.timestamp.specs.Whole.{ceilOf, roundOf}
 use Rattle.timestamp.specs.FloatTimestamps.{stampOf}
 use Rattle.refusals.specs.Limits.{mostSteps, mostLagFrames}
 use Rattle.settings.specs.declared.Settings.{Settings}
 use Rattle.settings.specs.Tweening.{knownOf}
 
--- 1/1024
-abbrev pub least64 : Float
-least64 = fin false 1 (negsuc 9)
-
 -- 60
 abbrev pub sixty64 : Float
 sixty64 = fin false 15 (pos 2)
-
--- 64
-abbrev pub sixtyFour64 : Float
-sixtyFour64 = fin false 1 (pos 6)
 
 -- ---- derived numbers
 

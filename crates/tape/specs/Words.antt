@@ -5,6 +5,7 @@ use mathlib.Core.Bool.{Bool, true, false, _&&_}
 use mathlib.Core.List.{List, [], _∷_}
 use lib.Dec.{eqb}
 use lib.Ieee.{Float, binary64, toBits}
+use Rattle.refusals.specs.Limits.{handleRoom}
 
 -- the word of a kind, with what its low 28 bits hold
 abbrev pub wordOf : ℕ → ℕ → ℕ
@@ -20,11 +21,11 @@ stepWord side = wordOf 1 (sideBit side)
 
 -- kind 2: a command applied to a world, its handle in the low 24 bits
 unfoldable pub commandWord : ℕ → ℕ → ℕ
-commandWord side handle = wordOf 2 (sideBit side + handle % 2 ^ 24)
+commandWord side handle = wordOf 2 (sideBit side + handle % handleRoom)
 
 -- kind 3: a snapshot loaded into a world, its handle in the low 24 bits
 unfoldable pub snapshotWord : ℕ → ℕ → ℕ
-snapshotWord side handle = wordOf 3 (sideBit side + handle % 2 ^ 24)
+snapshotWord side handle = wordOf 3 (sideBit side + handle % handleRoom)
 
 -- kind 4: that world is published
 unfoldable pub publishWord : ℕ → ℕ

@@ -40,14 +40,14 @@ pub fn step_word(side: u32) -> u32
 pub fn command_word(side: u32, handle: u32) -> u32
     ensures { λ r. ⌜ r ≡ commandWord side handle ⌝ }
 {
-    536870912 + (side % 2) * 134217728 + handle % 16777216
+    536870912 + (side % 2) * 134217728 + handle % refusals::HANDLE_ROOM
 }
 
 // The word for a snapshot loaded into a world.
 pub fn snapshot_word(side: u32, handle: u32) -> u32
     ensures { λ r. ⌜ r ≡ snapshotWord side handle ⌝ }
 {
-    805306368 + (side % 2) * 134217728 + handle % 16777216
+    805306368 + (side % 2) * 134217728 + handle % refusals::HANDLE_ROOM
 }
 
 // The word for the publishing of a world as it is.

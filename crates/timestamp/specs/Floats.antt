@@ -1,7 +1,7 @@
--- Floats that several definitions need, each under one name: IEEE 754 binary64 values, and small operations on them that document 01 names in passing.
+-- Floats that several definitions need, each under one name: IEEE 754 binary64 values, small operations on them, and limits that are floats.
 -- Definitions only. Assumes nothing.
 use mathlib.Core.Bool.{Bool, true, false, cond, _&&_}
-use lib.IntN.{pos}
+use lib.IntN.{pos, negsuc}
 use lib.Ieee.{Float, fin, binary64, sub, div, neg, lt, le}
 
 -- +0.0
@@ -15,6 +15,14 @@ one64 = fin false 1 (pos 0)
 -- 2.0
 abbrev pub two64 : Float
 two64 = fin false 1 (pos 1)
+
+-- 1/1024, the shortest timestep
+abbrev pub least64 : Float
+least64 = fin false 1 (negsuc 9)
+
+-- 64.0
+abbrev pub sixtyFour64 : Float
+sixtyFour64 = fin false 1 (pos 6)
 
 -- |x|; -0.0 stays as it is, which no comparison tells from +0.0
 abbrev pub absOf : Float → Float
