@@ -30,9 +30,10 @@ same-length-2 : tie.Need-same-length-2
 same-length-2 c = search needs
 
 returns-2 : tie.Need-returns-2
-returns-2 c = update-by _ _ _ _ _ (c .before .before .before .before .before .before .before .refused-at-once .ensures) false
-    (c .before .before .before .before .before .before .if1 .left) (c .before .before .before .before .before .has-worlds .ensures)
-    (not-true _ (c .before .before .before .before .if2 .taken)) (c .before .before .update-clock .ensures)
+returns-2 c =
+    let w = c .before .before .before .before in
+    update-by _ _ _ _ _ (w .before .before .before .refused-at-once .ensures) false (w .before .before .if1 .left) (w .before .has-worlds .ensures)
+    (not-true _ (w .if2 .taken)) (c .before .before .update-clock .ensures)
 
 listen-requires : tie.Need-listen-requires
 listen-requires c κs = search needs
@@ -57,15 +58,12 @@ same-length-3 c = search needs
 
 returns-3 : tie.Need-returns-3
 returns-3 c =
-    update-by _ _ _ _ _ (c .before .before .before .before .before .before .before .before .before .before .before .before .before .before .before
-    .refused-at-once .ensures) true (c .before .before .before .before .before .before .before .before .before .before .before .before .before
-    .before .if1 .left) (c .before .before .before .before .before .before .before .before .before .before .before .before .before .has-worlds
-    .ensures) (not-false _ (c .before .before .before .before .before .before .before .before .before .before .before .before .if2 .left))
-    (worlds-refused _ _ _ _ (c .before .before .before .before .before .before .before .before .before .listen .ensures)
-    (c .before .before .before .before .before .before .before .before .hear-all .ensures)
-    (c .before .before .before .before .before .before .before .scene-of .ensures)
-    (c .before .before .before .before .before .before .receive-commands .ensures)
-    (c .before .before .before .before .before .by-arrivals .ensures) _ (c .before .before .before .before .if3 .taken)
+    let a = c .before .before .before .before .before in
+    let w = a .before .before .before .before .before .before .before in
+    update-by _ _ _ _ _ (w .before .before .before .refused-at-once .ensures) true (w .before .before .if1 .left) (w .before .has-worlds .ensures)
+    (not-false _ (w .if2 .left))
+    (worlds-refused _ _ _ _ (a .before .before .before .before .listen .ensures) (a .before .before .before .hear-all .ensures)
+    (a .before .before .scene-of .ensures) (a .before .receive-commands .ensures) (a .by-arrivals .ensures) _ (c .before .before .before .before .if3 .taken)
     (c .before .before .refuse2 .ensures))
 
 tick-requires : tie.Need-tick-requires
@@ -90,26 +88,17 @@ same-length-4 c = search needs
 
 returns-4 : tie.Need-returns-4
 returns-4 c =
-    update-by _ _ _ _ _ (c .before .before .before .before .before .before .before .before .before .before .before .before .before .before .before
-    .before .before .before .before .before .before .before .before .before .refused-at-once .ensures) true
-    (c .before .before .before .before .before .before .before .before .before .before .before .before .before .before .before .before .before
-    .before .before .before .before .before .before .if1 .left)
-    (c .before .before .before .before .before .before .before .before .before .before .before .before .before .before .before .before .before
-    .before .before .before .before .before .has-worlds .ensures)
-    (not-false _ (c .before .before .before .before .before .before .before .before .before .before .before .before .before .before .before .before
-    .before .before .before .before .before .if2 .left))
-    (worlds-stopped _ _ _ _ (c .before .before .before .before .before .before .before .before .before .before .before .before .before .before .before
-    .before .before .before .listen .ensures) (c .before .before .before .before .before .before .before .before .before .before .before .before
-    .before .before .before .before .before .hear-all .ensures)
-    (c .before .before .before .before .before .before .before .before .before .before .before .before .before .before .before .before .scene-of
-    .ensures) (c .before .before .before .before .before .before .before .before .before .before .before .before .before .before .before
-    .receive-commands .ensures) (c .before .before .before .before .before .before .before .before .before .before .before .before .before .before
-    .by-arrivals .ensures)
-    (c .before .before .before .before .before .before .before .before .before .before .before .before .before .if3 .left)
-    (c .before .before .before .before .before .before .before .before .before .before .before .before .tick .ensures)
-    (c .before .before .before .before .before .before .before .before .before .before .settle .ensures)
-    (c .before .before .before .before .before .before .before .before .play .ensures)
-    (c .before .before .before .before .before .refused-at-end .ensures) refl (c .before .before .before .before .if4 .taken)
+    let e = c .before .before .before .before .before in
+    let p = e .before .before .before in
+    let k = p .before .before in
+    let t = k .before .before in
+    let a = t .before .before in
+    let w = a .before .before .before .before .before .before .before in
+    update-by _ _ _ _ _ (w .before .before .before .refused-at-once .ensures) true (w .before .before .if1 .left) (w .before .has-worlds .ensures)
+    (not-false _ (w .if2 .left))
+    (worlds-stopped _ _ _ _ (a .before .before .before .before .listen .ensures) (a .before .before .before .hear-all .ensures)
+    (a .before .before .scene-of .ensures) (a .before .receive-commands .ensures) (a .by-arrivals .ensures) (t .before .if3 .left)
+    (t .tick .ensures) (k .settle .ensures) (p .play .ensures) (e .refused-at-end .ensures) refl (c .before .before .before .before .if4 .taken)
     (c .before .before .refuse3 .ensures))
 
 accept-requires : tie.Need-accept-requires
@@ -120,26 +109,17 @@ same-length-5 c = search needs
 
 returns-5 : tie.Need-returns-5
 returns-5 c =
-    update-by _ _ _ _ _ (c .before .before .before .before .before .before .before .before .before .before .before .before .before .before .before
-    .before .before .before .before .before .before .before .before .before .refused-at-once .ensures) true
-    (c .before .before .before .before .before .before .before .before .before .before .before .before .before .before .before .before .before
-    .before .before .before .before .before .before .if1 .left)
-    (c .before .before .before .before .before .before .before .before .before .before .before .before .before .before .before .before .before
-    .before .before .before .before .before .has-worlds .ensures)
-    (not-false _ (c .before .before .before .before .before .before .before .before .before .before .before .before .before .before .before .before
-    .before .before .before .before .before .if2 .left))
-    (worlds-accepted _ _ _ _ (c .before .before .before .before .before .before .before .before .before .before .before .before .before .before .before
-    .before .before .before .listen .ensures) (c .before .before .before .before .before .before .before .before .before .before .before .before
-    .before .before .before .before .before .hear-all .ensures)
-    (c .before .before .before .before .before .before .before .before .before .before .before .before .before .before .before .before .scene-of
-    .ensures) (c .before .before .before .before .before .before .before .before .before .before .before .before .before .before .before
-    .receive-commands .ensures) (c .before .before .before .before .before .before .before .before .before .before .before .before .before .before
-    .by-arrivals .ensures)
-    (c .before .before .before .before .before .before .before .before .before .before .before .before .before .if3 .left)
-    (c .before .before .before .before .before .before .before .before .before .before .before .before .tick .ensures)
-    (c .before .before .before .before .before .before .before .before .before .before .settle .ensures)
-    (c .before .before .before .before .before .before .before .before .play .ensures)
-    (c .before .before .before .before .before .refused-at-end .ensures) refl (c .before .before .before .before .if4 .left)
+    let e = c .before .before .before .before .before in
+    let p = e .before .before .before in
+    let k = p .before .before in
+    let t = k .before .before in
+    let a = t .before .before in
+    let w = a .before .before .before .before .before .before .before in
+    update-by _ _ _ _ _ (w .before .before .before .refused-at-once .ensures) true (w .before .before .if1 .left) (w .before .has-worlds .ensures)
+    (not-false _ (w .if2 .left))
+    (worlds-accepted _ _ _ _ (a .before .before .before .before .listen .ensures) (a .before .before .before .hear-all .ensures)
+    (a .before .before .scene-of .ensures) (a .before .receive-commands .ensures) (a .by-arrivals .ensures) (t .before .if3 .left)
+    (t .tick .ensures) (k .settle .ensures) (p .play .ensures) (e .refused-at-end .ensures) refl (c .before .before .before .before .if4 .left)
     (c .before .before .accept .ensures))
 
 pub update-spec : {M : Type 1} → statement M
