@@ -7,6 +7,7 @@ use lib.Dec.{leb, ltb, eqb}
 use lib.ListN.{length, take, drop, replicate}
 use lib.Ieee.{Float, binary64, lt, le, add, sub}
 use lib.Ieee.Scale.{finite}
+use Rattle.refusals.specs.Limits.{sampleRoom, mostSamples}
 use Rattle.settings.specs.declared.Settings.{Settings}
 use Rattle.settings.specs.Settings.{samplesToDiscardOf, samplesToStoreOf}
 use Rattle.timestamp.specs.Floats.{hour64, zero64, absOf, sampleOk}
@@ -24,13 +25,13 @@ use Rattle.clocksync.specs.declared.Heard.{Heard}
 
 -- ---- the samples of a clock
 
--- samples in the 64 slots of a clock, the slots after them at +0.0
+-- samples in the slots of a clock, the slots after them at +0.0
 abbrev pub laidOut : List Float → List Float
-laidOut xs = xs ++ replicate (64 - length xs) zero64
+laidOut xs = xs ++ replicate (sampleRoom - length xs) zero64
 
--- the samples that a clock holds, oldest first; of a clock that is not sound no more than 63 count
+-- the samples that a clock holds, oldest first; of a clock that is not sound no more than that many count
 unfoldable pub heldOf : Clock → List Float
-heldOf c = take (min (c .len) 63) (c .samples)
+heldOf c = take (min (c .len) mostSamples) (c .samples)
 
 -- a clock that has heard nothing
 unfoldable pub newOf : Clock
@@ -144,4 +145,4 @@ offsetOk (Seconds x) = sampleOk x
 -- samples fewer than stored, and no more than a clock can hold, and within 2^33; request timer finite and at most 3,600; offset within 2^33
 unfoldable pub soundClock : Settings → Clock → Bool
 soundClock s c =
-    ltb (c .len) (samplesToStoreOf s) && leb (c .len) 63 && samplesOk (take (c .len) (c .samples)) && timerOk (c .timer) && offsetOk (c .offset)
+    ltb (c .len) (samplesToStoreOf s) && leb (c .len) mostSamples && samplesOk (take (c .len) (c .samples)) && timerOk (c .timer) && offsetOk (c .offset)

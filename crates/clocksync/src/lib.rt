@@ -8,6 +8,7 @@ ghost use Rattle.clocksync.specs.Offset.{offsetOf};
 ghost use Rattle.clocksync.specs.Clock.{laidOut, newOf, tickedOf, listenOf, heardOf, firstOf, otherOf, deviatesOf, offsetAfter, addedOf, settledOf};
 ghost use Rattle.clocksync.specs.Clock.{serverSecondsOf, readyOf, timerOk, samplesOk, soundClock};
 ghost use Rattle.timestamp.specs.Floats.{sampleOk};
+ghost use Rattle.refusals.specs.Limits.{sampleRoom};
 use settings::Settings;
 
 mod mean;
@@ -132,7 +133,7 @@ impl Clock {
     pub fn add_sample(self, settings: Settings, x: f64) -> Clock
         ensures { λ r. ⌜ r ≡ addedOf settings self x ⌝ }
     {
-        let n = mean::least(self.len, 63);
+        let n = mean::least(self.len, refusals::MOST_SAMPLES);
         let samples = self.samples;
         let mut all = laid_from(samples, 0, n);
         all[n] = x;
@@ -196,7 +197,7 @@ impl Clock {
         if n >= settings.samples_to_store() {
             return false;
         }
-        if n > 63 {
+        if n > refusals::MOST_SAMPLES {
             return false;
         }
         let samples = self.samples;
@@ -263,7 +264,7 @@ pub(crate) fn measured_offset(send: f64, server: f64, seconds: f64) -> f64
 
 // Those from `start` to before `end`, laid out from the front, the slots after them at 0.
 fn laid_from(samples: [f64; 64], start: usize, end: usize) -> [f64; 64]
-    requires { ⌜ (start ≤ end) × (end ≤ 64) ⌝ }
+    requires { ⌜ (start ≤ end) × (end ≤ sampleRoom) ⌝ }
     ensures { λ r. ⌜ r ≡ laidOut (drop start (take end samples)) ⌝ }
 {
     let mut out = [0.0; 64];
@@ -313,7 +314,7 @@ pub(crate) fn sample_sound(x: f64) -> bool
 
 // Whether each of the first n is.
 pub fn samples_sound(samples: [f64; 64], n: usize) -> bool
-    requires { ⌜ n ≤ 64 ⌝ }
+    requires { ⌜ n ≤ sampleRoom ⌝ }
     ensures { λ r. ⌜ r ≡ samplesOk (take n samples) ⌝ }
 {
     let mut i: usize = 0;

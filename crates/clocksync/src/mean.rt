@@ -4,12 +4,13 @@ ghost use Prim.Native.Nat.{_+_, _-_, _≤_, _<_, min};
 ghost use lib.ListN.{take, drop};
 ghost use Rattle.clocksync.specs.Mean.{sampleInserted, placeOf, sortedOf, sumFrom, meanOf};
 ghost use Rattle.timestamp.specs.Floats.{zero64};
+ghost use Rattle.refusals.specs.Limits.{sampleRoom};
 
-// The mean of the first `len` samples (of at most 64): sorted, `discard` of them left out at each end, summed upward from +0.0.
+// The mean of the first `len` samples (of as many as a clock has slots): sorted, `discard` of them left out at each end, summed upward from +0.0.
 pub fn mean_of(samples: [f64; 64], len: usize, discard: usize) -> f64
     ensures { λ r. ⌜ r ≡ meanOf discard (take len samples) ⌝ }
 {
-    let n = least(len, 64);
+    let n = least(len, refusals::SAMPLE_ROOM);
     let ordered = sorted(samples, n);
     let end = less(n, discard);
     let sum = sum_between(ordered, discard, end);
@@ -18,7 +19,7 @@ pub fn mean_of(samples: [f64; 64], len: usize, discard: usize) -> f64
 
 // Where x goes among the first n: before the first that is greater.
 fn place(samples: [f64; 64], n: usize, x: f64) -> usize
-    requires { ⌜ n ≤ 64 ⌝ }
+    requires { ⌜ n ≤ sampleRoom ⌝ }
     ensures { λ r. ⌜ r ≡ placeOf x (take n samples) ⌝ }
 {
     let mut i: usize = 0;
@@ -33,7 +34,7 @@ fn place(samples: [f64; 64], n: usize, x: f64) -> usize
 
 // x among the first n: those from its place on move up by one.
 fn insert(samples: [f64; 64], n: usize, x: f64) -> [f64; 64]
-    requires { ⌜ n < 64 ⌝ }
+    requires { ⌜ n < sampleRoom ⌝ }
     ensures { λ r. ⌜ take (n + 1) r ≡ sampleInserted x (take n samples) ⌝ }
 {
     let mut out = samples;
@@ -51,7 +52,7 @@ fn insert(samples: [f64; 64], n: usize, x: f64) -> [f64; 64]
 
 // The first n in order.
 fn sorted(samples: [f64; 64], n: usize) -> [f64; 64]
-    requires { ⌜ n ≤ 64 ⌝ }
+    requires { ⌜ n ≤ sampleRoom ⌝ }
     ensures { λ r. ⌜ take n r ≡ sortedOf (take n samples) ⌝ }
 {
     let mut out = samples;
@@ -66,7 +67,7 @@ fn sorted(samples: [f64; 64], n: usize) -> [f64; 64]
 
 // The sum of those from `start` to before `end`, upward from +0.0.
 fn sum_between(samples: [f64; 64], start: usize, end: usize) -> f64
-    requires { ⌜ end ≤ 64 ⌝ }
+    requires { ⌜ end ≤ sampleRoom ⌝ }
     ensures { λ r. ⌜ r ≡ sumFrom zero64 (drop start (take end samples)) ⌝ }
 {
     let mut sum = 0.0;

@@ -10,6 +10,7 @@ ghost use mathlib.Core.List.{[], _∷_, _++_};
 ghost use mathlib.Core.Bool.{not};
 ghost use Prim.Native.Nat.{_+_, _≤_, _<_};
 ghost use lib.ListN.{length};
+ghost use Rattle.refusals.specs.Limits.{bufferRoom};
 ghost use Rattle.tape.specs.Tape.{Puts};
 ghost use Rattle.command.specs.Lists.{filterB};
 ghost use Rattle.command.specs.Buffer.{held, laid, insertedOf, movedOf, drainedOf, drainedAllOf, commandWords, Applies, AppliesAll};
@@ -254,7 +255,7 @@ fn ranks_between(s: Timestamp, m: Timestamp, lo: u32, hi: u32) -> bool
 
 // One entry more, at the end.
 fn push(b: CommandBuffer, e: Entry) -> CommandBuffer
-    requires { ⌜ (b ≡ laid (held b) (b .timestamp)) × (length (held b) + 1 ≤ 64) ⌝ }
+    requires { ⌜ (b ≡ laid (held b) (b .timestamp)) × (length (held b) + 1 ≤ bufferRoom) ⌝ }
     ensures { λ r. ⌜ r ≡ laid (held b ++ (e ∷ [])) (b .timestamp) ⌝ }
 {
     let mut out = b;

@@ -22,6 +22,18 @@ mostFrames = 65
 abbrev pub mostSteps : ℕ
 mostSteps = 64
 
+-- the samples that a mean needs are at most so many
+abbrev pub mostNeeded : ℕ
+mostNeeded = 32
+
+-- a clock has so many slots for samples: twice the samples needed at most
+abbrev pub sampleRoom : ℕ
+sampleRoom = 64
+
+-- between calls it holds at most so many: with one more their mean is taken
+abbrev pub mostSamples : ℕ
+mostSamples = 63
+
 -- the lag is at most so many frames
 abbrev pub mostLagFrames : ℕ
 mostLagFrames = 16383

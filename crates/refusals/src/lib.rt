@@ -51,6 +51,12 @@ pub const BUFFER_ROOM: usize = 64;
 pub const MOST_FRAMES: u32 = 65;
 // The most catch-up steps of a frame that settings may ask for.
 pub const MOST_STEPS: u32 = 64;
+// The samples that a mean needs are at most so many.
+pub const MOST_NEEDED: u32 = 32;
+// A clock has so many slots for samples: twice the samples needed at most.
+pub const SAMPLE_ROOM: usize = 64;
+// Between calls it holds at most so many: with one more their mean is taken.
+pub const MOST_SAMPLES: usize = 63;
 // The lag is at most so many frames.
 pub const MOST_LAG_FRAMES: i16 = 16383;
 

@@ -9,7 +9,7 @@ use lib.Ieee.{Float, fin, binary64, mul, div, lt, ofInt, toUnsigned}
 use Rattle.timestamp.specs.Floats.{zero64, one64, two64, between, hour64, least64, sixtyFour64}
 use Rattle.timestamp.specs.Whole.{ceilOf, roundOf}
 use Rattle.timestamp.specs.FloatTimestamps.{stampOf}
-use Rattle.refusals.specs.Limits.{mostSteps, mostLagFrames}
+use Rattle.refusals.specs.Limits.{mostSteps, mostLagFrames, mostNeeded}
 use Rattle.settings.specs.declared.Settings.{Settings}
 use Rattle.settings.specs.Tweening.{knownOf}
 
@@ -77,7 +77,7 @@ thresholdsPass s =
 
 -- samples needed 1 to 32; outlier rate 0 to 1
 unfoldable pub samplesPass : ℕ → Float → Bool
-samplesPass needed rate = leb 1 needed && leb needed 32 && between zero64 one64 rate
+samplesPass needed rate = leb 1 needed && leb needed mostNeeded && between zero64 one64 rate
 
 -- the samples, and m 1 to 64
 unfoldable pub countsPass : Settings → Bool

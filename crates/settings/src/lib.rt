@@ -219,7 +219,7 @@ pub fn samples_pass(needed: u32, rate: f64) -> bool
     if needed < 1 {
         return false;
     }
-    if needed > 32 {
+    if needed > refusals::MOST_NEEDED {
         return false;
     }
     within(0.0, 1.0, rate)
