@@ -15,7 +15,7 @@ use Rattle.settings.specs.declared.TweeningMethod.the-variants.{Nearest, Interp
 use Rattle.settings.specs.declared.Settings.{Settings}
 use Rattle.settings.specs.Settings.{discardOf, storeOf}
 use Rattle.settings.specs.Tweening.{shapedOf}
-use Rattle.clocksync.specs.Mean.{meanOf}
+use Rattle.mean.specs.Mean.{meanOf}
 use Rattle.tape.specs.Words.{wordOf}
 use Rattle.client.specs.declared.DisplayTime.{DisplayTime}
 use Rattle.client.specs.declared.DisplayTime.the-variants.{NotDisplayed, DisplayedAt}

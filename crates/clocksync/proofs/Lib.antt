@@ -5,5 +5,3 @@ pub mod Verdict
 pub mod Samples
 pub mod Sound
 pub mod Ready
-pub mod Sort
-pub mod Zeros

@@ -8,7 +8,7 @@ use lib.ListN.{length, drop}
 use lib.Ieee.{Float, lt, binary64, add}
 use Rattle.settings.specs.declared.Settings.{Settings}
 use Rattle.settings.specs.Settings.{samplesToDiscardOf, samplesToStoreOf}
-use Rattle.clocksync.specs.Mean.{meanOf}
+use Rattle.mean.specs.Mean.{meanOf}
 use Rattle.timestamp.specs.Floats.{zero64}
 use Rattle.clocksync.specs.Clock.{heldOf, timedOf, tickedOf, firstOf, heardOf, deviatesOf, offsetAfter, sampledOf, filledOf, addedOf, namedOf, sampleOf}
 use Rattle.clocksync.specs.Clock.{settledOf, bothOf, readyOf}

@@ -24,16 +24,16 @@ use Rattle.timestamp.proofs.Tests.{apart, both}
 use Rattle.settings.proofs.Limits.{Limited, period-within, discard-few, store-few, samples-pass}
 use Rattle.settings.proofs.Few.{needed-range}
 use Rattle.clocksync.specs.Offset.{offsetOf}
-use Rattle.clocksync.specs.Mean.{sampleInserted, sortedOnto, sortedOf, innerOf, sumFrom, averageOf, meanOf}
+use Rattle.mean.specs.Mean.{sampleInserted, sortedOnto, sortedOf, innerOf, sumFrom, averageOf, meanOf, samplesOk}
 use Rattle.clocksync.specs.Clock.{heldOf, newOf, timedOf, tickedOf, deviatesOf, offsetAfter, sampledOf, filledOf, addedOf, namedOf, sampleOf, settledOf}
-use Rattle.clocksync.specs.Clock.{samplesOk, timerOk, offsetOk, soundClock}
+use Rattle.clocksync.specs.Clock.{timerOk, offsetOk, soundClock}
 use Rattle.clocksync.specs.declared.Offset.{Offset}
 use Rattle.clocksync.specs.declared.Offset.the-variants.{NoOffset, Seconds}
 use Rattle.clocksync.specs.declared.Clock.{Clock}
 use Rattle.clocksync.specs.declared.Ticked.{Ticked}
 use Rattle.clocksync.specs.declared.Heard.{Heard}
 use Rattle.clocksync.proofs.Lists.{take-laid}
-use Rattle.clocksync.proofs.Samples.{sorted-length}
+use Rattle.mean.proofs.Means.{sorted-length}
 
 is : (b : Bool) → b ≡ true → T b
 is b p = subst T (sym p) tt

@@ -7,7 +7,8 @@ use lib.ListN.{take}
 use Rattle.settings.specs.declared.Settings.{Settings}
 use Rattle.settings.specs.Settings.{samplesToStoreOf}
 use Rattle.clocksync.specs.declared.Clock.{Clock}
-use Rattle.clocksync.specs.Clock.{samplesOk, timerOk, offsetOk, soundClock}
+use Rattle.mean.specs.Mean.{samplesOk}
+use Rattle.clocksync.specs.Clock.{timerOk, offsetOk, soundClock}
 
 module _ (s : Settings) (c : Clock) where
   -- as many samples as are stored

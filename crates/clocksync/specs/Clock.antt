@@ -12,7 +12,7 @@ use Rattle.settings.specs.declared.Settings.{Settings}
 use Rattle.settings.specs.Settings.{samplesToDiscardOf, samplesToStoreOf}
 use Rattle.timestamp.specs.Floats.{hour64, zero64, absOf, sampleOk}
 use Rattle.clocksync.specs.Offset.{offsetOf}
-use Rattle.clocksync.specs.Mean.{meanOf}
+use Rattle.mean.specs.Mean.{meanOf, samplesOk}
 use Rattle.clocksync.specs.declared.Offset.{Offset}
 use Rattle.clocksync.specs.declared.Offset.the-variants.{NoOffset, Seconds}
 use Rattle.clocksync.specs.declared.ClientId.{ClientId}
@@ -127,11 +127,6 @@ abbrev pub readyOf : Clock → Bool
 readyOf c = bothOf (c .offset) (c .id)
 
 -- ---- "Sound"
-
--- every sample is
-unfoldable pub samplesOk : List Float → Bool
-samplesOk [] = true
-samplesOk (x ∷ xs) = sampleOk x && samplesOk xs
 
 -- the request timer is finite and at most 3,600
 unfoldable pub timerOk : Float → Bool

@@ -6,14 +6,9 @@ ghost use Prim.Native.Nat.{_≤_};
 ghost use lib.ListN.{take, drop};
 ghost use Rattle.clocksync.specs.Offset.{offsetOf};
 ghost use Rattle.clocksync.specs.Clock.{laidOut, newOf, tickedOf, listenOf, heardOf, firstOf, otherOf, deviatesOf, offsetAfter, addedOf, settledOf};
-ghost use Rattle.clocksync.specs.Clock.{serverSecondsOf, readyOf, timerOk, samplesOk, soundClock};
-ghost use Rattle.timestamp.specs.Floats.{sampleOk};
+ghost use Rattle.clocksync.specs.Clock.{serverSecondsOf, readyOf, timerOk, soundClock};
 ghost use Rattle.refusals.specs.Limits.{sampleRoom};
 use settings::Settings;
-
-mod mean;
-
-pub use mean::mean_of;
 
 // The offset from the client's to the server's clock in seconds, or none yet.
 pub enum Offset {
@@ -201,7 +196,7 @@ impl Clock {
             return false;
         }
         let samples = self.samples;
-        if !samples_sound(samples, n) {
+        if !mean::samples_sound(samples, n) {
             return false;
         }
         if !timer_sound(self.timer) {
@@ -210,7 +205,7 @@ impl Clock {
         let offset = self.offset;
         match offset {
             Offset::NoOffset => true,
-            Offset::Seconds(x) => sample_sound(x),
+            Offset::Seconds(x) => mean::sample_sound(x),
         }
     }
 }
@@ -303,28 +298,6 @@ fn synced(old: Offset, mean: f64, deviation: f64) -> Offset
             }
         }
     }
-}
-
-// Whether a sample, or an offset, is finite and within 2^33.
-pub(crate) fn sample_sound(x: f64) -> bool
-    ensures { λ r. ⌜ r ≡ sampleOk x ⌝ }
-{
-    settings::within(-refusals::LARGEST_SAMPLE, refusals::LARGEST_SAMPLE, x)
-}
-
-// Whether each of the first n is.
-pub fn samples_sound(samples: [f64; 64], n: usize) -> bool
-    requires { ⌜ n ≤ sampleRoom ⌝ }
-    ensures { λ r. ⌜ r ≡ samplesOk (take n samples) ⌝ }
-{
-    let mut i: usize = 0;
-    while i < n {
-        if !sample_sound(samples[i]) {
-            return false;
-        }
-        i += 1;
-    }
-    true
 }
 
 // Whether the timer is finite, which of a value up to 3,600 only minus infinity is not, and at most 3,600.

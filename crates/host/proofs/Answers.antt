@@ -9,8 +9,7 @@ use lib.ListN.{length}
 use lib.Ieee.{Float}
 use borrow.Author.Tests.{eq-eqb, ne-eqb, eqb-true}
 use Rattle.settings.specs.Settings.{samplesPass, storeOf, discardOf}
-use Rattle.clocksync.specs.Mean.{meanOf}
-use Rattle.clocksync.specs.Clock.{samplesOk}
+use Rattle.mean.specs.Mean.{meanOf, samplesOk}
 use Rattle.host.specs.declared.MeanAnswer.{MeanAnswer}
 use Rattle.host.specs.declared.MeanAnswer.the-variants.{Mean, SettingsRefused, SamplesRefused}
 use Rattle.host.specs.Mean.{floatsOf, judgedMean, meanOfStored, meanAnswerOf, meanNumberOf, bufferOf, AnswersMean}

@@ -9,8 +9,7 @@ use lib.ListN.{length, getD, replicate}
 use lib.Ieee.{Float, binary64, ofBits, toBits}
 use Rattle.refusals.specs.Refusals.{accepted, settingsRefusal, samplesRefusal}
 use Rattle.settings.specs.Settings.{samplesPass, storeOf, discardOf}
-use Rattle.clocksync.specs.Mean.{meanOf}
-use Rattle.clocksync.specs.Clock.{samplesOk}
+use Rattle.mean.specs.Mean.{meanOf, samplesOk}
 use Rattle.host.specs.declared.MeanAnswer.{MeanAnswer}
 use Rattle.host.specs.declared.MeanAnswer.the-variants.{Mean, SettingsRefused, SamplesRefused}
 

@@ -96,10 +96,10 @@ fn mean_of_first(samples: &[u8], n: usize, discard: usize) -> MeanAnswer
     ensures { λ r. ⌜ r ≡ judgedMean discard (floatsOf (now (samples .entry)) n) ⌝ }
 {
     let floats = floats_of(samples, n);
-    if !clocksync::samples_sound(floats, n) {
+    if !mean::samples_sound(floats, n) {
         return MeanAnswer::SamplesRefused;
     }
-    MeanAnswer::Mean(clocksync::mean_of(floats, n, discard))
+    MeanAnswer::Mean(mean::mean_of(floats, n, discard))
 }
 
 // The first n floats of bytes, at the front of an array.

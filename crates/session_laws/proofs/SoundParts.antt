@@ -32,7 +32,7 @@ use Rattle.clocksync.specs.declared.Heard.{Heard}
 use Rattle.clocksync.specs.declared.Ticked.{Ticked}
 use Rattle.clocksync.specs.declared.Offset.{Offset}
 use Rattle.clocksync.specs.declared.Offset.the-variants.{NoOffset, Seconds}
-use Rattle.clocksync.specs.Mean.{meanOf}
+use Rattle.mean.specs.Mean.{meanOf}
 use Rattle.clocksync.specs.Clock.{laidOut, heldOf, timedOf, tickedOf, listenOf, heardOf, offsetAfter, sampledOf, filledOf, namedOf, sampleOf, settledOf}
 use Rattle.clocksync.specs.Clock.{serverSecondsOf, readyOf, offsetOk, soundClock}
 use Rattle.clocksync.proofs.Sound.{sample-within, measured-ok, clock-sound, clock-timer-fits}

@@ -2,9 +2,9 @@
 use borrow.Author.Needs.{needs}
 use native.Mathlib.Omega.{arith}
 use Prim.Native.Nat.{_-_}
-use Rattle.clocksync.proofs.Lists.{Sorting, sorting-start, sorting-next, sorting-end}
-use Rattle.clocksync.proofs.mean.sorted.Statement.{statement}
-use Rattle.clocksync.proofs.mean.sorted.Tie as tie
+use Rattle.mean.proofs.Lists.{Sorting, sorting-start, sorting-next, sorting-end}
+use Rattle.mean.proofs.sorted.Statement.{statement}
+use Rattle.mean.proofs.sorted.Tie as tie
 
 abbrev Inv-loop : tie.InvT-loop
 Inv-loop n samples out₀ i₀ out i = Sorting n samples out i

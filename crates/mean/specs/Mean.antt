@@ -1,12 +1,12 @@
 -- Document 01, "src/clocksync.rs": the mean of samples. It sorts, drops both extremes and sums upward from +0.0.
 -- Definitions only. Assumes nothing.
 use Prim.Native.Nat.{ℕ, suc, _-_}
-use mathlib.Core.Bool.{cond}
+use mathlib.Core.Bool.{Bool, true, cond, _&&_}
 use mathlib.Core.List.{List, [], _∷_}
 use lib.IntN.{pos}
 use lib.ListN.{length, take, drop}
 use lib.Ieee.{Float, binary64, lt, add, div, ofInt}
-use Rattle.timestamp.specs.Floats.{zero64}
+use Rattle.timestamp.specs.Floats.{zero64, sampleOk}
 
 -- x in a sorted list: before the first that is greater, so after those that are equal to it, -0.0 and +0.0 among them
 unfoldable pub sampleInserted : Float → List Float → List Float
@@ -43,3 +43,8 @@ averageOf xs = div binary64 (sumFrom zero64 xs) (ofInt binary64 (pos (length xs)
 -- the mean of the samples, d of them dropped at each extreme
 unfoldable pub meanOf : ℕ → List Float → Float
 meanOf d xs = averageOf (innerOf d (sortedOf xs))
+
+-- every sample is finite and within 2^33 (`sampleOk`), as those that a clock keeps and those that the exported mean takes
+unfoldable pub samplesOk : List Float → Bool
+samplesOk [] = true
+samplesOk (x ∷ xs) = sampleOk x && samplesOk xs

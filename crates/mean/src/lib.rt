@@ -2,8 +2,8 @@
 ghost use mathlib.Core.Path.{_≡_};
 ghost use Prim.Native.Nat.{_+_, _-_, _≤_, _<_, min};
 ghost use lib.ListN.{take, drop};
-ghost use Rattle.clocksync.specs.Mean.{sampleInserted, placeOf, sortedOf, sumFrom, meanOf};
-ghost use Rattle.timestamp.specs.Floats.{zero64};
+ghost use Rattle.mean.specs.Mean.{sampleInserted, placeOf, sortedOf, sumFrom, meanOf, samplesOk};
+ghost use Rattle.timestamp.specs.Floats.{zero64, sampleOk};
 ghost use Rattle.refusals.specs.Limits.{sampleRoom};
 
 // The mean of the first `len` samples (of as many as a clock has slots): sorted, `discard` of them left out at each end, summed upward from +0.0.
@@ -80,15 +80,37 @@ fn sum_between(samples: [f64; 64], start: usize, end: usize) -> f64
 }
 
 // The smaller of two counts.
-pub(crate) fn least(a: usize, b: usize) -> usize
+pub fn least(a: usize, b: usize) -> usize
     ensures { λ r. ⌜ r ≡ min a b ⌝ }
 {
     if a < b { a } else { b }
 }
 
 // A count less another, and 0 where that is more.
-pub(crate) fn less(a: usize, b: usize) -> usize
+pub fn less(a: usize, b: usize) -> usize
     ensures { λ r. ⌜ r ≡ a - b ⌝ }
 {
     if a < b { 0 } else { a - b }
+}
+
+// Whether a sample, or an offset, is finite and within 2^33.
+pub fn sample_sound(x: f64) -> bool
+    ensures { λ r. ⌜ r ≡ sampleOk x ⌝ }
+{
+    settings::within(-refusals::LARGEST_SAMPLE, refusals::LARGEST_SAMPLE, x)
+}
+
+// Whether each of the first n is.
+pub fn samples_sound(samples: [f64; 64], n: usize) -> bool
+    requires { ⌜ n ≤ sampleRoom ⌝ }
+    ensures { λ r. ⌜ r ≡ samplesOk (take n samples) ⌝ }
+{
+    let mut i: usize = 0;
+    while i < n {
+        if !sample_sound(samples[i]) {
+            return false;
+        }
+        i += 1;
+    }
+    true
 }

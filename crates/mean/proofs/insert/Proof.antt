@@ -3,10 +3,10 @@ use borrow.Author.Needs.{needs}
 use native.Mathlib.Omega.{arith}
 use Prim.Native.Nat.{_-_}
 use lib.ListN.{take}
-use Rattle.clocksync.specs.Mean.{sampleInserted}
-use Rattle.clocksync.proofs.Lists.{Moving, moving-start, moving-next, moving-end}
-use Rattle.clocksync.proofs.mean.insert.Statement.{statement}
-use Rattle.clocksync.proofs.mean.insert.Tie as tie
+use Rattle.mean.specs.Mean.{sampleInserted}
+use Rattle.mean.proofs.Lists.{Moving, moving-start, moving-next, moving-end}
+use Rattle.mean.proofs.insert.Statement.{statement}
+use Rattle.mean.proofs.insert.Tie as tie
 
 abbrev Inv-loop : tie.InvT-loop
 Inv-loop n x out₀ moved₀ i₀ out moved i = Moving (sampleInserted x (take n out₀)) n out moved i

@@ -5,11 +5,11 @@ use mathlib.Core.Path.{refl}
 use Prim.Native.Nat.{_-_}
 use lib.Seq.{slice}
 use lib.Ieee.{ofBits}
-use Rattle.clocksync.specs.Mean.{sumFrom}
+use Rattle.mean.specs.Mean.{sumFrom}
 use Rattle.timestamp.specs.Floats.{zero64}
-use Rattle.clocksync.proofs.Lists.{Summing, summing-next, summing-end}
-use Rattle.clocksync.proofs.mean.sum_between.Statement.{statement}
-use Rattle.clocksync.proofs.mean.sum_between.Tie as tie
+use Rattle.mean.proofs.Lists.{Summing, summing-next, summing-end}
+use Rattle.mean.proofs.sum_between.Statement.{statement}
+use Rattle.mean.proofs.sum_between.Tie as tie
 
 abbrev Inv-loop : tie.InvT-loop
 Inv-loop start end samples sum₀ i₀ sum i = Summing (sumFrom zero64 (slice start end samples)) end samples sum i

@@ -1,8 +1,8 @@
 -- `mean_of` meets its contract: sorted, cut at both ends, summed and divided. Assumes nothing.
 use borrow.Author.Needs.{needs}
-use Rattle.clocksync.proofs.Samples.{mean-is}
-use Rattle.clocksync.proofs.mean.mean_of.Statement.{statement}
-use Rattle.clocksync.proofs.mean.mean_of.Tie as tie
+use Rattle.mean.proofs.Means.{mean-is}
+use Rattle.mean.proofs.mean_of.Statement.{statement}
+use Rattle.mean.proofs.mean_of.Tie as tie
 
 least-requires : tie.Need-least-requires
 least-requires c κs = search needs

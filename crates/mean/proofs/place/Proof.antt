@@ -2,9 +2,9 @@
 use borrow.Author.Needs.{needs}
 use native.Mathlib.Omega.{arith}
 use Prim.Native.Nat.{_-_}
-use Rattle.clocksync.proofs.Lists.{Placing, placing-start, placing-found, placing-next, placing-end}
-use Rattle.clocksync.proofs.mean.place.Statement.{statement}
-use Rattle.clocksync.proofs.mean.place.Tie as tie
+use Rattle.mean.proofs.Lists.{Placing, placing-start, placing-found, placing-next, placing-end}
+use Rattle.mean.proofs.place.Statement.{statement}
+use Rattle.mean.proofs.place.Tie as tie
 
 abbrev Inv-loop : tie.InvT-loop
 Inv-loop n x samples i₀ i = Placing x n samples i

@@ -14,8 +14,8 @@ use lib.Ieee.Scale.{finite}
 use Rattle.float_laws.specs.Fractions.{val, Same}
 use Rattle.float_laws.proofs.Value.{q-le-refl, le-of-val}
 use Rattle.float_laws.proofs.Order.{float-le-trans, float-le-of-lt, float-le-of-not-lt}
-use Rattle.clocksync.specs.Mean.{sampleInserted, sortedOnto, sortedOf}
-use Rattle.clocksync.specs.Order.{All, AllFinite, AtMost, Ordered, Permutes}
+use Rattle.mean.specs.Mean.{sampleInserted, sortedOnto, sortedOf}
+use Rattle.mean.specs.Order.{All, AllFinite, AtMost, Ordered, Permutes}
 
 -- ---- in order
 

@@ -1,8 +1,8 @@
 -- `sample_sound` meets its contract. Assumes nothing.
 use borrow.Author.Needs.{needs}
 use lib.Ieee.{ofBits, neg}
-use Rattle.clocksync.proofs.sample_sound.Statement.{statement}
-use Rattle.clocksync.proofs.sample_sound.Tie as tie
+use Rattle.mean.proofs.sample_sound.Statement.{statement}
+use Rattle.mean.proofs.sample_sound.Tie as tie
 
 within-requires : tie.Need-within-requires
 within-requires c κs = search needs

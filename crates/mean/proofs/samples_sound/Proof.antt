@@ -3,9 +3,9 @@ use borrow.Author.Needs.{needs}
 use native.Mathlib.Omega.{arith}
 use Prim.Native.Nat.{_-_}
 use Rattle.timestamp.proofs.Tests.{fails, holds}
-use Rattle.clocksync.proofs.Lists.{Testing, testing-start, testing-no, testing-next, testing-end}
-use Rattle.clocksync.proofs.samples_sound.Statement.{statement}
-use Rattle.clocksync.proofs.samples_sound.Tie as tie
+use Rattle.mean.proofs.Lists.{Testing, testing-start, testing-no, testing-next, testing-end}
+use Rattle.mean.proofs.samples_sound.Statement.{statement}
+use Rattle.mean.proofs.samples_sound.Tie as tie
 
 abbrev Inv-loop : tie.InvT-loop
 Inv-loop n samples i₀ i = Testing n samples i

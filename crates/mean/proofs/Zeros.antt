@@ -22,10 +22,10 @@ use Rattle.float_laws.specs.Fractions.{Same, sgn, rnd}
 use Rattle.float_laws.proofs.Value.{le-to-val}
 use Rattle.float_laws.proofs.Round.{rnd-at-most}
 use Rattle.settings.proofs.Discard.{plus, round-plus}
-use Rattle.clocksync.specs.Mean.{sortedOf, innerOf, sumFrom, averageOf, meanOf}
+use Rattle.mean.specs.Mean.{sortedOf, innerOf, sumFrom, averageOf, meanOf}
 use Rattle.timestamp.specs.Floats.{zero64}
-use Rattle.clocksync.specs.Order.{All, AllFinite, AllFit, Ordered, Permutes}
-use Rattle.clocksync.proofs.Sort.{AllSame, sorted-permutes, permuted-all, any-order}
+use Rattle.mean.specs.Order.{All, AllFinite, AllFit, Ordered, Permutes}
+use Rattle.mean.proofs.Sort.{AllSame, sorted-permutes, permuted-all, any-order}
 
 -- any value but -0.0
 abbrev pub proper : Float → Bool

@@ -1,0 +1,4 @@
+pub mod Lists
+pub mod Means
+pub mod Sort
+pub mod Zeros

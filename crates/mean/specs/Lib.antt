@@ -1,0 +1,2 @@
+pub mod Mean
+pub mod Order
