@@ -8,7 +8,8 @@ use Rattle.settings.specs.Settings.{lagFramesOf, discardOf, secondsPass, thresh
 use Rattle.clocksync.specs.Offset.{offsetOf}
 use Rattle.mean.specs.Mean.{sampleInserted, sortedOnto, sortedOf, sumFrom, averageOf, meanOf, samplesOk}
 use Rattle.clocksync.specs.Clock.{heldOf, newOf, tickedOf, heardOf, filledOf, settledOf, timerOk, soundClock}
-use Rattle.inbox.specs.Inbox.{floatBitsOf, inboxTimeOf, clockOf, frontOf, messagesAfter, refusalIn, refusalOf}
+use Rattle.inbox.specs.Inbox.{floatBitsOf, inboxTimeOf, clockOf, frontOf, messagesAfter}
+use Rattle.inbox_refusal.specs.Refusal.{refusalIn, refusalOf}
 use Rattle.command.specs.Buffer.{laid, inRangeOf, dueOf, laterThan, placedOf, insertedOf, leaving, droppedOf, movedOf, takenOf, restOf, commandWords}
 use Rattle.command.specs.Soundness.{inOrderAfter, inOrder, soundBuffer}
 use Rattle.tape.specs.Words.{stepWord, commandWord, snapshotWord, publishWord, noneWord}

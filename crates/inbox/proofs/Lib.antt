@@ -1,7 +1,6 @@
 pub mod Words
 pub mod Times
 pub mod Messages
-pub mod Refusals
 pub mod Passes
 pub mod Passing
 pub mod Bounds

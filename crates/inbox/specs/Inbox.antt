@@ -1,5 +1,4 @@
--- The words of an inbox as document 01 has them under "Inbox and tape", with refusals 3 to 6 of "Turned down by the input". A word is a natural number below 2
--- ^ 32. Definitions only. Assumes nothing.
+-- The words of an inbox as document 01 has them under "Inbox and tape". A word is a natural number below 2 ^ 32. Definitions only. Assumes nothing.
 use Prim.Native.Nat.{ℕ, zero, suc, _+_, _-_, _*_, _/_, _%_, _^_}
 use mathlib.Core.Bool.{Bool, true, false, cond, _&&_, _||_}
 use mathlib.Core.List.{List, [], _∷_}
@@ -7,8 +6,7 @@ use lib.ListN.{length, drop}
 use lib.Dec.{ltb, eqb}
 use lib.Ieee.{Float, binary64, ofBits}
 use Rattle.timestamp.specs.Floats.{timeOk}
-use Rattle.refusals.specs.Limits.{mostWords, handleRoom}
-use Rattle.refusals.specs.Refusals.{accepted, lengthRefusal, wordRefusal, cutRefusal, clockTimeRefusal}
+use Rattle.refusals.specs.Limits.{handleRoom}
 use Rattle.timestamp.specs.declared.Timestamp.{Timestamp}
 use Rattle.inbox.specs.declared.Word.{Word}
 use Rattle.inbox.specs.declared.Word.the-variants.{Value, Wrong, Missing}
@@ -151,37 +149,7 @@ stepIn at (w ∷ ws) = stepBy at (frontOf w ws)
 unfoldable pub readAt : List ℕ → ℕ → Step
 readAt ws at = stepIn at (drop at ws)
 
--- ---- refusals
-
--- the number of 01 for each case: 4 a word of wrong kind, place or spare bits, 5 the inbox ends inside a message, 6 a clock time not finite or beyond 2 ^ 32,
--- and 0 for a message
-abbrev pub messageNumberOf : Message → ℕ
-messageNumberOf (Command s h) = accepted
-messageNumberOf (Snapshot s h) = accepted
-messageNumberOf (Clock i s t) = accepted
-messageNumberOf BadTime = clockTimeRefusal
-messageNumberOf WrongWord = wordRefusal
-messageNumberOf CutShort = cutRefusal
-
--- the lower of two refusals, where 0 is none
-abbrev pub lowestOf : ℕ → ℕ → ℕ
-lowestOf a b = cond (eqb a 0) b (cond (eqb b 0) a (cond (ltb b a) b a))
-
--- whether a message stands for the refusal n
-abbrev pub isRefused : ℕ → Message → Bool
-isRefused n m = eqb (messageNumberOf m) n
-
 -- whether some message of a list passes a test
 abbrev pub some : (Message → Bool) → List Message → Bool
 some p [] = false
 some p (m ∷ ms) = p m || some p ms
-
--- the lowest number of a list's messages: 4 anywhere, then 5, then 6, or 0
-unfoldable pub refusalIn : List Message → ℕ
-refusalIn ms =
-    cond (some (isRefused wordRefusal) ms) wordRefusal
-    (cond (some (isRefused cutRefusal) ms) cutRefusal (cond (some (isRefused clockTimeRefusal) ms) clockTimeRefusal accepted))
-
--- the refusal of an inbox: 3 over 4,096 words, then that of its messages; 0 where it is accepted
-unfoldable pub refusalOf : List ℕ → ℕ
-refusalOf ws = cond (ltb mostWords (length ws)) lengthRefusal (refusalIn (messagesOf ws))

@@ -1,4 +1,3 @@
 pub mod Inbox
 pub mod Reader
 pub mod Passes
-pub mod Inner

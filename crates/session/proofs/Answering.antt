@@ -19,7 +19,7 @@ use Rattle.clocksync.specs.declared.Clock.{Clock}
 use Rattle.clocksync.specs.declared.Heard.{Heard}
 use Rattle.clocksync.specs.declared.Ticked.{Ticked}
 use Rattle.clocksync.specs.Clock.{tickedOf, listenOf, settledOf, serverSecondsOf}
-use Rattle.inbox.specs.Inbox.{refusalOf}
+use Rattle.inbox_refusal.specs.Refusal.{refusalOf}
 use Rattle.tape.specs.Tape.{cleared}
 use Rattle.tape.proofs.Writing.{puts-length, cleared-after}
 use Rattle.client.specs.declared.ClientWorldSimulations.{ClientWorldSimulations}

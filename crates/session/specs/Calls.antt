@@ -14,7 +14,7 @@ use Rattle.clocksync.specs.declared.Clock.{Clock}
 use Rattle.clocksync.specs.declared.ServerTime.{ServerTime}
 use Rattle.clocksync.specs.declared.ServerTime.the-variants.{NoTime, At}
 use Rattle.clocksync.specs.Clock.{newOf, tickedOf, listenOf, settledOf, serverSecondsOf}
-use Rattle.inbox.specs.Inbox.{refusalOf}
+use Rattle.inbox_refusal.specs.Refusal.{refusalOf}
 use Rattle.client.specs.declared.Scene.{Scene}
 use Rattle.client.specs.declared.Received.{Received}
 use Rattle.client.specs.Sides.{newWorldsOf, withWorlds}

@@ -58,7 +58,7 @@ pub(crate) fn refused_at_once(session: Session, delta: f64, seconds: f64, inbox:
     let times = times_ok(delta, seconds);
     refusals::at_once(
         times,
-        inbox::refusal(inbox),
+        inbox_refusal::refusal(inbox),
         session_state::is_sound(session),
     )
 }

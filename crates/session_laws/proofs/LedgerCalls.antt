@@ -13,7 +13,8 @@ use Rattle.tape.proofs.Counting.{commands-on-append, commands-on-zeros}
 use Rattle.clocksync.specs.declared.Clock.{Clock}
 use Rattle.inbox.specs.declared.Message.{Message}
 use Rattle.inbox.specs.declared.Message.the-variants.{Command, Snapshot, Clock as Timed, BadTime, WrongWord, CutShort}
-use Rattle.inbox.specs.Inbox.{messagesOf, messagesAfter, frontOf, refusalOf}
+use Rattle.inbox.specs.Inbox.{messagesOf, messagesAfter, frontOf}
+use Rattle.inbox_refusal.specs.Refusal.{refusalOf}
 use Rattle.inbox.specs.Passes.{over}
 use Rattle.inbox.proofs.Refusals.{accepted-few}
 use Rattle.command.specs.Buffer.{held}

@@ -14,7 +14,7 @@ use Rattle.refusals.specs.Limits.{handleRoom}
 use Rattle.refusals.specs.Refusals.{accepted, syncingRefusalBy, arrivalRefusalBy, endRefusalBy}
 use Rattle.refusals.specs.declared.Stop.the-variants.{Done}
 use Rattle.refusals.proofs.Accepted.{once-accepted, end-accepted, issue-accepted}
-use Rattle.inbox.specs.Inbox.{refusalOf}
+use Rattle.inbox_refusal.specs.Refusal.{refusalOf}
 use Rattle.client_publish.specs.Ending.{weightOk}
 use Rattle.timestamp.specs.Floats.{tweenOf}
 use Rattle.fixed_timestepper.specs.TimeKeeper.{Run}

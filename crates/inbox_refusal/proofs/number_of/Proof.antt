@@ -1,9 +1,9 @@
 -- `number_of` meets its contract: each case has its number. Assumes nothing.
 use borrow.Author.Needs.{needs}
 use mathlib.Core.Path.{sym, ap}
-use Rattle.inbox.specs.Inbox.{messageNumberOf}
-use Rattle.inbox.proofs.number_of.Statement.{statement}
-use Rattle.inbox.proofs.number_of.Tie as tie
+use Rattle.inbox_refusal.specs.Refusal.{messageNumberOf}
+use Rattle.inbox_refusal.proofs.number_of.Statement.{statement}
+use Rattle.inbox_refusal.proofs.number_of.Tie as tie
 
 enum-told : tie.Need-enum-told
 enum-told c = search needs

@@ -1,8 +1,8 @@
 -- `lowest_with` meets its contract: the lower of a refusal and a message's number. Assumes nothing.
 use borrow.Author.Needs.{needs}
-use Rattle.inbox.proofs.Refusals.{lowest-with}
-use Rattle.inbox.proofs.lowest_with.Statement.{statement}
-use Rattle.inbox.proofs.lowest_with.Tie as tie
+use Rattle.inbox_refusal.proofs.Refusals.{lowest-with}
+use Rattle.inbox_refusal.proofs.lowest_with.Statement.{statement}
+use Rattle.inbox_refusal.proofs.lowest_with.Tie as tie
 
 number-of-requires : tie.Need-number-of-requires
 number-of-requires c κs = search needs

@@ -2,9 +2,9 @@
 use borrow.Author.Needs.{needs}
 use native.Mathlib.Omega.{arith}
 use denote.Ref.{now}
-use Rattle.inbox.proofs.Refusals.{refusal-long, refusal-found}
-use Rattle.inbox.proofs.refusal.Statement.{statement}
-use Rattle.inbox.proofs.refusal.Tie as tie
+use Rattle.inbox_refusal.proofs.Refusals.{refusal-long, refusal-found}
+use Rattle.inbox_refusal.proofs.refusal.Statement.{statement}
+use Rattle.inbox_refusal.proofs.refusal.Tie as tie
 
 returns : tie.Need-returns
 returns c = refusal-long (now (c .before .before .args .words)) (omega arith)

@@ -8,11 +8,12 @@ use native.Mathlib.Omega.{arith}
 use lib.ListN.{length}
 use lib.Dec.{ltb}
 use borrow.Author.Tests.{lt-ltb, le-ltb, ltb-true, ltb-false, eq-eqb, ne-eqb}
 use Rattle.inbox.specs.declared.Message.{Message}
 use Rattle.inbox.specs.declared.Message.the-variants.{Command, Snapshot, Clock, BadTime, WrongWord, CutShort}
-use Rattle.inbox.specs.Inbox.{messagesOf, messageNumberOf, lowestOf, isRefused, some, refusalIn, refusalOf}
-use Rattle.inbox.specs.Inner.{lowestWith, lowestIn}
+use Rattle.inbox.specs.Inbox.{messagesOf, some}
+use Rattle.inbox_refusal.specs.Refusal.{messageNumberOf, lowestOf, isRefused, refusalIn, refusalOf}
+use Rattle.inbox_refusal.specs.Inner.{lowestWith, lowestIn}
 use Rattle.inbox.specs.Passes.{over}
 
 -- ---- the lower of two refusals, by the tests that pick it
 module _ (a b : ℕ) where

@@ -1,9 +1,9 @@
 -- `lowest` meets its contract: each test says which of the two is picked. Assumes nothing.
 use native.Mathlib.Omega.{arith}
 use mathlib.Core.Path.{_≡_}
-use Rattle.inbox.proofs.Refusals.{lowest-other, lowest-only, lowest-second, lowest-first}
-use Rattle.inbox.proofs.lowest.Statement.{statement}
-use Rattle.inbox.proofs.lowest.Tie as tie
+use Rattle.inbox_refusal.proofs.Refusals.{lowest-other, lowest-only, lowest-second, lowest-first}
+use Rattle.inbox_refusal.proofs.lowest.Statement.{statement}
+use Rattle.inbox_refusal.proofs.lowest.Tie as tie
 
 returns : tie.Need-returns
 returns c = let x = c .before .args in lowest-other (x .a) (x .b) (omega arith)

@@ -2,8 +2,9 @@
 -- Definitions only. Assumes nothing.
 use Prim.Native.Nat.{ℕ}
 use mathlib.Core.List.{List}
 use Rattle.inbox.specs.declared.Message.{Message}
-use Rattle.inbox.specs.Inbox.{messagesOf, messageNumberOf, lowestOf, refusalIn}
+use Rattle.inbox.specs.Inbox.{messagesOf}
+use Rattle.inbox_refusal.specs.Refusal.{messageNumberOf, lowestOf, refusalIn}
 
 -- the lower of a refusal and the one that a message stands for
 abbrev pub lowestWith : ℕ → Message → ℕ
