@@ -18,7 +18,8 @@ use Rattle.client.specs.Sides.{newSideOf, oldSideOf, worldOf, withWorld, oldSta
 use Rattle.client.specs.Status.{laterOf, overshotOf, newerOf, statusOf}
 use Rattle.client_receive.specs.Receive.{offeredBase, offeredSide, receivedOf, fromFutureOf, freshOf, notedOf, snapshotsBy, snapshotsOf, notesOf}
 use Rattle.client_publish.specs.Publish.{publishedNone, publishedSide, publishedOld, publishedBlended}
-use Rattle.client_frame.specs.Frame.{readiedWith, loadedAt, loadedOf, loadedQueued, blendedOn, openedOf, steppedSide, caughtUpOf, steppedNew, caughtOf}
+use Rattle.client_load.specs.Load.{readiedWith, loadedAt, loadedOf}
+use Rattle.client_frame.specs.Frame.{loadedQueued, blendedOn, openedOf, steppedSide, caughtUpOf, steppedNew, caughtOf}
 use Rattle.client_frame.specs.Frame.{simulatedOf, shownOf, stopsOf, snapshotOf, frameOpened, frameOf, frameStops}
 use Rattle.client_publish.specs.Ending.{weightOk, timeOf, displayedOf, revisedOf, postUpdateOf}
 use Rattle.fixed_timestepper.specs.TimeKeeper.{logicalOf, driftOf, uncappedOf, compensatedOf, framed, runOf, skipsOf, maybeSkipped, unendedOf, advancedOf}

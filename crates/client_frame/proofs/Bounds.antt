@@ -23,7 +23,8 @@ use Rattle.client.specs.declared.Scene.{Scene}
 use Rattle.client.specs.Sides.{worldOf, withWorld, withLedger, putOf, Played, still, andThen, doneAt}
 use Rattle.client.specs.Status.{statusOf}
 use Rattle.client_publish.proofs.Telling.{Telling, of-none, of-side, of-mix, told}
-use Rattle.client_frame.specs.Frame.{readiedWith, loadedAt, loadedOf, openedOf, steppedSide, steppedNew, simulatedOf, frameOf}
+use Rattle.client_load.specs.Load.{readiedWith, loadedAt, loadedOf}
+use Rattle.client_frame.specs.Frame.{openedOf, steppedSide, steppedNew, simulatedOf, frameOf}
 use Rattle.client_frame.proofs.Induction.{Law, Chains, resetAt, Steps, Moves, stepped-new-by, simulated-by, opened-by, parts-by, frame-by}
 use Rattle.client_frame.specs.declared.Rules.{Rules}
 

@@ -20,7 +20,8 @@ use Rattle.client.specs.Sides.{newSideOf, oldSideOf, worldOf, withWeight, withW
 use Rattle.client.specs.Status.{statusOf}
 use Rattle.client_publish.proofs.Telling.{Telling, publishes, old-by, blended-by}
 use Rattle.client_frame.specs.declared.Rules.{Rules}
-use Rattle.client_frame.specs.Frame.{loadedOf, loadedQueued, blendedOn, resetNew, openedOf, steppedSide, caughtUpOf, withStep, steppedNew, unless}
+use Rattle.client_load.specs.Load.{loadedOf}
+use Rattle.client_frame.specs.Frame.{loadedQueued, blendedOn, resetNew, openedOf, steppedSide, caughtUpOf, withStep, steppedNew, unless}
 use Rattle.client_frame.specs.Frame.{caughtOf, simulatedOf, blendedBy, publishedBy, shownOf, snapshotOf, frameOpened, frameOf}
 
 -- ---- one thing and then another

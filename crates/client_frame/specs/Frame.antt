@@ -2,18 +2,15 @@
 -- refusal 26. Definitions only. Assumes nothing.
 use Prim.Native.Nat.{ℕ, zero, suc, _+_, _%_, _^_}
 use mathlib.Core.Bool.{Bool, true, false, cond}
-use mathlib.Core.List.{List, [], _∷_}
+use mathlib.Core.List.{List}
 use mathlib.Core.Path.{_≡_}
 use lib.Dec.{eqb, ltb}
 use lib.Ieee.{Float, binary64, add}
-use Rattle.timestamp.specs.Floats.{zero64, clampedOf}
+use Rattle.timestamp.specs.Floats.{clampedOf}
 use Rattle.timestamp.specs.declared.Timestamp.{Timestamp}
 use Rattle.timestamp.specs.Timestamps.{orderOf, differenceOf}
 use Rattle.tape.specs.Tape.{Puts}
-use Rattle.tape.specs.Words.{snapshotWord}
-use Rattle.command.specs.declared.CommandBuffer.{CommandBuffer}
-use Rattle.command.specs.Buffer.{restOf}
-use Rattle.simulation.specs.World.{stepOf, resetOf, loadOf, isLess, Load}
+use Rattle.simulation.specs.World.{stepOf, resetOf, isLess}
 use Rattle.client.specs.declared.FastforwardingHealth.the-variants.{Healthy, Obsolete, Overshot}
 use Rattle.client.specs.declared.ReconciliationStatus.{ReconciliationStatus}
 use Rattle.client.specs.declared.ReconciliationStatus.the-variants.{AwaitingSnapshot, Fastforwarding, Blending}
@@ -22,11 +19,11 @@ use Rattle.client.specs.declared.Queued.the-variants.{Nothing, Held}
 use Rattle.client.specs.declared.ClientWorldSimulations.{ClientWorldSimulations}
 use Rattle.client.specs.declared.Scene.{Scene}
 use Rattle.client.specs.declared.Framed.{Framed}
-use Rattle.client.specs.Ledgers.{loads}
-use Rattle.client.specs.Sides.{newSideOf, oldSideOf, worldOf, withWorld, withWeight, withWorlds, withLedger, ledgerOf, oldStampOf, newStampOf, Played, still}
-use Rattle.client.specs.Sides.{andThen, doneAt, withBase, withNew, withSnapshots, withSteps}
+use Rattle.client.specs.Sides.{newSideOf, oldSideOf, worldOf, withWeight, withWorlds, oldStampOf, newStampOf, Played, still}
+use Rattle.client.specs.Sides.{andThen, doneAt, withSteps}
 use Rattle.client.specs.Status.{statusOf}
 use Rattle.client_publish.specs.Publish.{publishedOld, publishedBlended}
+use Rattle.client_load.specs.Load.{loadedOf}
 use Rattle.client_frame.specs.declared.Rules.{Rules}
 
 -- the snapshot that a frame of this status loads
@@ -36,30 +33,6 @@ loadsOf (Blending t) q = Nothing
 loadsOf (Fastforwarding Healthy) q = Nothing
 loadsOf (Fastforwarding Obsolete) q = q
 loadsOf (Fastforwarding Overshot) q = Nothing
-
--- the worlds as a load into a side leaves them beside the world that it loads: that side is new, nothing is queued, the weight is 0, and the base is another
-unfoldable pub readiedWith : ClientWorldSimulations → ℕ → CommandBuffer → ClientWorldSimulations
-readiedWith w side b =
-    withBase
-    (withNew
-    (withWeight
-    (withSnapshots w (record { queued = Nothing; lastqueued = w .snapshots .lastqueued; lastreceived = w .snapshots .lastreceived }))
-    zero64)
-    side)
-    b
-
--- a load l is put at a side beside the base b, and counted in the side's ledger; h is the snapshot's handle
-unfoldable pub loadedAt : Scene → ℕ → CommandBuffer → ℕ → Load → Played
-loadedAt s side b h l =
-    record {
-      scene = withLedger (withWorlds s (withWorld (readiedWith (s .worlds) side b) side (l .world))) side
-          (loads (ledgerOf s side) (l .copied) (l .replaced) (l .leftout));
-      words = snapshotWord side h ∷ [];
-    }
-
--- a snapshot with the stamp t and the handle h is loaded into a side: the base is drained to it before it is copied
-unfoldable pub loadedOf : Scene → ℕ → Timestamp → ℕ → Played
-loadedOf s side t h = loadedAt s side (restOf (s .worlds .base) t) h (loadOf (worldOf (s .worlds) side) (restOf (s .worlds .base) t) t)
 
 -- the queued snapshot is loaded into a side, where there is one
 unfoldable pub loadedQueued : Scene → Queued → ℕ → Played

@@ -6,7 +6,7 @@ ghost use Prim.Native.Nat.{_<_, _≤_};
 ghost use Rattle.refusals.specs.Limits.{mostSteps};
 ghost use Rattle.client.specs.Sides.{Plays, oldStampOf};
 ghost use Rattle.client_publish.specs.Inner.{States};
-ghost use Rattle.client_frame.specs.Frame.{loadsOf, readiedWith, loadedOf, blendedOn, resetNew, openedOf, steppedSide, caughtUpOf, caughtOf, simulatedOf};
+ghost use Rattle.client_frame.specs.Frame.{loadsOf, blendedOn, resetNew, openedOf, steppedSide, caughtUpOf, caughtOf, simulatedOf};
 ghost use Rattle.client_frame.specs.Frame.{blendedBy, publishedBy, isObsolete, tooFarOf, stopsOf, shownOf, frameOf, frameStops, Frames};
 ghost use Rattle.timestamp.specs.Floats.{clampedOf};
 ghost use Rattle.client_frame.specs.Inner.{putBack};
@@ -18,12 +18,10 @@ use client::Queued;
 use client::ReconciliationStatus;
 use client::Scene;
 use client::Shown;
-use client::Snapshots;
 use client::ledgers;
 use client::sides;
 use client::status;
 use client_publish::Stated;
-use command::CommandBuffer;
 use simulation::Simulation;
 use timestamp::Ordering;
 use timestamp::Timestamp;
@@ -46,69 +44,6 @@ pub(crate) fn loads(t: ReconciliationStatus, q: Queued) -> Queued
             FastforwardingHealth::Obsolete => q,
             FastforwardingHealth::Overshot => Queued::Nothing,
         },
-    }
-}
-
-// The worlds as a load into a side leaves them beside the world that it loads: that side new, nothing queued, the weight 0, and the
-// drained base.
-pub(crate) fn readied(
-    w: ClientWorldSimulations,
-    side: u32,
-    base: CommandBuffer,
-) -> ClientWorldSimulations
-    ensures { λ r. ⌜ r ≡ readiedWith w side base ⌝ }
-{
-    let s = w.snapshots;
-    let none = Queued::Nothing;
-    let last = s.lastqueued;
-    let received = s.lastreceived;
-    let next = Snapshots {
-        queued: none,
-        lastqueued: last,
-        lastreceived: received,
-    };
-    let mut t = w;
-    t.snapshots = next;
-    t.weight = 0.0;
-    t.new = side;
-    t.base = base;
-    t
-}
-
-// A snapshot is loaded into a side, which is the new one from then on. The base is drained up to it before it is copied.
-pub(crate) fn load_snapshot(
-    s: Scene,
-    side: u32,
-    stamp: Timestamp,
-    handle: u32,
-    tape: &mut [u32],
-    at: usize,
-) -> Shown
-    requires { ⌜ at < 3000000000 ⌝ }
-    ensures { λ r. ⌜ Plays (loadedOf s side stamp handle) (now (tape .entry)) at r (now (tape .exit)) ⌝ }
-{
-    let w = s.worlds;
-    let b = w.base;
-    let d = command::drain_up_to(b, stamp);
-    let base = d.buffer;
-    let r = simulation::apply_completed_snapshot(
-        sides::get_side(w, side),
-        base,
-        stamp,
-        handle,
-        side,
-        tape,
-        at,
-    );
-    let sim = r.world;
-    let v = readied(w, side, base);
-    let put = sides::set_side(v, side, sim);
-    let l = ledgers::count_load(sides::get_ledger(s, side), r.copied, r.replaced, r.leftout);
-    let mut t = s;
-    t.worlds = put;
-    Shown {
-        scene: sides::set_ledger(t, side, l),
-        at: r.at,
     }
 }
 
@@ -174,7 +109,7 @@ pub(crate) fn open(
     match t {
         ReconciliationStatus::AwaitingSnapshot => match q {
             Queued::Nothing => Shown { scene: s, at },
-            Queued::Held { stamp, handle } => load_snapshot(
+            Queued::Held { stamp, handle } => client_load::load_snapshot(
                 s,
                 sides::old_side(s.worlds),
                 stamp,
@@ -191,7 +126,7 @@ pub(crate) fn open(
             FastforwardingHealth::Healthy => Shown { scene: s, at },
             FastforwardingHealth::Obsolete => match q {
                 Queued::Nothing => Shown { scene: s, at },
-                Queued::Held { stamp, handle } => load_snapshot(
+                Queued::Held { stamp, handle } => client_load::load_snapshot(
                     s,
                     sides::new_side(s.worlds),
                     stamp,

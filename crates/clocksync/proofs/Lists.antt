@@ -1,14 +1,13 @@
 -- Lists in the 64 slots of an array, and what the loops over an array keep. Assumes nothing.
-use mathlib.Core.Path.{_≡_, refl, sym, ap, _∙_}
-use mathlib.Core.List.{List, [], _∷_, _++_, append-assoc}
-use mathlib.Core.Bool.{Bool, true, false, cond, _&&_}
+use mathlib.Core.Path.{_≡_, sym, ap, _∙_}
+use mathlib.Core.List.{List, [], _∷_, _++_}
 use Prim.Native.Nat.{ℕ, zero, suc, _+_, _-_, _≤_, _<_}
 use native.Mathlib.Nat.{le-of-suc-le-suc, not-suc-le-zero}
-use native.Mathlib.Numerals.{add-one, unary-clauses}
+use native.Mathlib.Numerals.{unary-clauses}
 use native.Mathlib.Omega.{arith}
-use lib.ListN.{length, take, drop, getD, set, replicate, length-append, length-take, length-drop, length-set, drop-of-length-le}
-use lib.Seq.{slice, slice-cons, take-suc, take-take, drop-append-le, take-suc-set, take-set-lt, drop-set-lt, take-append-seam}
-use lib.Ieee.{Float, nan, binary64, lt, add}
+use lib.ListN.{length, take, drop, getD, set, replicate, length-append, length-take, length-drop}
+use lib.Seq.{slice, take-append-seam}
+use lib.Ieee.{Float, nan}
 use Rattle.timestamp.specs.Floats.{zero64}
 use Rattle.clocksync.specs.Clock.{laidOut}
 use Rattle.mean.proofs.Lists.{slice-more, slice-none}

@@ -2,14 +2,12 @@
 use mathlib.Core.Path.{_≡_, refl, sym, ap, _∙_}
 use mathlib.Core.List.{List, [], _∷_, _++_}
 use mathlib.Core.Bool.{Bool, true, false, cond}
-use Prim.Native.Nat.{ℕ, zero, suc, _+_, _-_, _≤_, _<_, min}
-use native.Mathlib.Numerals.{unary-clauses}
+use Prim.Native.Nat.{ℕ, _+_, _-_, _≤_, _<_, min}
 use native.Mathlib.Omega.{arith}
-use lib.IntN.{pos}
 use lib.Dec.{ltb}
 use lib.ListN.{length, take, drop, set, length-append, length-take, length-drop}
-use lib.Seq.{slice, take-take}
-use lib.Ieee.{Float, binary64, lt, div, ofInt}
+use lib.Seq.{slice}
+use lib.Ieee.{Float, lt}
 use borrow.Author.Tests.{lt-ltb, le-ltb}
 use Rattle.settings.specs.declared.Settings.{Settings}
 use Rattle.settings.specs.Settings.{samplesToDiscardOf, samplesToStoreOf}
@@ -17,7 +15,6 @@ use Rattle.clocksync.specs.declared.Offset.{Offset}
 use Rattle.clocksync.specs.declared.ClientId.{ClientId}
 use Rattle.clocksync.specs.declared.Clock.{Clock}
 use Rattle.mean.specs.Mean.{meanOf}
-use Rattle.timestamp.specs.Floats.{zero64}
 use Rattle.clocksync.specs.Clock.{laidOut, heldOf, offsetAfter, sampledOf, filledOf, addedOf}
 use Rattle.clocksync.proofs.Lists.{laid-push, take-laid}
 

@@ -25,7 +25,8 @@ use Rattle.client.specs.Sides.{newSideOf, oldSideOf, worldOf, oldStampOf, newSt
 use Rattle.client.specs.Status.{statusOf}
 use Rattle.client_publish.specs.Publish.{publishedNone, publishedSide, publishedMix, publishedOld, publishedBoth, publishedBlended, nearOne}
 use Rattle.client_frame.specs.declared.Rules.{Rules}
-use Rattle.client_frame.specs.Frame.{loadsOf, loadedAt, loadedOf, loadedQueued, resetNew, openedOf, steppedSide, caughtUpOf, steppedNew, unless, caughtOf}
+use Rattle.client_load.specs.Load.{loadedAt, loadedOf}
+use Rattle.client_frame.specs.Frame.{loadsOf, loadedQueued, resetNew, openedOf, steppedSide, caughtUpOf, steppedNew, unless, caughtOf}
 use Rattle.client_frame.specs.Frame.{simulatedOf, blendedBy, publishedBy, shownOf, snapshotOf, frameOpened, frameOf}
 use Rattle.client_skip.specs.Skip.{resetSide, resetAlong, resetBoth, skippedOf}
 use Rattle.fixed_timestepper.specs.TimeKeeper.{Event, FrameFrom, SkipFrom}

@@ -2,12 +2,11 @@
 use mathlib.Core.Path.{_≡_, refl, sym, ap, _∙_}
 use mathlib.Core.List.{List, [], _∷_, _++_, append-assoc}
 use mathlib.Core.Bool.{Bool, true, false, cond, _&&_}
-use Prim.Native.Nat.{ℕ, zero, suc, _+_, _-_, _≤_, _<_}
-use native.Mathlib.Nat.{le-of-suc-le-suc, not-suc-le-zero}
-use native.Mathlib.Numerals.{add-one, unary-clauses}
+use Prim.Native.Nat.{ℕ, suc, _+_, _-_, _≤_, _<_}
+use native.Mathlib.Numerals.{add-one}
 use native.Mathlib.Omega.{arith}
-use lib.ListN.{length, take, drop, getD, set, replicate, length-append, length-take, length-drop, length-set, drop-of-length-le}
-use lib.Seq.{slice, slice-cons, take-suc, take-take, drop-append-le, take-suc-set, take-set-lt, drop-set-lt, take-append-seam}
+use lib.ListN.{length, take, drop, getD, set, length-take, length-set, drop-of-length-le}
+use lib.Seq.{slice, slice-cons, take-suc, take-take, drop-append-le, take-suc-set, take-set-lt, drop-set-lt}
 use lib.Ieee.{Float, nan, binary64, lt, add}
 use Rattle.mean.specs.Mean.{sampleInserted, placeOf, sortedOnto, sortedOf, sumFrom, samplesOk}
 use Rattle.timestamp.specs.Floats.{sampleOk}

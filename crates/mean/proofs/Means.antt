@@ -1,16 +1,14 @@
 -- The mean as the code has it: what the answers of its calls come to. Assumes nothing.
 use mathlib.Core.Path.{_≡_, refl, sym, ap, _∙_}
-use mathlib.Core.List.{List, [], _∷_, _++_}
+use mathlib.Core.List.{List, [], _∷_}
 use mathlib.Core.Bool.{Bool, true, false, cond}
-use Prim.Native.Nat.{ℕ, zero, suc, _+_, _-_, _≤_, _<_, min}
+use Prim.Native.Nat.{ℕ, zero, suc, _+_, _-_, _≤_, min}
 use native.Mathlib.Numerals.{unary-clauses}
 use native.Mathlib.Omega.{arith}
 use lib.IntN.{pos}
-use lib.Dec.{ltb}
-use lib.ListN.{length, take, drop, set, length-append, length-take, length-drop}
-use lib.Seq.{slice, take-take}
+use lib.ListN.{length, take, drop, length-take, length-drop}
+use lib.Seq.{take-take}
 use lib.Ieee.{Float, binary64, lt, div, ofInt}
-use borrow.Author.Tests.{lt-ltb, le-ltb}
 use Rattle.mean.specs.Mean.{sampleInserted, sortedOnto, sortedOf, sumFrom, innerOf, averageOf, meanOf}
 use Rattle.timestamp.specs.Floats.{zero64}
 

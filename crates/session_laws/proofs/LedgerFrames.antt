@@ -18,7 +18,8 @@ use Rattle.client.specs.declared.ClientWorldSimulations.{ClientWorldSimulations
 use Rattle.client.specs.declared.Scene.{Scene}
 use Rattle.client.specs.Sides.{worldOf, withWorld, withWorlds, ledgerOf, withLedger, oldStampOf, Played, andThen, doneAt}
 use Rattle.client_publish.proofs.Telling.{Telling, of-none, of-side, of-mix, told}
-use Rattle.client_frame.specs.Frame.{loadedAt, loadedOf, readiedWith, steppedSide, withStep}
+use Rattle.client_load.specs.Load.{loadedAt, loadedOf, readiedWith}
+use Rattle.client_frame.specs.Frame.{steppedSide, withStep}
 use Rattle.client_frame.proofs.Induction.{Law, Chains, resetAt}
 use Rattle.settings.specs.declared.Settings.{Settings}
 use Rattle.fixed_timestepper.specs.TimeKeeper.{Run, updatedOf}

@@ -24,7 +24,7 @@ use Rattle.client.specs.declared.Ledger.{Ledger}
 use Rattle.client.specs.declared.Scene.{Scene}
 use Rattle.client.specs.Sides.{newSideOf, oldSideOf, worldOf, withWorld, withBase, withSnapshots, withWeight, withPublished, withWorlds, withLedger}
 use Rattle.client.specs.Sides.{worldStampOf, oldStampOf, newStampOf, newWorldsOf, putOf, doneAt, withLeft, withRight, withLedgers}
-use Rattle.client_frame.specs.Frame.{readiedWith, loadedAt, loadedOf}
+use Rattle.client_load.specs.Load.{readiedWith, loadedAt, loadedOf}
 use Rattle.client_receive.specs.Receive.{offeredBase, offeredSide, receivedOf, fromFutureOf, freshOf, snapshotsBy, snapshotsOf, notesOf}
 
 -- ---- what stays sound

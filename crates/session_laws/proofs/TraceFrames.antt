@@ -26,7 +26,8 @@ use Rattle.client.specs.declared.Scene.{Scene}
 use Rattle.client.specs.Sides.{newSideOf, oldSideOf, worldOf, withWorld, withWorlds, worldStampOf, oldStampOf, newStampOf, Played, still, andThen, doneAt}
 use Rattle.client.specs.Status.{statusBy, statusOf, overshotOf, newerOf}
 use Rattle.client_frame.specs.declared.Rules.{Rules}
-use Rattle.client_frame.specs.Frame.{loadsOf, readiedWith, loadedAt, loadedOf, loadedQueued, blendedOn, resetNew, openedOf, snapshotOf, frameOpened, shownOf}
+use Rattle.client_load.specs.Load.{readiedWith, loadedAt, loadedOf}
+use Rattle.client_frame.specs.Frame.{loadsOf, loadedQueued, blendedOn, resetNew, openedOf, snapshotOf, frameOpened, shownOf}
 use Rattle.client_frame.specs.Frame.{blendedBy, frameOf}
 use Rattle.session_laws.proofs.SoundWorlds.{done-worlds, reset-stamp}
 use Rattle.session_laws.proofs.TraceStamps.{lagOf, nextOf, next-is, next-below, lag-far, later-tells, Restamped, put-at-new, ledger-keeps, done-steps}

@@ -1,9 +1,9 @@
 -- `load_snapshot` meets its contract: the drained base goes into the side, and the ledger counts it. Assumes nothing.
 use borrow.Author.Needs.{needs}
 use Rattle.tape.proofs.Writing.{puts-length}
-use Rattle.client_frame.proofs.Framing.{load-plays}
-use Rattle.client_frame.proofs.load_snapshot.Statement.{statement}
-use Rattle.client_frame.proofs.load_snapshot.Tie as tie
+use Rattle.client_load.proofs.Loading.{load-plays}
+use Rattle.client_load.proofs.load_snapshot.Statement.{statement}
+use Rattle.client_load.proofs.load_snapshot.Tie as tie
 
 drain-up-to-requires : tie.Need-drain-up-to-requires
 drain-up-to-requires c κs = search needs

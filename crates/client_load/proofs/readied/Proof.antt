@@ -1,9 +1,9 @@
 -- `readied` meets its contract, field by field. Assumes nothing.
 use mathlib.Core.Path.{refl}
 use lib.Ieee.{ofBits}
-use Rattle.client_frame.specs.Frame.{readiedWith}
-use Rattle.client_frame.proofs.readied.Statement.{statement}
-use Rattle.client_frame.proofs.readied.Tie as tie
+use Rattle.client_load.specs.Load.{readiedWith}
+use Rattle.client_load.proofs.readied.Statement.{statement}
+use Rattle.client_load.proofs.readied.Tie as tie
 
 returns : tie.Need-returns
 unfolding readiedWith ofBits
