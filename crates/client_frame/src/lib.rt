@@ -34,7 +34,7 @@ pub struct Rules {
 }
 
 // The snapshot that a frame of this status loads.
-pub fn loads(t: ReconciliationStatus, q: Queued) -> Queued
+pub(crate) fn loads(t: ReconciliationStatus, q: Queued) -> Queued
     ensures { λ r. ⌜ r ≡ loadsOf t q ⌝ }
 {
     match t {
@@ -50,7 +50,7 @@ pub fn loads(t: ReconciliationStatus, q: Queued) -> Queued
 
 // The worlds as a load into a side leaves them beside the world that it loads: that side new, nothing queued, the weight 0, and the
 // drained base.
-pub fn readied(w: ClientWorldSimulations, side: u32, base: CommandBuffer) -> ClientWorldSimulations
+pub(crate) fn readied(w: ClientWorldSimulations, side: u32, base: CommandBuffer) -> ClientWorldSimulations
     ensures { λ r. ⌜ r ≡ readiedWith w side base ⌝ }
 {
     let s = w.snapshots;
@@ -71,7 +71,7 @@ pub fn readied(w: ClientWorldSimulations, side: u32, base: CommandBuffer) -> Cli
 }
 
 // A snapshot is loaded into a side, which is the new one from then on. The base is drained up to it before it is copied.
-pub fn load_snapshot(
+pub(crate) fn load_snapshot(
     s: Scene,
     side: u32,
     stamp: Timestamp,
@@ -121,7 +121,7 @@ pub fn clamp(x: f64) -> f64
 }
 
 // The weight moved on by one frame.
-pub fn blend_on(s: Scene, progress: f64) -> Scene
+pub(crate) fn blend_on(s: Scene, progress: f64) -> Scene
     ensures { λ r. ⌜ r ≡ blendedOn s progress ⌝ }
 {
     let w = s.worlds;
@@ -134,7 +134,7 @@ pub fn blend_on(s: Scene, progress: f64) -> Scene
 }
 
 // The new world is set to the old one's stamp.
-pub fn reset_new(s: Scene, tape: &mut [u32], at: usize) -> Shown
+pub(crate) fn reset_new(s: Scene, tape: &mut [u32], at: usize) -> Shown
     requires { ⌜ at < 3000000000 ⌝ }
     ensures { λ r. ⌜ Plays (resetNew s) (now (tape .entry)) at r (now (tape .exit)) ⌝ }
 {
@@ -155,7 +155,7 @@ pub fn reset_new(s: Scene, tape: &mut [u32], at: usize) -> Shown
 }
 
 // What a frame begins with: awaiting, the sides are swapped for the queued snapshot; obsolete, it is loaded; overshot, the new world is reset.
-pub fn open(
+pub(crate) fn open(
     s: Scene,
     t: ReconciliationStatus,
     q: Queued,
@@ -201,7 +201,7 @@ pub fn open(
 }
 
 // The world of a side steps.
-pub fn step_side(s: Scene, side: u32, tape: &mut [u32], at: usize) -> Shown
+pub(crate) fn step_side(s: Scene, side: u32, tape: &mut [u32], at: usize) -> Shown
     requires { ⌜ at < 3000000000 ⌝ }
     ensures { λ r. ⌜ Plays (steppedSide s side) (now (tape .entry)) at r (now (tape .exit)) ⌝ }
 {
@@ -215,7 +215,7 @@ pub fn step_side(s: Scene, side: u32, tape: &mut [u32], at: usize) -> Shown
 }
 
 // Whether the new world has reached the old one's stamp.
-pub fn has_caught_up(new: Timestamp, old: Timestamp) -> bool
+pub(crate) fn has_caught_up(new: Timestamp, old: Timestamp) -> bool
     ensures { λ r. ⌜ r ≡ caughtUpOf new old ⌝ }
 {
     match new.cmp(old) {
@@ -226,7 +226,7 @@ pub fn has_caught_up(new: Timestamp, old: Timestamp) -> bool
 }
 
 // The scene with a world and its ledger at a side, and another count of steps.
-pub fn put_back(s: Scene, side: u32, world: Simulation, l: Ledger, steps: u32) -> Scene
+pub(crate) fn put_back(s: Scene, side: u32, world: Simulation, l: Ledger, steps: u32) -> Scene
     ensures { λ r. ⌜ r ≡ putBack s side world l steps ⌝ }
 {
     let w = s.worlds;
@@ -271,7 +271,7 @@ pub fn put_back(s: Scene, side: u32, world: Simulation, l: Ledger, steps: u32) -
 
 // The new world steps until it has reached the old one's stamp, m times at most. It steps by itself and is put back at the end, so that a
 // step copies one world and not both. Where its buffer waits only its stamp moves, in place, so that such a step copies no world.
-pub fn catch_up(s: Scene, m: u32, tape: &mut [u32], at: usize) -> Shown
+pub(crate) fn catch_up(s: Scene, m: u32, tape: &mut [u32], at: usize) -> Shown
     requires { ⌜ (at < 2500000000) × (m ≤ 64) ⌝ }
     ensures { λ r. ⌜ Plays (caughtOf m (oldStampOf (s .worlds)) s) (now (tape .entry)) at r (now (tape .exit)) ⌝ }
 {
@@ -314,7 +314,7 @@ pub fn catch_up(s: Scene, m: u32, tape: &mut [u32], at: usize) -> Shown
 }
 
 // The old world steps, and then the new one catches up.
-pub fn simulate_next_frame(s: Scene, m: u32, tape: &mut [u32], at: usize) -> Shown
+pub(crate) fn simulate_next_frame(s: Scene, m: u32, tape: &mut [u32], at: usize) -> Shown
     requires { ⌜ (at < 2100000000) × (m ≤ 64) ⌝ }
     ensures { λ r. ⌜ Plays (simulatedOf m s) (now (tape .entry)) at r (now (tape .exit)) ⌝ }
 {
@@ -323,7 +323,7 @@ pub fn simulate_next_frame(s: Scene, m: u32, tape: &mut [u32], at: usize) -> Sho
 }
 
 // Whether a frame of this status, that loads q, publishes by the weight and not the old world.
-pub fn is_blended(t: ReconciliationStatus, q: Queued) -> bool
+pub(crate) fn is_blended(t: ReconciliationStatus, q: Queued) -> bool
     ensures { λ r. ⌜ r ≡ blendedBy t q ⌝ }
 {
     match t {
@@ -344,7 +344,7 @@ pub fn is_blended(t: ReconciliationStatus, q: Queued) -> bool
 }
 
 // The state that the frame publishes: by the weight, or the old world.
-pub fn publish_state(s: Scene, blended: bool, tape: &mut [u32], at: usize) -> Stated
+pub(crate) fn publish_state(s: Scene, blended: bool, tape: &mut [u32], at: usize) -> Stated
     requires { ⌜ at < 3000000000 ⌝ }
     ensures { λ r. ⌜ States (publishedBy blended s) s (now (tape .entry)) at r (now (tape .exit)) ⌝ }
 {
@@ -355,7 +355,7 @@ pub fn publish_state(s: Scene, blended: bool, tape: &mut [u32], at: usize) -> St
 }
 
 // What the frame publishes. The scene is built once, from the state.
-pub fn publish(s: Scene, blended: bool, tape: &mut [u32], at: usize) -> Shown
+pub(crate) fn publish(s: Scene, blended: bool, tape: &mut [u32], at: usize) -> Shown
     requires { ⌜ at < 3000000000 ⌝ }
     ensures { λ r. ⌜ Plays (publishedBy blended s) (now (tape .entry)) at r (now (tape .exit)) ⌝ }
 {
@@ -368,7 +368,7 @@ pub fn publish(s: Scene, blended: bool, tape: &mut [u32], at: usize) -> Shown
 }
 
 // Whether a status is Fastforwarding with Obsolete.
-pub fn is_obsolete(t: ReconciliationStatus) -> bool
+pub(crate) fn is_obsolete(t: ReconciliationStatus) -> bool
     ensures { λ r. ⌜ r ≡ isObsolete t ⌝ }
 {
     match t {
@@ -383,7 +383,7 @@ pub fn is_obsolete(t: ReconciliationStatus) -> bool
 }
 
 // Whether an obsolete world loads a snapshot 2 or more frames ahead of the old world, or half the space away.
-pub fn loads_too_far(q: Queued, old: Timestamp) -> bool
+pub(crate) fn loads_too_far(q: Queued, old: Timestamp) -> bool
     ensures { λ r. ⌜ r ≡ tooFarOf q old ⌝ }
 {
     match q {
@@ -399,7 +399,7 @@ pub fn loads_too_far(q: Queued, old: Timestamp) -> bool
 }
 
 // Whether the Rust stops in a frame of this status that loads q and takes the worlds from w to e: refusal 26.
-pub fn stops(
+pub(crate) fn stops(
     t: ReconciliationStatus,
     q: Queued,
     w: ClientWorldSimulations,
@@ -425,7 +425,7 @@ pub fn stops(
 }
 
 // The worlds' steps and what is published.
-pub fn show(s: Scene, m: u32, blended: bool, tape: &mut [u32], at: usize) -> Shown
+pub(crate) fn show(s: Scene, m: u32, blended: bool, tape: &mut [u32], at: usize) -> Shown
     requires { ⌜ (at < 2100000000) × (m ≤ 64) ⌝ }
     ensures { λ r. ⌜ Plays (shownOf m blended s) (now (tape .entry)) at r (now (tape .exit)) ⌝ }
 {

@@ -18,7 +18,7 @@ use client::status;
 use client_frame::Rules;
 
 // Whether a frame of this status, with q queued, leaves both worlds level: it blends, or it awaits and nothing is queued.
-pub fn stays_level(t: ReconciliationStatus, q: Queued) -> bool
+pub(crate) fn stays_level(t: ReconciliationStatus, q: Queued) -> bool
     ensures { λ r. ⌜ r ≡ levelBy t q ⌝ }
 {
     match t {
@@ -57,7 +57,7 @@ pub fn is_level(w: ClientWorldSimulations, m: u32) -> bool
 }
 
 // The weight after a level frame of this status: the one that it blends with moves on, any other stays.
-pub fn level_weight(t: ReconciliationStatus, weight: f64, progress: f64) -> f64
+pub(crate) fn level_weight(t: ReconciliationStatus, weight: f64, progress: f64) -> f64
     ensures { λ r. ⌜ r ≡ levelWeight t weight progress ⌝ }
 {
     match t {
@@ -68,7 +68,7 @@ pub fn level_weight(t: ReconciliationStatus, weight: f64, progress: f64) -> f64
 }
 
 // The words of a level frame's steps: the old world's, then the new one's.
-pub fn put_steps(w: ClientWorldSimulations, tape: &mut [u32], at: usize) -> usize
+pub(crate) fn put_steps(w: ClientWorldSimulations, tape: &mut [u32], at: usize) -> usize
     requires { ⌜ at < 2000000000 ⌝ }
     ensures { λ r. ⌜ Puts (now (tape .entry)) at (levelWords w) r (now (tape .exit)) ⌝ }
 {

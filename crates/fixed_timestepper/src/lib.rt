@@ -28,7 +28,7 @@ pub struct Advanced {
 }
 
 // The size of a number.
-pub fn abs(x: f64) -> f64
+pub(crate) fn abs(x: f64) -> f64
     ensures { λ r. ⌜ r ≡ absOf x ⌝ }
 {
     if x < 0.0 {
@@ -38,7 +38,7 @@ pub fn abs(x: f64) -> f64
 }
 
 // A number, or +0.0 where it is not above 0.
-pub fn at_least_zero(x: f64) -> f64
+pub(crate) fn at_least_zero(x: f64) -> f64
     ensures { λ r. ⌜ r ≡ atLeastZero x ⌝ }
 {
     if x > 0.0 {
@@ -48,14 +48,14 @@ pub fn at_least_zero(x: f64) -> f64
 }
 
 // The frame count that the worlds stand for: the client's stamp less the overshoot in frames.
-pub fn current_logical_timestamp(stamp: Timestamp, overshoot: f64, timestep: f64) -> FloatTimestamp
+pub(crate) fn current_logical_timestamp(stamp: Timestamp, overshoot: f64, timestep: f64) -> FloatTimestamp
     ensures { λ r. ⌜ r .0 ≡ logicalOf stamp overshoot timestep ⌝ }
 {
     FloatTimestamp::from_timestamp(stamp).sub(FloatTimestamp::from_seconds(overshoot, timestep))
 }
 
 // How far the worlds are ahead of the server's time, in seconds.
-pub fn timestamp_drift_seconds(stamp: Timestamp, overshoot: f64, timestep: f64, server: f64) -> f64
+pub(crate) fn timestamp_drift_seconds(stamp: Timestamp, overshoot: f64, timestep: f64, server: f64) -> f64
     ensures { λ r. ⌜ r ≡ driftOf stamp overshoot timestep server ⌝ }
 {
     let current = current_logical_timestamp(stamp, overshoot, timestep);
@@ -64,7 +64,7 @@ pub fn timestamp_drift_seconds(stamp: Timestamp, overshoot: f64, timestep: f64, 
 }
 
 // The drift that is compensated: none where it is below half a timestep.
-pub fn beyond_deadband(drift: f64, timestep: f64) -> f64
+pub(crate) fn beyond_deadband(drift: f64, timestep: f64) -> f64
     ensures { λ r. ⌜ r ≡ beyondDeadband drift timestep ⌝ }
 {
     if abs(drift) < timestep * 0.5 {
@@ -74,7 +74,7 @@ pub fn beyond_deadband(drift: f64, timestep: f64) -> f64
 }
 
 // How many seconds an update plays: its delta less the drift before it, not negative and at most the maximum.
-pub fn compensated_delta(
+pub(crate) fn compensated_delta(
     stamp: Timestamp,
     overshoot: f64,
     delta: f64,
@@ -96,7 +96,7 @@ pub fn compensated_delta(
 }
 
 // What every frame under these settings goes by.
-pub fn frame_rules(settings: Settings) -> Rules
+pub(crate) fn frame_rules(settings: Settings) -> Rules
     ensures { λ r. ⌜ r ≡ rulesOf settings ⌝ }
 {
     let progress = settings.blend_progress_per_frame();
@@ -107,7 +107,7 @@ pub fn frame_rules(settings: Settings) -> Rules
 }
 
 // Frames while the overshoot is negative, 65 at most.
-pub fn advance(scene: Scene, overshoot: f64, settings: Settings, tape: &mut [u32]) -> Advanced
+pub(crate) fn advance(scene: Scene, overshoot: f64, settings: Settings, tape: &mut [u32]) -> Advanced
     requires { ⌜ settings .m ≤ mostSteps ⌝ }
     ensures { λ r. ⌜ Advances (runOf mostFrames settings scene overshoot) (now (tape .entry)) r (now (tape .exit)) ⌝ }
 {
@@ -152,7 +152,7 @@ pub fn advance(scene: Scene, overshoot: f64, settings: Settings, tape: &mut [u32
 }
 
 // Whether an overshoot asks for one frame and no more.
-pub fn is_single(overshoot: f64, timestep: f64) -> bool
+pub(crate) fn is_single(overshoot: f64, timestep: f64) -> bool
     ensures { λ r. ⌜ r ≡ isSingle overshoot timestep ⌝ }
 {
     if overshoot < 0.0 {
@@ -165,14 +165,14 @@ pub fn is_single(overshoot: f64, timestep: f64) -> bool
 }
 
 // Whether there is a skip: the drift is at or beyond the threshold.
-pub fn skips(stamp: Timestamp, overshoot: f64, server: f64, settings: Settings) -> bool
+pub(crate) fn skips(stamp: Timestamp, overshoot: f64, server: f64, settings: Settings) -> bool
     ensures { λ r. ⌜ r ≡ skipsOf stamp overshoot server settings ⌝ }
 {
     abs(timestamp_drift_seconds(stamp, overshoot, settings.timestep, server)) >= settings.skip
 }
 
 // Whether an update from a stamp and an overshoot plays one level frame and does not skip: nothing but numbers of the worlds changes in it.
-pub fn is_level(
+pub(crate) fn is_level(
     worlds: ClientWorldSimulations,
     stamp: Timestamp,
     overshoot: f64,
@@ -192,7 +192,7 @@ pub fn is_level(
 }
 
 // The one frame of such an update.
-pub fn level_run(scene: Scene, overshoot: f64, settings: Settings, tape: &mut [u32]) -> Advanced
+pub(crate) fn level_run(scene: Scene, overshoot: f64, settings: Settings, tape: &mut [u32]) -> Advanced
     requires { ⌜ (isSingle overshoot (settings .timestep) ≡ true) × (isLevel (scene .worlds) (settings .m) ≡ true) ⌝ }
     ensures { λ r. ⌜ Advances (runOf mostFrames settings scene overshoot) (now (tape .entry)) r (now (tape .exit)) ⌝ }
 {
@@ -210,7 +210,7 @@ pub fn level_run(scene: Scene, overshoot: f64, settings: Settings, tape: &mut [u
 }
 
 // The skip where the drift is at or beyond the threshold: to the server's frame, rounded up.
-pub fn timeskip(a: Advanced, server: f64, settings: Settings, tape: &mut [u32]) -> Advanced
+pub(crate) fn timeskip(a: Advanced, server: f64, settings: Settings, tape: &mut [u32]) -> Advanced
     requires { ⌜ a .at < 2500000000 ⌝ }
     ensures { λ r. ⌜ Skips a server settings (now (tape .entry)) r (now (tape .exit)) ⌝ }
 {
