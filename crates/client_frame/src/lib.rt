@@ -50,7 +50,11 @@ pub(crate) fn loads(t: ReconciliationStatus, q: Queued) -> Queued
 
 // The worlds as a load into a side leaves them beside the world that it loads: that side new, nothing queued, the weight 0, and the
 // drained base.
-pub(crate) fn readied(w: ClientWorldSimulations, side: u32, base: CommandBuffer) -> ClientWorldSimulations
+pub(crate) fn readied(
+    w: ClientWorldSimulations,
+    side: u32,
+    base: CommandBuffer,
+) -> ClientWorldSimulations
     ensures { λ r. ⌜ r ≡ readiedWith w side base ⌝ }
 {
     let s = w.snapshots;

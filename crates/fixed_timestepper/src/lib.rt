@@ -48,14 +48,23 @@ pub(crate) fn at_least_zero(x: f64) -> f64
 }
 
 // The frame count that the worlds stand for: the client's stamp less the overshoot in frames.
-pub(crate) fn current_logical_timestamp(stamp: Timestamp, overshoot: f64, timestep: f64) -> FloatTimestamp
+pub(crate) fn current_logical_timestamp(
+    stamp: Timestamp,
+    overshoot: f64,
+    timestep: f64,
+) -> FloatTimestamp
     ensures { λ r. ⌜ r .0 ≡ logicalOf stamp overshoot timestep ⌝ }
 {
     FloatTimestamp::from_timestamp(stamp).sub(FloatTimestamp::from_seconds(overshoot, timestep))
 }
 
 // How far the worlds are ahead of the server's time, in seconds.
-pub(crate) fn timestamp_drift_seconds(stamp: Timestamp, overshoot: f64, timestep: f64, server: f64) -> f64
+pub(crate) fn timestamp_drift_seconds(
+    stamp: Timestamp,
+    overshoot: f64,
+    timestep: f64,
+    server: f64,
+) -> f64
     ensures { λ r. ⌜ r ≡ driftOf stamp overshoot timestep server ⌝ }
 {
     let current = current_logical_timestamp(stamp, overshoot, timestep);
@@ -107,7 +116,12 @@ pub(crate) fn frame_rules(settings: Settings) -> Rules
 }
 
 // Frames while the overshoot is negative, 65 at most.
-pub(crate) fn advance(scene: Scene, overshoot: f64, settings: Settings, tape: &mut [u32]) -> Advanced
+pub(crate) fn advance(
+    scene: Scene,
+    overshoot: f64,
+    settings: Settings,
+    tape: &mut [u32],
+) -> Advanced
     requires { ⌜ settings .m ≤ mostSteps ⌝ }
     ensures { λ r. ⌜ Advances (runOf mostFrames settings scene overshoot) (now (tape .entry)) r (now (tape .exit)) ⌝ }
 {
@@ -192,7 +206,12 @@ pub(crate) fn is_level(
 }
 
 // The one frame of such an update.
-pub(crate) fn level_run(scene: Scene, overshoot: f64, settings: Settings, tape: &mut [u32]) -> Advanced
+pub(crate) fn level_run(
+    scene: Scene,
+    overshoot: f64,
+    settings: Settings,
+    tape: &mut [u32],
+) -> Advanced
     requires { ⌜ (isSingle overshoot (settings .timestep) ≡ true) × (isLevel (scene .worlds) (settings .m) ≡ true) ⌝ }
     ensures { λ r. ⌜ Advances (runOf mostFrames settings scene overshoot) (now (tape .entry)) r (now (tape .exit)) ⌝ }
 {
