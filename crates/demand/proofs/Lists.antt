@@ -2,22 +2,23 @@
 use mathlib.Core.Bool.{true}
 use mathlib.Core.List.{List, [], _∷_, _++_}
 use mathlib.Core.Path.{_≡_, refl, ap, subst, _∙_}
-use Prim.Native.Nat.{ℕ, _+_, _-_, _*_, _<_, _≤_}
+use Prim.Native.Nat.{ℕ, _+_, _-_, _*_, _%_, _<_, _≤_}
 use native.Mathlib.Omega.{arith}
 use lib.ListN.{length, replicate}
 use Rattle.tape.specs.Words.{stepsOn, commandsOn, snapshotWords}
 use Rattle.tape.proofs.Counting.{steps-on-append, steps-on-zeros, steps-both}
 use Rattle.settings.specs.declared.Settings.{Settings}
+use Rattle.client.specs.Sides.{oldStampOf}
 use Rattle.session_laws.specs.Soundness.{FloatsFit}
 use Rattle.session_laws.proofs.TraceSteps.{lagIn}
 use Rattle.session_laws.proofs.TraceReading.{keeps-self}
 use Rattle.session_laws.proofs.LedgerCalls.{Settles}
-use Rattle.fixed_timestepper.specs.TimeKeeper.{Event}
 use Rattle.session_state.specs.declared.Session.{Session}
 use Rattle.session_state.specs.Sound.{soundOf}
+use Rattle.demand.specs.Events.{Event}
 use Rattle.demand.specs.Calls.{Call, Outcome, outcomeOf, happened, sessionOf, framesOf, catchUpsOf, ledgerIn, markedOf, loadWordsOf, markedOn, endOf}
 use Rattle.demand.specs.Calls.{traceOf, sum}
-use Rattle.demand.specs.Demand.{framesIn, loadCountIn, wordsIn, AllRuled, AllSet, oldSteps, newSteps, Tapes, AllSound, Balanced, Told}
+use Rattle.demand.specs.Demand.{framesIn, distancesIn, loadCountIn, wordsIn, AllRuled, AllSet, oldSteps, newSteps, Tapes, AllSound, Balanced, Told}
 use Rattle.demand.proofs.TraceLaw.{trace-most, catch-up}
 use Rattle.demand.proofs.TraceCounts.{trace-on, trace-old, steps-law, new-append, old-append}
 use Rattle.demand.proofs.TraceLoads.{tape-loads, loads-join}
@@ -100,7 +101,9 @@ more-holds s k cs h one r =
     }
 
 standing-on : (s : Session) (o : Outcome) (es : List Event) → FloatsFit s → Standing s → OneCall s o es → Standing (o .session)
-standing-on s o es f h one = record { sound = one .sound f (h .sound); exists = one .happens h .traced .exists; fitting = one .happens h .traced .fitting }
+standing-on s o es f h one =
+    let t : Traced s (o .session) (o .frames) (o .caught) es = one .happens h .traced in
+    record { sound = one .sound f (h .sound); exists = t .exists; fitting = t .leads .fitting }
 
 -- the list
 pub holds : (s : Session) (cs : List Call) → FloatsFit s → Standing s → Lawful s cs → Holds s cs
@@ -122,15 +125,15 @@ told s cs f h a =
       settings = r .settings;
       rules = r .rules;
       frames = t .frames;
-      old = t .old;
+      old = subst (λ n. oldStampOf (endOf s cs .worlds) .0 ≡ (oldStampOf (s .worlds) .0 + n + distancesIn es) % 65536) (t .frames) (t .leads .old);
       marks = omega (arith, r .marks, x, y, trace-old es, t .frames, t .caught);
       loads = r .loads;
       sides = r .sides;
       caught = t .caught;
       steps = steps-law es;
-      most = subst (λ n. sum catchUpsOf cs ≤ m * n) (t .frames) (subst (λ n. n ≤ m * framesIn es) (t .caught) (trace-most m b es (t .linked)));
+      most = subst (λ n. sum catchUpsOf cs ≤ m * n) (t .frames) (subst (λ n. n ≤ m * framesIn es) (t .caught) (trace-most m b es (t .leads .linked)));
       tapes = r .tapes;
-      walk = t .walk;
+      walk = t .leads .walk;
       ledgers = r .ledgers;
-      law = catch-up m b es (t .linked);
+      law = catch-up m b es (t .leads .linked);
     }

@@ -15,7 +15,7 @@ use Rattle.client_skip.specs.Skip.{skippedOf}
 use Rattle.session_laws.proofs.TraceStamps.{sides-apart}
 use Rattle.session_laws.proofs.TraceFrames.{one-frame}
 use Rattle.session_laws.proofs.TraceArrivals.{one-skip}
-use Rattle.fixed_timestepper.specs.TimeKeeper.{Event, FrameFrom, SkipFrom}
+use Rattle.demand.specs.Events.{Event, FrameFrom, SkipFrom}
 use Rattle.demand.specs.Demand.{openedFrom, oldIn, newIn, framesIn, distancesIn, wordsOf, wordsIn, Ruled, Stepped, Steps, oldSteps, newSteps}
 
 -- ---- one frame

@@ -29,7 +29,7 @@ use Rattle.client_frame.specs.Frame.{frameOf}
 use Rattle.client_frame.proofs.Induction.{Law, Chains, parts-by, shown-by}
 use Rattle.client_skip.specs.Skip.{skippedOf}
 use Rattle.fixed_timestepper.proofs.Induction.{AllMoves, skip-by}
-use Rattle.fixed_timestepper.specs.TimeKeeper.{Event, FrameFrom, SkipFrom}
+use Rattle.demand.specs.Events.{Event, FrameFrom, SkipFrom}
 use Rattle.demand.specs.Demand.{loadBy, loadIn, wordsIn, countLoad, loadCountIn}
 
 -- ---- along a list
