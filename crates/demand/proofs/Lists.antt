@@ -61,20 +61,7 @@ none-holds s h =
 
 -- the step words of a side on a tape of what happened
 words-on : (x : ℕ) (es : List Event) (n : ℕ) → x < 2 → stepsOn x (wordsIn es ++ replicate n 0) ≡ oldSteps x es + newSteps x es
-words-on x es n h = steps-on-append x (wordsIn es) (replicate n 0) ∙ plus _ _ _ (steps-on-zeros x n) (trace-on x es h)
-  where
-    plus : (a z b : ℕ) → z ≡ 0 → a ≡ b → a + z ≡ b
-    plus a z b e f = omega arith
-
--- sums of a call and of the calls after it
-both-on : (w a b p m n : ℕ) → w ≡ a + b → p ≡ m + n → w + p ≡ (a + m) + (b + n)
-both-on w a b p m n e f = omega arith
-
-loads-on : (a t b u z : ℕ) → a ≡ t → b ≡ u → z ≡ t + u → a + b ≡ z
-loads-on a t b u z e f g = omega arith
-
-marks-on : (w a b p m n x y : ℕ) → w ≡ a + b → p ≡ m + n → x ≡ a + m → y ≡ b + n → w + p ≡ x + y
-marks-on w a b p m n x y e f g h = omega arith
+words-on x es n h = omega (arith, steps-on-append x (wordsIn es) (replicate n 0), steps-on-zeros x n, trace-on x es h)
 
 -- one call more
 more-holds : (s : Session) (k : Call) (cs : List Call) → Standing s → OneCall s (outcomeOf k) (happened s k) → Holds (sessionOf k) cs → Holds s (k ∷ cs)
@@ -88,13 +75,10 @@ more-holds s k cs h one r =
       settings = (a .traced .settings, subst (λ (c : Settings). AllSet c cs) (a .traced .settings) (r .settings));
       rules = (a .rules, r .rules);
       tapes = (a .tape, r .tapes);
-      marks = both-on (markedOf k) (markedOn 0 k) (markedOn 1 k) (sum markedOf cs) (sum (markedOn 0) cs) (sum (markedOn 1) cs)
-          (steps-both (outcomeOf k .tape)) (r .marks);
+      marks = omega (arith, steps-both (outcomeOf k .tape), r .marks);
       sides = λ x hx.
-          marks-on (markedOn x k) (oldSteps x t) (newSteps x t) (sum (markedOn x) cs) (oldSteps x u) (newSteps x u) (oldSteps x (t ++ u))
-          (newSteps x (t ++ u)) (ap (stepsOn x) (a .tape) ∙ words-on x t zeros hx) (r .sides x hx) (old-append x t u) (new-append x t u);
-      loads = loads-on (loadWordsOf k) (loadCountIn t) (sum loadWordsOf cs) (loadCountIn u) (loadCountIn (t ++ u))
-          (ap snapshotWords (a .tape) ∙ tape-loads t zeros) (r .loads) (loads-join t u);
+          omega (arith, ap (stepsOn x) (a .tape) ∙ words-on x t zeros hx, r .sides x hx, old-append x t u, new-append x t u);
+      loads = omega (arith, ap snapshotWords (a .tape) ∙ tape-loads t zeros, r .loads, loads-join t u);
       ledgers = λ x hx.
           let b : Settles x s (sessionOf k) (ledgerIn x (outcomeOf k)) (commandsOn x (outcomeOf k .tape)) = one .ledgers x hx (h .exists) in
           record { balance = omega (arith, b .balance, r .ledgers x hx .balance); applied = omega (arith, b .applied, r .ledgers x hx .applied) };

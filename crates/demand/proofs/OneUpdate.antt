@@ -3,7 +3,7 @@ use Prim.{⊥}
 use mathlib.Core.Bool.{Bool, cond}
 use mathlib.Core.List.{List, [], _++_}
 use mathlib.Core.Path.{_≡_, refl, ap, sym, subst, _∙_}
-use Prim.Native.Nat.{ℕ, _+_, _-_, _≤_}
+use Prim.Native.Nat.{ℕ, _-_, _≤_}
 use native.Mathlib.Omega.{arith}
 use borrow.Author.Tests.{ne-eqb}
 use lib.ListN.{length, replicate}
@@ -65,14 +65,11 @@ module _ (s : Session) (delta seconds : Float) (inbox : List ℕ) (len : ℕ) (h
           exists = stage-kept (s .stage) (r .played .scene .worlds .published .time) (h .exists);
           leads = leads-then [] (playedIn s delta seconds inbox) (leads-alike (a .alike) (a .fitting (h .fitting))) (i .leads);
           frames = i .frames;
-          caught = zero-more _ _ _ (a .steps) (i .caught);
+          caught = omega (arith, a .steps, i .caught);
         };
         rules = i .rules;
         tape = ap (λ ws. ws ++ replicate (len - length ws) 0) (sym (i .words));
       }
-    where
-      zero-more : (x y z : ℕ) → y ≡ 0 → x ≡ y + z → z ≡ x
-      zero-more x y z e f = omega arith
 
   updated : Updated (updateOf s delta seconds inbox len)
   updated =
