@@ -44,7 +44,8 @@ unfolding add sub mul div rem round lt le eq ofInt toSigned toUnsigned ofBits to
     frameOf frameStops weightOk timeOf displayedOf revisedOf postUpdateOf logicalOf driftOf uncappedOf compensatedOf framed runOf skipsOf maybeSkipped
     advancedOf unendedOf updatedOf onceRefusalBy concludedOf queuedSound weightSound initSound buffersSound worldsSound overshootSound connectedOf
     soundOf hasForWorlds heardIn receivedIn notedIn startOf openOf timesOk refusedAtOnce syncedOf clockUpdateOf acceptedOf playedOf worldsUpdateOf
-    updateOf reportOf eventsOf settingsWith clockAt opened heardOnce heardTwice heardThrice atFour atFive atSix frameOne frameTwo frameThree frameFour traceOfFour
+    updateOf reportOf eventsOf settingsWith clockAt opened heardOnce heardTwice heardThrice atFour atFive atSix frameOne frameTwo frameThree frameFour
+    traceOfFour
 marked =
     record {
       wrap-less = refl;

@@ -10,7 +10,7 @@ use lib.Ieee.Casts.{toSigned-in}
 use mir.Syntax.{w16}
 use mir.Val.{SFits}
 use Rattle.timestamp.specs.declared.Timestamp.{Timestamp}
-use Rattle.timestamp.specs.Timestamps.{bitsOf}
+use Rattle.timestamp.specs.Timestamps.{bitsOf, differenceOf}
 use Rattle.timestamp.specs.Whole.{ceilOf}
 use Rattle.timestamp.specs.Floats.{zero64}
 use Rattle.timestamp.specs.FloatTimestamps.{fromSeconds, ceilStampOf}
@@ -21,7 +21,7 @@ use Rattle.client.specs.Sides.{oldStampOf, andThen}
 use Rattle.client_frame.specs.Frame.{frameOf}
 use Rattle.client_skip.specs.Skip.{skippedOf}
 use Rattle.client_publish.specs.Ending.{postUpdateOf}
-use Rattle.session_laws.proofs.TraceStamps.{lagOf, lag-is, lag-there, next-sum}
+use Rattle.session_laws.proofs.TraceStamps.{lag-is, lag-there, next-sum}
 use Rattle.session_laws.proofs.TraceSteps.{lagIn}
 use Rattle.session_laws.proofs.TraceFrames.{Fitting, OneFrame, one-frame}
 use Rattle.session_laws.proofs.TraceArrivals.{Alike, alike-self, alike-fitting, alike-lag, post-alike, post-queued, OneSkip, one-skip}
@@ -81,15 +81,18 @@ leads-frame c s hm h =
       walk = (same-self (s .worlds), same-self (frame c s .scene .worlds));
     }
 
+distance-sum : (o d : ℕ) → (o + d) % 65536 ≡ (o + 0 + (d + 0)) % 65536
+distance-sum o d = omega arith
+
 leads-skip : (m : ℕ) (s : Scene) (t : Timestamp) → t .0 < 65536 → Fitting (s .worlds)
     → Leads m (s .worlds) (skippedOf s t .scene .worlds) (SkipFrom s t ∷ [])
 leads-skip m s t l h =
     let k : OneSkip s t (skippedOf s t) = one-skip s t in
     let o : ℕ = oldStampOf (s .worlds) .0 in
-    let there : t .0 ≡ (o + lagOf (t .0) o) % 65536 = lag-there o (t .0) (h .old) l in
     record {
       fitting = k .fitting l h;
-      old = ap (λ (x : Timestamp). x .0) (k .old) ∙ omega (arith, there, lag-is (t .0) o);
+      old = ap (λ (x : Timestamp). x .0) (k .old) ∙ lag-there o (t .0) (h .old) l ∙ ap (λ n. (o + n) % 65536) (lag-is (t .0) o)
+          ∙ distance-sum o (differenceOf (t .0) o);
       linked = tt;
       last = refl;
       walk = (same-self (s .worlds), same-self (skippedOf s t .scene .worlds));
@@ -165,7 +168,7 @@ plays c hm hl =
           let f : OneFrame (rulesOf c) s (frame c s) = one-frame (rulesOf c) s in
           let hs : s .steps + c .m < 2 ^ 32 = omega arith in
           let g : ℕ = framesFor n (c .timestep) (later c o) in
-          subst (λ f. Plays c s o f (framed (rulesOf c) s r)) (ap (λ (b : Bool). cond b (suc g) 0) (sym e))
+          subst (λ x. Plays c s o x (framed (rulesOf c) s r)) (ap (λ (b : Bool). cond b (suc g) 0) (sym e))
           (plays-framed c s o g r hm hs h (i d (f .fitting h) (omega (arith, f .few, f .steps hs))));
     }
 
