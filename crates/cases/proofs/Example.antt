@@ -82,7 +82,7 @@ answered a =
 
 chain-catching : Chain (heardThrice 3 98 .session) catching
 unfolding frameOne
-chain-catching = (answered (frameOne .reply), (answered (unplayed (frameOne .reply .session) 102), (refl, tt)))
+chain-catching = (answered frameOne, (answered (unplayed (frameOne .session) 102), (refl, tt)))
 
 chain-playing : Chain (heardThrice 2 1 .session) playing
 unfolding atFour atFive atSix

@@ -29,6 +29,7 @@ use Rattle.inbox_passes.specs.Passes.{hasForWorlds, heardIn, receivedIn, notedI
 use Rattle.refusals.specs.Refusals.{onceRefusalBy}
 use Rattle.session.specs.Calls.{concludedOf, startOf, openOf, timesOk, refusedAtOnce, clockUpdateOf, playedOf, worldsUpdateOf, updateOf, reportOf}
 use Rattle.session_answers.specs.Answers.{syncedOf, acceptedOf}
+use Rattle.demand.specs.Events.{eventsOf}
 use Rattle.cases.specs.Table.{Marked, settingsWith, clockAt, opened, heardOnce, heardTwice, heardThrice, atFour, atFive, atSix, frameOne, frameTwo}
 use Rattle.cases.specs.Table.{frameThree, frameFour, traceOfFour}
 
@@ -45,7 +46,8 @@ unfolding add sub mul div rem round lt le eq ofInt toSigned toUnsigned ofBits to
     frameOf frameStops weightOk timeOf displayedOf revisedOf postUpdateOf logicalOf driftOf uncappedOf compensatedOf framed runOf skipsOf maybeSkipped
     advancedOf unendedOf updatedOf onceRefusalBy concludedOf queuedSound weightSound initSound buffersSound worldsSound overshootSound connectedOf
     soundOf hasForWorlds heardIn receivedIn notedIn startOf openOf timesOk refusedAtOnce syncedOf clockUpdateOf acceptedOf playedOf worldsUpdateOf
-    updateOf reportOf settingsWith clockAt opened heardOnce heardTwice heardThrice atFour atFive atSix frameOne frameTwo frameThree frameFour traceOfFour
+    updateOf reportOf eventsOf settingsWith clockAt opened heardOnce heardTwice heardThrice atFour atFive atSix frameOne frameTwo frameThree frameFour
+    traceOfFour
 marked =
     record {
       wrap-less = refl;

@@ -30,7 +30,7 @@ played n inbox r = Update (secondsOf 1) (secondsOf n) inbox (replicate 8 7) (ans
 
 -- the reply of an update at n seconds whose delta is no number
 abbrev pub unplayed : Session → ℕ → Reply
-unplayed s n = updateOf s nan (secondsOf n) [] 3 .reply
+unplayed s n = updateOf s nan (secondsOf n) [] 3
 
 -- that update
 abbrev pub refused : Session → ℕ → Call
@@ -45,9 +45,9 @@ issued r = Issue 9 (issueOf (r .session) 9)
 -- m = 3: from worlds that were just made, with the old stamp 100, an update that loads a snapshot 7 behind, a refused update, and an issue before Ready
 abbrev pub catching : List Call
 catching =
-    played 101 (0x2000005d ∷ 0x40000005 ∷ []) (frameOne .reply)
-    ∷ refused (frameOne .reply .session) 102
-    ∷ issued (unplayed (frameOne .reply .session) 102)
+    played 101 (0x2000005d ∷ 0x40000005 ∷ []) frameOne
+    ∷ refused (frameOne .session) 102
+    ∷ issued (unplayed (frameOne .session) 102)
     ∷ []
 
 -- the run of document 01 from its fourth second on, then a refused update, and an issue, which is taken

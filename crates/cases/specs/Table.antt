@@ -20,13 +20,13 @@ use Rattle.tape.specs.Words.{wordOf}
 use Rattle.client.specs.declared.DisplayTime.{DisplayTime}
 use Rattle.client.specs.declared.DisplayTime.the-variants.{NotDisplayed, DisplayedAt}
 use Rattle.client.specs.declared.ReconciliationStatus.the-variants.{AwaitingSnapshot}
-use Rattle.fixed_timestepper.specs.TimeKeeper.{Event, FrameFrom, SkipFrom}
 use Rattle.session_state.specs.declared.Stage.{Stage}
 use Rattle.session_state.specs.declared.Stage.the-variants.{SyncingInitialState, Ready}
 use Rattle.session_state.specs.declared.Session.{Session}
 use Rattle.session_answers.specs.declared.ReportAnswer.{ReportAnswer}
 use Rattle.session.specs.Calls.{openOf, updateOf, reportOf}
-use Rattle.session_answers.specs.Answers.{Reply, Answer}
+use Rattle.session_answers.specs.Answers.{Reply}
+use Rattle.demand.specs.Events.{Event, FrameFrom, SkipFrom, eventsOf}
 use Rattle.demand.specs.Demand.{Loading, NoLoad, Loaded, loadIn, behindOf, behindAfter}
 
 -- the float 32,768.0
@@ -82,7 +82,7 @@ unfoldable pub clockAt : ℕ → List ℕ
 clockAt n = wordOf 3 7 ∷ (timeWords (toBits binary64 (secondsOf n)) ++ timeWords (toBits binary64 (secondsOf n)))
 
 -- an update of delta 1 at n seconds, with a tape of 8 words
-abbrev pub updateAt : Session → ℕ → List ℕ → Answer
+abbrev pub updateAt : Session → ℕ → List ℕ → Reply
 updateAt s n inbox = updateOf s (secondsOf 1) (secondsOf n) inbox 8
 
 -- the session that open gives
@@ -91,47 +91,53 @@ opened m = openOf (settingsWith m) .session
 
 -- the first update, at n seconds, with a clock message
 unfoldable pub heardOnce : ℕ → ℕ → Reply
-heardOnce m n = updateAt (opened m) n (clockAt n) .reply
+heardOnce m n = updateAt (opened m) n (clockAt n)
 
 -- the second, a second later, with a clock message
 unfoldable pub heardTwice : ℕ → ℕ → Reply
-heardTwice m n = updateAt (heardOnce m n .session) (n + 1) (clockAt (n + 1)) .reply
+heardTwice m n = updateAt (heardOnce m n .session) (n + 1) (clockAt (n + 1))
 
 -- the third, again a second later, with a clock message
 unfoldable pub heardThrice : ℕ → ℕ → Reply
-heardThrice m n = updateAt (heardTwice m n .session) (n + 2) (clockAt (n + 2)) .reply
+heardThrice m n = updateAt (heardTwice m n .session) (n + 2) (clockAt (n + 2))
 
 -- the update of the run of 01 at 4 s, with a command for the stamp 4 and a snapshot of the stamp 3
 unfoldable pub atFour : Reply
-atFour = updateAt (heardThrice 2 1 .session) 4 (0x10000004 ∷ 0x40000009 ∷ 0x20000003 ∷ 0x40000005 ∷ []) .reply
+atFour = updateAt (heardThrice 2 1 .session) 4 (0x10000004 ∷ 0x40000009 ∷ 0x20000003 ∷ 0x40000005 ∷ [])
 
 -- the update at 5 s, with an empty inbox
 unfoldable pub atFive : Reply
-atFive = updateAt (atFour .session) 5 [] .reply
+atFive = updateAt (atFour .session) 5 []
 
 -- the update at 6 s, with an empty inbox
 unfoldable pub atSix : Reply
-atSix = updateAt (atFive .session) 6 [] .reply
+atSix = updateAt (atFive .session) 6 []
 
 -- m = 3: the update that plays the first frame, with a snapshot of the stamp 93 where the old stamp is 100, so g = 7
-unfoldable pub frameOne : Answer
+unfoldable pub frameOne : Reply
 frameOne = updateAt (heardThrice 3 98 .session) 101 (0x2000005d ∷ 0x40000005 ∷ [])
 
 -- the update that plays the second frame
-unfoldable pub frameTwo : Answer
-frameTwo = updateAt (frameOne .reply .session) 102 []
+unfoldable pub frameTwo : Reply
+frameTwo = updateAt (frameOne .session) 102 []
 
 -- the update that plays the third frame
-unfoldable pub frameThree : Answer
-frameThree = updateAt (frameTwo .reply .session) 103 []
+unfoldable pub frameThree : Reply
+frameThree = updateAt (frameTwo .session) 103 []
 
 -- the update that plays the fourth frame
-unfoldable pub frameFour : Answer
-frameFour = updateAt (frameThree .reply .session) 104 []
+unfoldable pub frameFour : Reply
+frameFour = updateAt (frameThree .session) 104 []
+
+-- what happened in an update of delta 1 at n seconds that replied this
+abbrev pub eventsAt : Session → ℕ → List ℕ → Reply → List Event
+eventsAt s n inbox r = eventsOf s (secondsOf 1) (secondsOf n) inbox (r .refusal)
 
 -- what happened in the four updates
 unfoldable pub traceOfFour : List Event
-traceOfFour = frameOne .trace ++ (frameTwo .trace ++ (frameThree .trace ++ frameFour .trace))
+traceOfFour =
+    eventsAt (heardThrice 3 98 .session) 101 (0x2000005d ∷ 0x40000005 ∷ []) frameOne
+    ++ (eventsAt (frameOne .session) 102 [] frameTwo ++ (eventsAt (frameTwo .session) 103 [] frameThree ++ eventsAt (frameThree .session) 104 [] frameFour))
 
 -- the loads of the frames of a trace
 abbrev pub loadsIn : List Event → List Loading
@@ -145,10 +151,10 @@ behindsIn [] = []
 behindsIn (FrameFrom r s ∷ es) = behindAfter r s ∷ behindsIn es
 behindsIn (SkipFrom s t ∷ es) = behindsIn es
 
--- how far behind it is in the session of each answer
-abbrev pub behindsAfter : List Answer → List ℕ
+-- how far behind it is in the session of each reply
+abbrev pub behindsAfter : List Reply → List ℕ
 behindsAfter [] = []
-behindsAfter (a ∷ rest) = behindOf (a .reply .session .worlds) ∷ behindsAfter rest
+behindsAfter (a ∷ rest) = behindOf (a .session .worlds) ∷ behindsAfter rest
 
 -- an update was accepted, with F, C and this tape
 pub record Shows (r : Reply) (f c : ℕ) (words : List ℕ) : Type 0 where

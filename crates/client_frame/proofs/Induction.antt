@@ -124,7 +124,7 @@ module _ {P : Law} {rules : Rules} {load steps show : ℕ} (h : Parts P rules lo
   opened-by (Fastforwarding Overshot) q s e = h .resets s
 
   -- the worlds' steps and what is published
-  shown-by : (b : Bool) (s : Scene) → P (steps + show) s (shownOf (rules .m) b s)
+  pub shown-by : (b : Bool) (s : Scene) → P (steps + show) s (shownOf (rules .m) b s)
   unfolding shownOf
   shown-by b s =
       let t : Scene = simulatedOf (rules .m) s .scene in

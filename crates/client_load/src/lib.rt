@@ -15,11 +15,7 @@ use timestamp::Timestamp;
 
 // The worlds as a load into a side leaves them beside the world that it loads: that side new, nothing queued, the weight 0, and the
 // drained base.
-fn readied(
-    w: ClientWorldSimulations,
-    side: u32,
-    base: CommandBuffer,
-) -> ClientWorldSimulations
+fn readied(w: ClientWorldSimulations, side: u32, base: CommandBuffer) -> ClientWorldSimulations
     ensures { λ r. ⌜ r ≡ readiedWith w side base ⌝ }
 {
     let s = w.snapshots;

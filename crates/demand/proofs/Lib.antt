@@ -2,7 +2,6 @@ pub mod TraceCounts
 pub mod TraceLaw
 pub mod TraceRuns
 pub mod TraceLoads
-pub mod TraceShape
 pub mod OneCall
 pub mod OneUpdate
 pub mod OneIssue

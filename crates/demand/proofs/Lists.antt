@@ -2,22 +2,23 @@
 use mathlib.Core.Bool.{true}
 use mathlib.Core.List.{List, [], _∷_, _++_}
 use mathlib.Core.Path.{_≡_, refl, ap, subst, _∙_}
-use Prim.Native.Nat.{ℕ, _+_, _-_, _*_, _<_, _≤_}
+use Prim.Native.Nat.{ℕ, _+_, _-_, _*_, _%_, _<_, _≤_}
 use native.Mathlib.Omega.{arith}
 use lib.ListN.{length, replicate}
 use Rattle.tape.specs.Words.{stepsOn, commandsOn, snapshotWords}
 use Rattle.tape.proofs.Counting.{steps-on-append, steps-on-zeros, steps-both}
 use Rattle.settings.specs.declared.Settings.{Settings}
+use Rattle.client.specs.Sides.{oldStampOf}
 use Rattle.session_laws.specs.Soundness.{FloatsFit}
 use Rattle.session_laws.proofs.TraceSteps.{lagIn}
 use Rattle.session_laws.proofs.TraceReading.{keeps-self}
 use Rattle.session_laws.proofs.LedgerCalls.{Settles}
-use Rattle.fixed_timestepper.specs.TimeKeeper.{Event}
 use Rattle.session_state.specs.declared.Session.{Session}
 use Rattle.session_state.specs.Sound.{soundOf}
+use Rattle.demand.specs.Events.{Event}
 use Rattle.demand.specs.Calls.{Call, Outcome, outcomeOf, happened, sessionOf, framesOf, catchUpsOf, ledgerIn, markedOf, loadWordsOf, markedOn, endOf}
 use Rattle.demand.specs.Calls.{traceOf, sum}
-use Rattle.demand.specs.Demand.{framesIn, loadCountIn, wordsIn, AllRuled, AllSet, oldSteps, newSteps, Tapes, AllSound, Balanced, Told}
+use Rattle.demand.specs.Demand.{framesIn, distancesIn, loadCountIn, wordsIn, AllRuled, AllSet, oldSteps, newSteps, Tapes, AllSound, Balanced, Told}
 use Rattle.demand.proofs.TraceLaw.{trace-most, catch-up}
 use Rattle.demand.proofs.TraceCounts.{trace-on, trace-old, steps-law, new-append, old-append}
 use Rattle.demand.proofs.TraceLoads.{tape-loads, loads-join}
@@ -60,20 +61,7 @@ none-holds s h =
 
 -- the step words of a side on a tape of what happened
 words-on : (x : ℕ) (es : List Event) (n : ℕ) → x < 2 → stepsOn x (wordsIn es ++ replicate n 0) ≡ oldSteps x es + newSteps x es
-words-on x es n h = steps-on-append x (wordsIn es) (replicate n 0) ∙ plus _ _ _ (steps-on-zeros x n) (trace-on x es h)
-  where
-    plus : (a z b : ℕ) → z ≡ 0 → a ≡ b → a + z ≡ b
-    plus a z b e f = omega arith
-
--- sums of a call and of the calls after it
-both-on : (w a b p m n : ℕ) → w ≡ a + b → p ≡ m + n → w + p ≡ (a + m) + (b + n)
-both-on w a b p m n e f = omega arith
-
-loads-on : (a t b u z : ℕ) → a ≡ t → b ≡ u → z ≡ t + u → a + b ≡ z
-loads-on a t b u z e f g = omega arith
-
-marks-on : (w a b p m n x y : ℕ) → w ≡ a + b → p ≡ m + n → x ≡ a + m → y ≡ b + n → w + p ≡ x + y
-marks-on w a b p m n x y e f g h = omega arith
+words-on x es n h = omega (arith, steps-on-append x (wordsIn es) (replicate n 0), steps-on-zeros x n, trace-on x es h)
 
 -- one call more
 more-holds : (s : Session) (k : Call) (cs : List Call) → Standing s → OneCall s (outcomeOf k) (happened s k) → Holds (sessionOf k) cs → Holds s (k ∷ cs)
@@ -87,20 +75,19 @@ more-holds s k cs h one r =
       settings = (a .traced .settings, subst (λ (c : Settings). AllSet c cs) (a .traced .settings) (r .settings));
       rules = (a .rules, r .rules);
       tapes = (a .tape, r .tapes);
-      marks = both-on (markedOf k) (markedOn 0 k) (markedOn 1 k) (sum markedOf cs) (sum (markedOn 0) cs) (sum (markedOn 1) cs)
-          (steps-both (outcomeOf k .tape)) (r .marks);
+      marks = omega (arith, steps-both (outcomeOf k .tape), r .marks);
       sides = λ x hx.
-          marks-on (markedOn x k) (oldSteps x t) (newSteps x t) (sum (markedOn x) cs) (oldSteps x u) (newSteps x u) (oldSteps x (t ++ u))
-          (newSteps x (t ++ u)) (ap (stepsOn x) (a .tape) ∙ words-on x t zeros hx) (r .sides x hx) (old-append x t u) (new-append x t u);
-      loads = loads-on (loadWordsOf k) (loadCountIn t) (sum loadWordsOf cs) (loadCountIn u) (loadCountIn (t ++ u))
-          (ap snapshotWords (a .tape) ∙ tape-loads t zeros) (r .loads) (loads-join t u);
+          omega (arith, ap (stepsOn x) (a .tape) ∙ words-on x t zeros hx, r .sides x hx, old-append x t u, new-append x t u);
+      loads = omega (arith, ap snapshotWords (a .tape) ∙ tape-loads t zeros, r .loads, loads-join t u);
       ledgers = λ x hx.
           let b : Settles x s (sessionOf k) (ledgerIn x (outcomeOf k)) (commandsOn x (outcomeOf k .tape)) = one .ledgers x hx (h .exists) in
           record { balance = omega (arith, b .balance, r .ledgers x hx .balance); applied = omega (arith, b .applied, r .ledgers x hx .applied) };
     }
 
 standing-on : (s : Session) (o : Outcome) (es : List Event) → FloatsFit s → Standing s → OneCall s o es → Standing (o .session)
-standing-on s o es f h one = record { sound = one .sound f (h .sound); exists = one .happens h .traced .exists; fitting = one .happens h .traced .fitting }
+standing-on s o es f h one =
+    let t : Traced s (o .session) (o .frames) (o .caught) es = one .happens h .traced in
+    record { sound = one .sound f (h .sound); exists = t .exists; fitting = t .leads .fitting }
 
 -- the list
 pub holds : (s : Session) (cs : List Call) → FloatsFit s → Standing s → Lawful s cs → Holds s cs
@@ -122,15 +109,15 @@ told s cs f h a =
       settings = r .settings;
       rules = r .rules;
       frames = t .frames;
-      old = t .old;
+      old = subst (λ n. oldStampOf (endOf s cs .worlds) .0 ≡ (oldStampOf (s .worlds) .0 + n + distancesIn es) % 65536) (t .frames) (t .leads .old);
       marks = omega (arith, r .marks, x, y, trace-old es, t .frames, t .caught);
       loads = r .loads;
       sides = r .sides;
       caught = t .caught;
       steps = steps-law es;
-      most = subst (λ n. sum catchUpsOf cs ≤ m * n) (t .frames) (subst (λ n. n ≤ m * framesIn es) (t .caught) (trace-most m b es (t .linked)));
+      most = subst (λ n. sum catchUpsOf cs ≤ m * n) (t .frames) (subst (λ n. n ≤ m * framesIn es) (t .caught) (trace-most m b es (t .leads .linked)));
       tapes = r .tapes;
-      walk = t .walk;
+      walk = t .leads .walk;
       ledgers = r .ledgers;
-      law = catch-up m b es (t .linked);
+      law = catch-up m b es (t .leads .linked);
     }

@@ -15,7 +15,7 @@ use Rattle.client_skip.specs.Skip.{skippedOf}
 use Rattle.session_laws.proofs.TraceStamps.{sides-apart}
 use Rattle.session_laws.proofs.TraceFrames.{one-frame}
 use Rattle.session_laws.proofs.TraceArrivals.{one-skip}
-use Rattle.fixed_timestepper.specs.TimeKeeper.{Event, FrameFrom, SkipFrom}
+use Rattle.demand.specs.Events.{Event, FrameFrom, SkipFrom}
 use Rattle.demand.specs.Demand.{openedFrom, oldIn, newIn, framesIn, distancesIn, wordsOf, wordsIn, Ruled, Stepped, Steps, oldSteps, newSteps}
 
 -- ---- one frame
@@ -85,25 +85,16 @@ frames-append (SkipFrom s x ∷ t) u = frames-append t u
 pub distances-append : (t u : List Event) → distancesIn (t ++ u) ≡ distancesIn t + distancesIn u
 distances-append [] u = omega arith
 distances-append (FrameFrom r s ∷ t) u = distances-append t u
-distances-append (SkipFrom s x ∷ t) u = plus _ _ _ _ (distances-append t u)
-  where
-    plus : (d a b e : ℕ) → a ≡ b + e → d + a ≡ (d + b) + e
-    plus d a b e h = omega arith
+distances-append (SkipFrom s x ∷ t) u = omega (arith, distances-append t u)
 
 pub new-append : (x : ℕ) (t u : List Event) → newSteps x (t ++ u) ≡ newSteps x t + newSteps x u
 new-append x [] u = omega arith
-new-append x (FrameFrom r s ∷ t) u = plus _ _ _ _ (new-append x t u)
-  where
-    plus : (d a b e : ℕ) → a ≡ b + e → d + a ≡ (d + b) + e
-    plus d a b e h = omega arith
+new-append x (FrameFrom r s ∷ t) u = omega (arith, new-append x t u)
 new-append x (SkipFrom s y ∷ t) u = new-append x t u
 
 pub old-append : (x : ℕ) (t u : List Event) → oldSteps x (t ++ u) ≡ oldSteps x t + oldSteps x u
 old-append x [] u = omega arith
-old-append x (FrameFrom r s ∷ t) u = plus _ _ _ _ (old-append x t u)
-  where
-    plus : (d a b e : ℕ) → a ≡ b + e → d + a ≡ (d + b) + e
-    plus d a b e h = omega arith
+old-append x (FrameFrom r s ∷ t) u = omega (arith, old-append x t u)
 old-append x (SkipFrom s y ∷ t) u = old-append x t u
 
 pub words-append : (t u : List Event) → wordsIn (t ++ u) ≡ wordsIn t ++ wordsIn u

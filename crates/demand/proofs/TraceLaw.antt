@@ -18,7 +18,7 @@ use Rattle.client_skip.specs.Skip.{skippedOf}
 use Rattle.session_laws.proofs.TraceStamps.{lag-is}
 use Rattle.session_laws.proofs.TraceSteps.{lagIn}
 use Rattle.session_laws.proofs.TraceFrames.{gapBy}
-use Rattle.fixed_timestepper.specs.TimeKeeper.{Event, FrameFrom, SkipFrom}
+use Rattle.demand.specs.Events.{Event, FrameFrom, SkipFrom}
 use Rattle.demand.specs.Demand.{newIn, framesIn, newSteps, Loading, NoLoad, Loaded, loadBy, Frame, framesFrom, NoLoads, behindLast, CatchUp}
 use Rattle.demand.proofs.TraceCounts.{frame-new}
 

@@ -1,13 +1,12 @@
 -- The snapshot words of what happened are its loads: a frame that loads puts one, and nothing else puts any. Assumes nothing.
 use mathlib.Core.Bool.{Bool, true, false, cond}
 use mathlib.Core.List.{List, [], _∷_, _++_}
-use mathlib.Core.Path.{_≡_, refl, _∙_}
-use Prim.Native.Nat.{ℕ, zero, suc, _+_}
+use mathlib.Core.Path.{_≡_, refl}
+use Prim.Native.Nat.{ℕ, zero, suc, _+_, _≤_}
 use native.Mathlib.Omega.{arith}
 use lib.Dec.{eqb}
 use lib.ListN.{replicate}
-use lib.Ieee.{Float, eq, fin}
-use lib.IntN.{pos}
+use lib.Ieee.{Float}
 use Rattle.timestamp.specs.declared.Timestamp.{Timestamp}
 use Rattle.tape.specs.Words.{kindOf, stepWord, publishWord, noneWord, weightWords, mixWords, snapshotWords}
 use Rattle.tape.proofs.Reading.{kind-of-step, kind-of-command, kind-of-snapshot, kind-of-publish, kind-of-mix, kind-of-weight, kind-of-none}
@@ -21,15 +20,17 @@ use Rattle.client.specs.declared.ReconciliationStatus.the-variants.{AwaitingSna
 use Rattle.client.specs.declared.Queued.{Queued}
 use Rattle.client.specs.declared.Queued.the-variants.{Nothing, Held}
 use Rattle.client.specs.declared.Scene.{Scene}
-use Rattle.client.specs.Sides.{newSideOf, oldSideOf, worldOf, oldStampOf, newStampOf, Played, still, andThen, doneAt}
+use Rattle.client.specs.Sides.{newSideOf, oldSideOf, worldOf, oldStampOf, andThen, doneAt}
 use Rattle.client.specs.Status.{statusOf}
-use Rattle.client_publish.specs.Publish.{publishedNone, publishedSide, publishedMix, publishedOld, publishedBoth, publishedBlended, nearOne}
+use Rattle.client_publish.proofs.Telling.{Telling, of-none, of-side, of-mix, told}
 use Rattle.client_frame.specs.declared.Rules.{Rules}
 use Rattle.client_load.specs.Load.{loadedAt, loadedOf}
-use Rattle.client_frame.specs.Frame.{loadsOf, loadedQueued, resetNew, openedOf, steppedSide, caughtUpOf, steppedNew, unless, caughtOf}
-use Rattle.client_frame.specs.Frame.{simulatedOf, blendedBy, publishedBy, shownOf, snapshotOf, frameOpened, frameOf}
-use Rattle.client_skip.specs.Skip.{resetSide, resetAlong, resetBoth, skippedOf}
-use Rattle.fixed_timestepper.specs.TimeKeeper.{Event, FrameFrom, SkipFrom}
+use Rattle.client_frame.specs.Frame.{loadsOf, loadedQueued, resetNew, openedOf, steppedSide, blendedBy, shownOf, snapshotOf, frameOpened}
+use Rattle.client_frame.specs.Frame.{frameOf}
+use Rattle.client_frame.proofs.Induction.{Law, Chains, parts-by, shown-by}
+use Rattle.client_skip.specs.Skip.{skippedOf}
+use Rattle.fixed_timestepper.proofs.Induction.{AllMoves, skip-by}
+use Rattle.demand.specs.Events.{Event, FrameFrom, SkipFrom}
 use Rattle.demand.specs.Demand.{loadBy, loadIn, wordsIn, countLoad, loadCountIn}
 
 -- ---- along a list
@@ -58,24 +59,20 @@ loads-none : snapshotWords [] ≡ 0
 unfolding snapshotWords
 loads-none = refl
 
--- ---- one thing and then another
+-- ---- the moves
 
--- no snapshot word is put
-abbrev Quiet : Played → Type 0
-Quiet p = snapshotWords (p .words) ≡ 0
+-- at most so many snapshot words are put
+abbrev AtMost : Law
+AtMost n s p = snapshotWords (p .words) ≤ n
 
-loads-then : (p : Played) (f : Scene → Played) → snapshotWords (andThen p f .words) ≡ snapshotWords (p .words) + snapshotWords (f (p .scene) .words)
+at-most-chains : Chains AtMost
 unfolding andThen
-loads-then p f = loads-append (p .words) (f (p .scene) .words)
-
-quiet-then : (p : Played) (f : Scene → Played) → Quiet p → Quiet (f (p .scene)) → Quiet (andThen p f)
-quiet-then p f h k = omega (arith, loads-then p f)
-
-quiet-pick : (b : Bool) (p q : Played) → Quiet p → Quiet q → Quiet (cond b p q)
-quiet-pick true p q h k = h
-quiet-pick false p q h k = k
-
--- ---- the steps
+at-most-chains =
+    record {
+      more = λ n k s p e h. omega arith;
+      stays = λ s. omega (arith, loads-none);
+      next = λ n k s p f h g. omega (arith, loads-append (p .words) (f (p .scene) .words));
+    }
 
 step-quiet : (w : Simulation) (x : ℕ) → snapshotWords (stepOf w x .words) ≡ 0
 unfolding stepOf
@@ -91,123 +88,71 @@ reset-quiet w t x = go (resetsBack t (w .commands .timestamp))
     go true = loads-commands x (held (movedOf (w .commands) t .buffer))
     go false = loads-none
 
-stepped-quiet : (s : Scene) (x : ℕ) → Quiet (steppedSide s x)
+told-quiet : (w : Telling) → snapshotWords (told w) ≡ 0
+unfolding mixWords weightWords snapshotWords
+told-quiet of-none = loads-pass noneWord 7 [] kind-of-none refl
+told-quiet (of-side x) = loads-pass (publishWord x) 4 [] (kind-of-publish x) refl
+told-quiet (of-mix t) = simp (kind-of-mix, kind-of-weight)
+
+-- a load puts one
+loaded-one : (s : Scene) (x : ℕ) (t : Timestamp) (h : ℕ) → snapshotWords (loadedOf s x t h .words) ≡ 1
+unfolding loadedOf loadedAt snapshotWords
+loaded-one s x t h = rw (kind-of-snapshot x h) (omega arith)
+
+at-most : AllMoves AtMost 1 0 0 0
 unfolding steppedSide doneAt
-stepped-quiet s x = step-quiet (worldOf (s .worlds) x) x
+at-most =
+    record {
+      moves = record {
+        stepping = record {
+          chains = at-most-chains;
+          steps = λ s x l. omega (arith, step-quiet (worldOf (s .worlds) x) x);
+          counts = λ s. omega (arith, loads-none);
+        };
+        fits = omega arith;
+        loads = λ s x t h l. omega (arith, loaded-one s x t h);
+        resets = λ s x t l. omega (arith, reset-quiet (worldOf (s .worlds) x) t x);
+        weighs = λ s t. omega (arith, loads-none);
+        shows = λ s l w. omega (arith, told-quiet w);
+      };
+      empties = λ s. omega (arith, loads-none);
+      ends = λ s t lag. omega (arith, loads-none);
+    }
 
-new-quiet : (s : Scene) → Quiet (steppedNew s)
-unfolding steppedNew
-new-quiet s = stepped-quiet s (newSideOf (s .worlds))
-
-caught-quiet : (n : ℕ) (o : Timestamp) (s : Scene) → Quiet (caughtOf n o s)
-unfolding caughtOf
-caught-quiet zero o s = loads-none
-caught-quiet (suc n) o s = go (caughtUpOf (newStampOf (s .worlds)) o) (caught-quiet n o (steppedNew s .scene))
-  where
-    go : (b : Bool) → Quiet (caughtOf n o (steppedNew s .scene)) → Quiet (unless b s (andThen (steppedNew s) (caughtOf n o)))
-    go true h = loads-none
-    go false h = quiet-then (steppedNew s) (caughtOf n o) (new-quiet s) h
-
-simulated-quiet : (m : ℕ) (s : Scene) → Quiet (simulatedOf m s)
-unfolding simulatedOf
-simulated-quiet m s =
-    let p : Played = steppedSide s (oldSideOf (s .worlds)) in
-    quiet-then p (λ t. caughtOf m (oldStampOf (t .worlds)) t) (stepped-quiet s (oldSideOf (s .worlds)))
-    (caught-quiet m (oldStampOf (p .scene .worlds)) (p .scene))
-
--- ---- what is published
-
-none-quiet : (s : Scene) → Quiet (publishedNone s)
-unfolding publishedNone
-none-quiet s = loads-pass noneWord 7 [] kind-of-none refl ∙ loads-none
-
-side-quiet : (s : Scene) (x : ℕ) → Quiet (publishedSide s x)
-unfolding publishedSide
-side-quiet s x = loads-pass (publishWord x) 4 [] (kind-of-publish x) refl ∙ loads-none
-
-mix-quiet : (s : Scene) (t : Float) → Quiet (publishedMix s t)
-unfolding publishedMix mixWords weightWords snapshotWords
-mix-quiet s t = simp (kind-of-mix, kind-of-weight)
-
-old-quiet : (s : Scene) → Quiet (publishedOld s)
-unfolding publishedOld
-old-quiet s = quiet-pick (worldOf (s .worlds) (oldSideOf (s .worlds)) .init) _ _ (side-quiet s (oldSideOf (s .worlds))) (none-quiet s)
-
-both-quiet : (s : Scene) → Quiet (publishedBoth s)
-unfolding publishedBoth
-both-quiet s =
-    quiet-pick (eq (s .worlds .weight) (fin false 0 (pos 0))) _ _ (side-quiet s (oldSideOf (s .worlds)))
-    (quiet-pick (nearOne (s .worlds .weight)) _ _ (side-quiet s (newSideOf (s .worlds))) (mix-quiet s (s .worlds .weight)))
-
-blended-quiet : (s : Scene) → Quiet (publishedBlended s)
-unfolding publishedBlended
-blended-quiet s =
-    quiet-pick (worldOf (s .worlds) (oldSideOf (s .worlds)) .init) _ _ (both-quiet s)
-    (quiet-pick (worldOf (s .worlds) (newSideOf (s .worlds)) .init) _ _ (side-quiet s (newSideOf (s .worlds))) (none-quiet s))
-
-published-quiet : (b : Bool) (s : Scene) → Quiet (publishedBy b s)
-published-quiet true s = blended-quiet s
-published-quiet false s = old-quiet s
-
-shown-quiet : (m : ℕ) (b : Bool) (s : Scene) → Quiet (shownOf m b s)
-unfolding shownOf
-shown-quiet m b s = quiet-then (simulatedOf m s) (publishedBy b) (simulated-quiet m s) (published-quiet b (simulatedOf m s .scene))
-
--- ---- the load
+-- ---- the load of a frame
 
 loaded-once : (s : Scene) (q : Queued) (x : ℕ) (o : Timestamp) → snapshotWords (loadedQueued s q x .words) ≡ countLoad (loadBy q o)
-unfolding loadedQueued loadedOf loadedAt snapshotWords
-loaded-once s Nothing x o = refl
-loaded-once s (Held t h) x o = rw (kind-of-snapshot x h) (omega arith)
-
-reset-new-quiet : (s : Scene) → Quiet (resetNew s)
-unfolding resetNew doneAt
-reset-new-quiet s = reset-quiet (worldOf (s .worlds) (newSideOf (s .worlds))) (oldStampOf (s .worlds)) (newSideOf (s .worlds))
+unfolding loadedQueued
+loaded-once s Nothing x o = loads-none
+loaded-once s (Held t h) x o = loaded-one s x t h
 
 opened-once : (t : ReconciliationStatus) (q : Queued) (p : Float) (s : Scene) (o : Timestamp)
     → snapshotWords (openedOf t (loadsOf t q) p s .words) ≡ countLoad (loadBy (loadsOf t q) o)
-unfolding openedOf
+unfolding openedOf resetNew doneAt
 opened-once AwaitingSnapshot q p s o = loaded-once s q (oldSideOf (s .worlds)) o
 opened-once (Blending t) q p s o = loads-none
 opened-once (Fastforwarding Healthy) q p s o = loads-none
 opened-once (Fastforwarding Obsolete) q p s o = loaded-once s q (newSideOf (s .worlds)) o
-opened-once (Fastforwarding Overshot) q p s o = reset-new-quiet s
+opened-once (Fastforwarding Overshot) q p s o = reset-quiet (worldOf (s .worlds) (newSideOf (s .worlds))) (oldStampOf (s .worlds)) (newSideOf (s .worlds))
 
 frame-once : (r : Rules) (s : Scene) → snapshotWords (frameOf r s .words) ≡ countLoad (loadIn s)
-unfolding frameOf frameOpened snapshotOf
+unfolding frameOf frameOpened snapshotOf andThen
 frame-once r s =
     let b : Bool = blendedBy (statusOf (s .worlds)) (snapshotOf s) in
+    let u : Scene = frameOpened r s .scene in
     omega (
       arith,
-      loads-then (frameOpened r s) (shownOf (r .m) b),
-      opened-once (statusOf (s .worlds)) (s .worlds .snapshots .queued) (r .progress) s
-          (oldStampOf (s .worlds)),
-      shown-quiet (r .m) b (frameOpened r s .scene),
+      loads-append (frameOpened r s .words) (shownOf (r .m) b u .words),
+      opened-once (statusOf (s .worlds)) (s .worlds .snapshots .queued) (r .progress) s (oldStampOf (s .worlds)),
+      shown-by (parts-by (at-most .moves) r) b u,
     )
-
--- ---- the skip
-
-reset-side-quiet : (s : Scene) (x : ℕ) (t : Timestamp) → Quiet (resetSide s x t)
-unfolding resetSide doneAt
-reset-side-quiet s x t = reset-quiet (worldOf (s .worlds) x) t x
-
-along-quiet : (s : Scene) (t : Timestamp) → Quiet (resetAlong s t)
-unfolding resetAlong
-along-quiet s t = quiet-pick (eqb (newStampOf (s .worlds) .0) (oldStampOf (s .worlds) .0)) (resetSide s (newSideOf (s .worlds)) t) (still s)
-    (reset-side-quiet s (newSideOf (s .worlds)) t) loads-none
-
-skip-quiet : (s : Scene) (t : Timestamp) → Quiet (skippedOf s t)
-unfolding skippedOf resetBoth
-skip-quiet s t =
-    quiet-then (resetAlong s t) (λ u. resetSide u (oldSideOf (s .worlds)) t) (along-quiet s t)
-    (reset-side-quiet (resetAlong s t .scene) (oldSideOf (s .worlds)) t)
 
 -- ---- along a trace
 
 trace-loads : (es : List Event) → snapshotWords (wordsIn es) ≡ loadCountIn es
 trace-loads [] = loads-none
 trace-loads (FrameFrom r s ∷ es) = omega (arith, loads-append (frameOf r s .words) (wordsIn es), frame-once r s, trace-loads es)
-trace-loads (SkipFrom s t ∷ es) = omega (arith, loads-append (skippedOf s t .words) (wordsIn es), skip-quiet s t, trace-loads es)
+trace-loads (SkipFrom s t ∷ es) = omega (arith, loads-append (skippedOf s t .words) (wordsIn es), skip-by at-most s t, trace-loads es)
 
 -- the snapshot words on a tape of what happened
 pub tape-loads : (es : List Event) (n : ℕ) → snapshotWords (wordsIn es ++ replicate n 0) ≡ loadCountIn es

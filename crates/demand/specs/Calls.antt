@@ -9,14 +9,13 @@ use lib.ListN.{length}
 use lib.Ieee.{Float}
 use Rattle.tape.specs.Words.{stepWords, stepsOn, commandsOn, snapshotWords}
 use Rattle.client.specs.declared.Ledger.{Ledger}
-use Rattle.fixed_timestepper.specs.TimeKeeper.{Event}
 use Rattle.session_state.specs.declared.Session.{Session}
 use Rattle.session_answers.specs.declared.UpdateAnswer.{UpdateAnswer}
 use Rattle.session_answers.specs.declared.IssueAnswer.{IssueAnswer}
 use Rattle.session.specs.Calls.{updateOf}
 use Rattle.session_answers.specs.Answers.{Updates}
 use Rattle.session.specs.Issue.{issueOf}
-use Rattle.demand.specs.Events.{eventsOf}
+use Rattle.demand.specs.Events.{Event, eventsOf}
 
 -- a call as it was made and answered: an update with its inbox, its tape before and after, or an issue
 pub data Call : Type 0 where
@@ -27,7 +26,7 @@ pub data Call : Type 0 where
 
 -- what the contracts of the code say of one call that was handed the session s
 abbrev pub Answered : Session → Call → Type 0
-Answered s (Update d t box was r last) = Updates (updateOf s d t box (length was) .reply) r last
+Answered s (Update d t box was r last) = Updates (updateOf s d t box (length was)) r last
 Answered s (Issue h r) = r ≡ issueOf s h
 
 -- what a call came to: the session that it returned, F, C, both ledgers, and its tape as it came back, of so many words; a call that has no tape has

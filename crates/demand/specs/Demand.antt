@@ -20,10 +20,11 @@ use Rattle.client.specs.Sides.{oldSideOf, newSideOf, worldOf, oldStampOf, newSt
 use Rattle.client_frame.specs.declared.Rules.{Rules}
 use Rattle.client_frame.specs.Frame.{frameOf, frameOpened, snapshotOf}
 use Rattle.client_skip.specs.Skip.{skippedOf}
-use Rattle.fixed_timestepper.specs.TimeKeeper.{rulesOf, Event, FrameFrom, SkipFrom}
+use Rattle.fixed_timestepper.specs.TimeKeeper.{rulesOf}
 use Rattle.session_state.specs.declared.Session.{Session}
 use Rattle.session_state.specs.Session.{hasWorlds}
 use Rattle.session_state.specs.Sound.{soundOf}
+use Rattle.demand.specs.Events.{Event, FrameFrom, SkipFrom}
 use Rattle.demand.specs.Calls.{Call, Chain, endOf, traceOf, outcomeOf, happened, sum, sessionOf, framesOf, catchUpsOf}
 use Rattle.demand.specs.Calls.{ledgerOn, markedOf, loadWordsOf, markedOn, appliedOn}
 

@@ -7,15 +7,21 @@ use lib.Dec.{eqb}
 use lib.Ieee.{Float, binary64, add, sub, lt}
 use Rattle.refusals.specs.Limits.{mostFrames}
 use Rattle.refusals.specs.Refusals.{accepted}
+use Rattle.timestamp.specs.declared.Timestamp.{Timestamp}
 use Rattle.settings.specs.declared.Settings.{Settings}
 use Rattle.client.specs.declared.Scene.{Scene}
 use Rattle.client.specs.Sides.{oldStampOf}
 use Rattle.client_frame.specs.declared.Rules.{Rules}
 use Rattle.client_frame.specs.Frame.{frameOf}
-use Rattle.fixed_timestepper.specs.TimeKeeper.{rulesOf, Event, FrameFrom, SkipFrom, compensatedOf, correctedOf, skipsOf}
+use Rattle.fixed_timestepper.specs.TimeKeeper.{rulesOf, compensatedOf, correctedOf, skipsOf}
 use Rattle.timestamp.specs.Floats.{zero64}
 use Rattle.session_state.specs.declared.Session.{Session}
 use Rattle.session.specs.Calls.{laggedOf, clockAfter, sceneAfter}
+
+-- what happens to worlds, in its order: a frame by its rules of the scene before it, or a skip from the scene before it to a stamp
+pub data Event : Type 0 where
+  FrameFrom : (rules : Rules) (before : Scene) → Event
+  SkipFrom : (before : Scene) (stamp : Timestamp) → Event
 
 -- how many frames bring an overshoot to 0 or above, each adding the timestep: so many at most
 abbrev pub framesFor : ℕ → Float → Float → ℕ

@@ -62,26 +62,27 @@ module _ {c : Settings} {R : ℕ → Scene → Float → Run → Type 0} (h : Ru
 
 -- ---- what comes after them
 
+-- whether a run that ended by itself goes on to a skip
+abbrev pub toSkip : Settings → Float → Run → Bool
+toSkip c server r = skipsOf (oldStampOf (r .played .scene .worlds)) (r .overshoot) server c
+
 -- a thing R of the frames gives a thing E of the update: no skip, a skip, and what is displayed at the end
 pub record Ends (c : Settings) (server : Float) (R E : Run → Type 0) : Type 0 where
-  pub rests : (r : Run) → R r → E r
-  pub skips : (r : Run) → R r → E (skipped r server c)
+  pub rests : (r : Run) → (r .stop ≡ Done → toSkip c server r ≡ false) → R r → E r
+  pub skips : (r : Run) → toSkip c server r ≡ true → R r → E (skipped r server c)
   pub shows : (r : Run) (t : Float) (lag : ℕ) → E r → E (endsWith r (postUpdateOf (r .played .scene .worlds) t lag))
 
-one-of : (E : Run → Type 0) (b : Bool) (p q : Run) → E p → E q → E (cond b p q)
-one-of E true p q x y = x
-one-of E false p q x y = y
-
 module _ {c : Settings} {server : Float} {R E : Run → Type 0} (h : Ends c server R E) where
-  maybe-by : (r : Run) → R r → E (maybeSkipped r server c)
-  unfolding maybeSkipped
-  maybe-by r x = one-of E (skipsOf (oldStampOf (r .played .scene .worlds)) (r .overshoot) server c) _ _ (h .skips r x) (h .rests r x)
+  maybe-by : (b : Bool) (r : Run) → toSkip c server r ≡ b → R r → E (cond b (skipped r server c) r)
+  maybe-by true r e k = h .skips r e k
+  maybe-by false r e k = h .rests r (λ d. e) k
 
   -- the frames, by why they ended, and the skip after them
-  after-by : (x : Stop) (r : Run) → R r → E (skippedBy x r server c)
-  after-by Done r k = maybe-by r k
-  after-by TooManyFrames r k = h .rests r k
-  after-by StatusStops r k = h .rests r k
+  after-by : (x : Stop) (r : Run) → r .stop ≡ x → R r → E (skippedBy x r server c)
+  unfolding maybeSkipped
+  after-by Done r e k = maybe-by (toSkip c server r) r refl k
+  after-by TooManyFrames r e k = h .rests r (λ d. absurd (let z : _≡_ {A = ℕ} 0 1 = cc in omega arith)) k
+  after-by StatusStops r e k = h .rests r (λ d. absurd (let z : _≡_ {A = ℕ} 0 1 = cc in omega arith)) k
 
   -- an update of the worlds
   pub ended-by : (s : Scene) (o delta : Float) → R (advancedOf c s o delta server) → E (updatedOf c s o delta server)
@@ -89,7 +90,7 @@ module _ {c : Settings} {server : Float} {R E : Run → Type 0} (h : Ends c serv
   ended-by s o delta k =
       let u : Run = unendedOf c s o delta server in
       h .shows u (shapedOf (c .method) (tweenOf (u .overshoot) (c .timestep))) (bitsOf (lagFrameCountOf c))
-      (after-by (advancedOf c s o delta server .stop) (advancedOf c s o delta server) k)
+      (after-by (advancedOf c s o delta server .stop) (advancedOf c s o delta server) refl k)
 
 -- ---- a law of an update
 
@@ -125,8 +126,8 @@ module _ {P : Law} {c : Settings} {one skip : ℕ} (h : Updates P c one skip) wh
   law-ends : (n : ℕ) (s : Scene) (server : Float) → Ends c server (λ r. P n s (r .played)) (λ r. P (n + skip) s (r .played))
   law-ends n s server =
       record {
-        rests = λ r k. h .chains .more n (n + skip) s (r .played) (omega arith) k;
-        skips = λ r k. skipped-by n s r server k;
+        rests = λ r e k. h .chains .more n (n + skip) s (r .played) (omega arith) k;
+        skips = λ r e k. skipped-by n s r server k;
         shows = λ r t lag k. quiet-by (h .chains) (n + skip) s (r .played) (λ (u : Scene). withWorlds u (postUpdateOf (u .worlds) t lag)) k
             (h .ends (r .played .scene) t lag);
       }

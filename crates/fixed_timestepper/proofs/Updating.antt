@@ -26,12 +26,11 @@ module _ (a : Advanced) (q : Run) (server : Float) (c : Settings) (hs : a .scene
     (hf : a .frames ≡ q .frames) (hp : a .stop ≡ q .stop) where
   -- the same run, its scene and the rest written as the answer has them
   same : Run
-  same = record
-      { played = record { scene = a .scene; words = q .played .words }; overshoot = a .overshoot; frames = a .frames; stop = a .stop; trace = q .trace }
+  same = record { played = record { scene = a .scene; words = q .played .words }; overshoot = a .overshoot; frames = a .frames; stop = a .stop }
 
   same-is : same ≡ q
   unfolding same
-  same-is = λ i. record { played = record { scene = hs i; words = q .played .words }; overshoot = ho i; frames = hf i; stop = hp i; trace = q .trace }
+  same-is = λ i. record { played = record { scene = hs i; words = q .played .words }; overshoot = ho i; frames = hf i; stop = hp i }
 
   -- what the skip after it has in common with the skip after the answer
   common-by : (b : Bool) → (cond b (skipped same server c) same .played .scene ≡ cond b (skipped (runBy a []) server c) (runBy a []) .played .scene)

@@ -15,9 +15,9 @@ use Rattle.fixed_timestepper.specs.declared.Advanced.{Advanced}
 use Rattle.fixed_timestepper.specs.TimeKeeper.{Run, skipsOf, maybeSkipped}
 use Rattle.timestamp.specs.Floats.{zero64}
 
--- the run that the code's answer stands for, its words being those and its trace left aside
+-- the run that the code's answer stands for, its words being those
 abbrev pub runBy : Advanced → List ℕ → Run
-runBy a ws = record { played = record { scene = a .scene; words = ws }; overshoot = a .overshoot; frames = a .frames; stop = a .stop; trace = [] }
+runBy a ws = record { played = record { scene = a .scene; words = ws }; overshoot = a .overshoot; frames = a .frames; stop = a .stop }
 
 -- an overshoot asks for one frame and no more
 unfoldable pub isSingle : Float → Float → Bool

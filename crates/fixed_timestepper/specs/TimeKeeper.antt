@@ -2,7 +2,7 @@
 -- Definitions only. Assumes nothing.
 use Prim.Native.Nat.{ℕ, zero, suc, _+_}
 use mathlib.Core.Bool.{Bool, true, false, cond}
-use mathlib.Core.List.{List, [], _∷_, _++_}
+use mathlib.Core.List.{List, _++_}
 use mathlib.Core.Path.{_≡_}
 use lib.IntN.{negsuc}
 use lib.Ieee.{Float, fin, binary64, add, sub, mul, lt, le}
@@ -58,22 +58,16 @@ compensatedOf stamp overshoot delta server s =
 abbrev pub rulesOf : Settings → Rules
 rulesOf c = record { m = c .m; progress = blendProgressOf c }
 
--- what happens to worlds, in its order: a frame by its rules of the scene before it, or a skip from the scene before it to a stamp
-pub data Event : Type 0 where
-  FrameFrom : (rules : Rules) (before : Scene) → Event
-  SkipFrom : (before : Scene) (stamp : Timestamp) → Event
-
--- frames that were played: the scene and the words, the overshoot after them, how many they are, why they ended, and the trace of what happened
+-- frames that were played: the scene and the words, the overshoot after them, how many they are, and why they ended
 pub record Run : Type 0 where
   pub played : Played
   pub overshoot : Float
   pub frames : ℕ
   pub stop : Stop
-  pub trace : List Event
 
 -- no frame more
 abbrev pub ended : Stop → Scene → Float → Run
-ended stop s o = record { played = still s; overshoot = o; frames = 0; stop = stop; trace = [] }
+ended stop s o = record { played = still s; overshoot = o; frames = 0; stop = stop }
 
 -- a frame of the scene s, and then a run from the scene after it
 unfoldable pub framed : Rules → Scene → Run → Run
@@ -83,7 +77,6 @@ framed rules s r =
       overshoot = r .overshoot;
       frames = 1 + r .frames;
       stop = r .stop;
-      trace = FrameFrom rules s ∷ r .trace;
     }
 
 -- a run goes on from a scene, where the frame did not stop it
@@ -127,7 +120,6 @@ skipped r server c =
       overshoot = correctedOvershoot server (c .timestep);
       frames = r .frames;
       stop = r .stop;
-      trace = r .trace ++ (SkipFrom (r .played .scene) (correctedOf server (c .timestep)) ∷ []);
     }
 
 -- a run, and then a skip where there is one
@@ -162,7 +154,6 @@ endsWith r w =
       overshoot = r .overshoot;
       frames = r .frames;
       stop = r .stop;
-      trace = r .trace;
     }
 
 -- a run with what an update ends with

@@ -37,7 +37,7 @@ use Rattle.session_state.specs.Sound.{soundOf}
 use Rattle.inbox_passes.specs.Passes.{hasForWorlds, heardIn, receivedIn, notedIn}
 use Rattle.session_answers.specs.declared.UpdateAnswer.{UpdateAnswer}
 use Rattle.session_answers.specs.declared.ReportAnswer.{ReportAnswer}
-use Rattle.session_answers.specs.Answers.{Reply, Answer, unplayedOf, refusedWith, unlessRefused, syncedOf, sceneOf, closedOf, stageAfter, acceptedOf, Updates}
+use Rattle.session_answers.specs.Answers.{Reply, unplayedOf, refusedWith, unlessRefused, syncedOf, sceneOf, closedOf, stageAfter, acceptedOf, Updates}
 use Rattle.session_answers.specs.Answers.{unreported, reportedOf}
 use Rattle.session_answers.specs.Inner.{acceptedBy}
 use Rattle.session.specs.Calls.{timesOk, refusedAtOnce, heardOther, clockAfter, requestOf, clockMovedOf, clockUpdateOf, concludedOf, serverTimeBy}
@@ -51,15 +51,15 @@ updates-as : {x y : Reply} {r : UpdateAnswer} {last : List ℕ} → x ≡ y → 
 updates-as {x} {y} {r} {last} e h = subst (λ (z : Reply). Updates z r last) e h
 
 -- an update that is refused
-refused-is : (s : Session) (len : ℕ) (a : Answer) {m n : ℕ} {r : UpdateAnswer} {last : List ℕ} → m ≡ n → (m ≡ accepted → ⊥)
-    → Updates (refusedWith m s len .reply) r last → Updates (unlessRefused n s len a .reply) r last
+refused-is : (s : Session) (len : ℕ) (a : Reply) {m n : ℕ} {r : UpdateAnswer} {last : List ℕ} → m ≡ n → (m ≡ accepted → ⊥)
+    → Updates (refusedWith m s len) r last → Updates (unlessRefused n s len a) r last
 refused-is s len a {m} {n} {r} {last} e k h =
-    updates-as (λ i. cond (sym (ne-eqb n 0 (λ z. k (e ∙ z))) i) a (refusedWith (e i) s len) .reply) h
+    updates-as (λ i. cond (sym (ne-eqb n 0 (λ z. k (e ∙ z))) i) a (refusedWith (e i) s len)) h
 
 -- one that is not
-accepted-by : (s : Session) (len : ℕ) (a : Answer) {m n : ℕ} {r : UpdateAnswer} {last : List ℕ} → m ≡ n → m ≡ accepted → Updates (a .reply) r last
-    → Updates (unlessRefused n s len a .reply) r last
-accepted-by s len a {m} {n} e k h = updates-as (λ i. cond (sym (eq-eqb n 0 (sym e ∙ k)) i) a (refusedWith n s len) .reply) h
+accepted-by : (s : Session) (len : ℕ) (a : Reply) {m n : ℕ} {r : UpdateAnswer} {last : List ℕ} → m ≡ n → m ≡ accepted → Updates a r last
+    → Updates (unlessRefused n s len a) r last
+accepted-by s len a {m} {n} e k h = updates-as (λ i. cond (sym (eq-eqb n 0 (sym e ∙ k)) i) a (refusedWith n s len)) h
 
 -- ---- refused at once
 
@@ -94,14 +94,14 @@ module _ (s : Session) (delta seconds : Float) (inbox : List ℕ) {start heard :
   syncing-is : n ≡ syncingRefusalBy (hasForWorlds inbox) (heardOther s seconds inbox)
   syncing-is = hn ∙ (λ i. syncingRefusalBy (hp i) (other-is s seconds inbox hl hh i))
 
-  pub clock-refused : (len : ℕ) {r : UpdateAnswer} {last : List ℕ} → (n ≡ 0 → ⊥) → Updates (refusedWith n s len .reply) r last
-      → Updates (clockUpdateOf s delta seconds inbox len .reply) r last
+  pub clock-refused : (len : ℕ) {r : UpdateAnswer} {last : List ℕ} → (n ≡ 0 → ⊥) → Updates (refusedWith n s len) r last
+      → Updates (clockUpdateOf s delta seconds inbox len) r last
   unfolding clockUpdateOf
   clock-refused len k h = refused-is s len (clockMovedOf s delta seconds inbox len) syncing-is k h
 
   pub clock-moved : (len : ℕ) {t : Ticked} {c : Clock} {next : Session} {r : UpdateAnswer} {last : List ℕ} → n ≡ 0
       → t ≡ tickedOf (s .clock) (s .settings .period) delta → c ≡ settledOf (s .settings) (t .clock) heard → next ≡ syncedOf s c seconds
-      → Updates (unplayedOf 0 next (t .request) len) r last → Updates (clockUpdateOf s delta seconds inbox len .reply) r last
+      → Updates (unplayedOf 0 next (t .request) len) r last → Updates (clockUpdateOf s delta seconds inbox len) r last
   unfolding clockUpdateOf
   clock-moved len k ht hc hx h =
       accepted-by s len (clockMovedOf s delta seconds inbox len) syncing-is k
@@ -113,7 +113,7 @@ module _ (s : Session) (delta seconds : Float) (inbox : List ℕ) {start heard :
 unfoldable concludedBy : Session → Clock → Bool → Advanced → List ℕ → Reply
 concludedBy s c request a tape =
     let n = endRefusalOf s a (length tape) in
-    cond (eqb n accepted) (acceptedBy s c request a tape) (refusedWith n s (length tape) .reply)
+    cond (eqb n accepted) (acceptedBy s c request a tape) (refusedWith n s (length tape))
 
 -- a run before its end, as the code holds it
 module _ (s : Session) (c : Clock) (request : Bool) (u : Run) {was mid : List ℕ} {a : Advanced} (h : Advances u was a mid) where
@@ -133,7 +133,7 @@ module _ (s : Session) (c : Clock) (request : Bool) (u : Run) {was mid : List �
 
   -- the accepted reply to a run is the one to the run as the code holds it
   accepted-is : leb (length (u .played .words)) (length was) ≡ true
-      → acceptedBy s c request a mid ≡ acceptedOf s c request (finishedOf (s .settings) u) (length was) .reply
+      → acceptedBy s c request a mid ≡ acceptedOf s c request (finishedOf (s .settings) u) (length was)
   unfolding acceptedBy acceptedOf
   accepted-is e =
       let t : cleared mid (a .at) ≡ u .played .words ++ replicate (length was - length (u .played .words)) 0 =
@@ -154,18 +154,18 @@ module _ (s : Session) (c : Clock) (request : Bool) (u : Run) {was mid : List �
 
   -- by its refusal
   concluded-by : (b : Bool) → eqb number accepted ≡ b
-      → cond b (acceptedBy s c request a mid) (refusedWith number s (length mid) .reply) ≡ cond b
-      (acceptedOf s c request (finishedOf (s .settings) u) (length was)) (refusedWith number s (length was)) .reply
+      → cond b (acceptedBy s c request a mid) (refusedWith number s (length mid)) ≡ cond b
+      (acceptedOf s c request (finishedOf (s .settings) u) (length was)) (refusedWith number s (length was))
   unfolding number
   concluded-by true e =
       accepted-is (end-accepted (u .stop) (weightOk (tweenOf (u .overshoot) (s .settings .timestep))) (leb (length (u .played .words)) (length was))
       (eqb-true number 0 e) .2)
-  concluded-by false e = λ i. refusedWith number s (long i) .reply
+  concluded-by false e = λ i. refusedWith number s (long i)
 
   -- the reply to a run as the code holds it is the reply to the run with its end
-  concluded-is : concludedBy s c request a mid ≡ concludedOf s c request (finishedOf (s .settings) u) (length was) .reply
+  concluded-is : concludedBy s c request a mid ≡ concludedOf s c request (finishedOf (s .settings) u) (length was)
   unfolding concludedBy concludedOf number
-  concluded-is = (λ i. cond (eqb (number-is i) accepted) (acceptedBy s c request a mid) (refusedWith (number-is i) s (length mid) .reply))
+  concluded-is = (λ i. cond (eqb (number-is i) accepted) (acceptedBy s c request a mid) (refusedWith (number-is i) s (length mid)))
       ∙ concluded-by (eqb number accepted) refl
 
 -- the frames, from the parts that the code has
@@ -193,15 +193,15 @@ module _ (s : Session) (delta seconds : Float) (inbox : List ℕ) {start heard :
   arrival-is : n ≡ arrivalRefusalBy (heardOther s seconds inbox) (receivedIn inbox (unreceived s) .full)
   arrival-is = hn ∙ (λ i. arrivalRefusalBy (other-is s seconds inbox hl hh i) (received-is i .full))
 
-  pub worlds-refused : (len : ℕ) {r : UpdateAnswer} {last : List ℕ} → (n ≡ 0 → ⊥) → Updates (refusedWith n s len .reply) r last
-      → Updates (worldsUpdateOf s delta seconds inbox len .reply) r last
+  pub worlds-refused : (len : ℕ) {r : UpdateAnswer} {last : List ℕ} → (n ≡ 0 → ⊥) → Updates (refusedWith n s len) r last
+      → Updates (worldsUpdateOf s delta seconds inbox len) r last
   unfolding worldsUpdateOf
   worlds-refused len k h = refused-is s len _ arrival-is k h
 
   module _ {was mid last : List ℕ} {t : Ticked} {c : Clock} {a : Advanced} {r : UpdateAnswer} (z : n ≡ 0)
       (ht : t ≡ tickedOf (s .clock) (s .settings .period) delta) (hc : c ≡ settledOf (s .settings) (t .clock) heard)
       (ha : Advances (unendedWith s got c delta seconds inbox) was a mid) where
-    worlds-played : Updates (concludedBy s c (t .request) a mid) r last → Updates (worldsUpdateOf s delta seconds inbox (length was) .reply) r last
+    worlds-played : Updates (concludedBy s c (t .request) a mid) r last → Updates (worldsUpdateOf s delta seconds inbox (length was)) r last
     unfolding worldsUpdateOf playedOf updatedOf
     worlds-played h =
         let k : c ≡ clockAfter s delta seconds inbox = clock-is s delta seconds inbox hl hh ht hc in
@@ -211,39 +211,39 @@ module _ (s : Session) (delta seconds : Float) (inbox : List ℕ) {start heard :
         accepted-by s (length was) _ arrival-is z (updates-as ((λ i. concludedBy s (k i) (ht i .request) a mid) ∙ concluded-is s d (requestOf s delta) u v) h)
 
     -- refused at its end
-    pub worlds-stopped : {m len : ℕ} → m ≡ endRefusalOf s a len → len ≡ length mid → (m ≡ 0 → ⊥) → Updates (refusedWith m s len .reply) r last
-        → Updates (worldsUpdateOf s delta seconds inbox (length was) .reply) r last
+    pub worlds-stopped : {m len : ℕ} → m ≡ endRefusalOf s a len → len ≡ length mid → (m ≡ 0 → ⊥) → Updates (refusedWith m s len) r last
+        → Updates (worldsUpdateOf s delta seconds inbox (length was)) r last
     unfolding concludedBy
     worlds-stopped {m} {len} hm hx e h =
         let q : m ≡ endRefusalOf s a (length mid) = hm ∙ ap (endRefusalOf s a) hx in
         worlds-played
         (updates-as
-        ((λ i. refusedWith (q i) s (hx i) .reply) ∙ (λ i. cond (sym (ne-eqb (endRefusalOf s a (length mid)) 0 (λ y. e (q ∙ y))) i)
-        (acceptedBy s c (t .request) a mid) (refusedWith (endRefusalOf s a (length mid)) s (length mid) .reply)))
+        ((λ i. refusedWith (q i) s (hx i)) ∙ (λ i. cond (sym (ne-eqb (endRefusalOf s a (length mid)) 0 (λ y. e (q ∙ y))) i)
+        (acceptedBy s c (t .request) a mid) (refusedWith (endRefusalOf s a (length mid)) s (length mid))))
         h)
 
     -- accepted
     pub worlds-accepted : {m len : ℕ} → m ≡ endRefusalOf s a len → len ≡ length mid → m ≡ 0 → Updates (acceptedBy s c (t .request) a mid) r last
-        → Updates (worldsUpdateOf s delta seconds inbox (length was) .reply) r last
+        → Updates (worldsUpdateOf s delta seconds inbox (length was)) r last
     unfolding concludedBy
     worlds-accepted {m} {len} hm hx e h =
         let q : m ≡ endRefusalOf s a (length mid) = hm ∙ ap (endRefusalOf s a) hx in
         worlds-played
         (updates-as (λ i. cond (sym (eq-eqb (endRefusalOf s a (length mid)) 0 (sym q ∙ e)) i) (acceptedBy s c (t .request) a mid)
-        (refusedWith (endRefusalOf s a (length mid)) s (length mid) .reply)) h)
+        (refusedWith (endRefusalOf s a (length mid)) s (length mid))) h)
 
 -- ---- update
 
 module _ (s : Session) (delta seconds : Float) (inbox : List ℕ) (len : ℕ) {n : ℕ} {r : UpdateAnswer} {last : List ℕ}
     (hn : n ≡ refusedAtOnce s delta seconds inbox) where
-  pub update-refused : (n ≡ 0 → ⊥) → Updates (refusedWith n s len .reply) r last → Updates (updateOf s delta seconds inbox len .reply) r last
+  pub update-refused : (n ≡ 0 → ⊥) → Updates (refusedWith n s len) r last → Updates (updateOf s delta seconds inbox len) r last
   unfolding updateOf
   update-refused e h = refused-is s len _ hn e h
 
-  pub update-by : (x : Bool) {w : Bool} → n ≡ 0 → w ≡ hasWorlds (s .stage) → w ≡ x → Updates (updateBy x s delta seconds inbox len .reply) r last
-      → Updates (updateOf s delta seconds inbox len .reply) r last
+  pub update-by : (x : Bool) {w : Bool} → n ≡ 0 → w ≡ hasWorlds (s .stage) → w ≡ x → Updates (updateBy x s delta seconds inbox len) r last
+      → Updates (updateOf s delta seconds inbox len) r last
   unfolding updateOf
-  update-by x e hw k h = accepted-by s len _ hn e (updates-as (λ i. updateBy ((sym k ∙ hw) i) s delta seconds inbox len .reply) h)
+  update-by x e hw k h = accepted-by s len _ hn e (updates-as (λ i. updateBy ((sym k ∙ hw) i) s delta seconds inbox len) h)
 
 -- ---- report
 

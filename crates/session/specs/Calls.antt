@@ -2,7 +2,7 @@
 -- Definitions only. Assumes nothing.
 use Prim.Native.Nat.{ℕ}
 use mathlib.Core.Bool.{Bool, true, false, cond, _&&_}
-use mathlib.Core.List.{List, []}
+use mathlib.Core.List.{List}
 use lib.Dec.{eqb, leb}
 use lib.ListN.{length}
 use lib.Ieee.{Float, binary64, add}
@@ -27,7 +27,7 @@ use Rattle.session_state.specs.Sound.{soundOf}
 use Rattle.inbox_passes.specs.Passes.{hasForWorlds, heardIn, receivedIn, notedIn}
 use Rattle.session_answers.specs.declared.OpenAnswer.{OpenAnswer}
 use Rattle.session_answers.specs.declared.ReportAnswer.{ReportAnswer}
-use Rattle.session_answers.specs.Answers.{Answer, unplayedOf, unlessRefused, syncedOf, sceneOf, acceptedOf, unreported, reportedOf}
+use Rattle.session_answers.specs.Answers.{Reply, unplayedOf, unlessRefused, syncedOf, sceneOf, acceptedOf, unreported, reportedOf}
 
 -- ---- open
 
@@ -63,17 +63,16 @@ abbrev pub requestOf : Session → Float → Bool
 requestOf s delta = tickedOf (s .clock) (s .settings .period) delta .request
 
 -- an update that changes the clock alone, or makes the worlds: nothing is played
-abbrev pub clockMovedOf : Session → Float → Float → List ℕ → ℕ → Answer
-clockMovedOf s delta seconds inbox len =
-    record { reply = unplayedOf accepted (syncedOf s (clockAfter s delta seconds inbox) seconds) (requestOf s delta) len; trace = [] }
+abbrev pub clockMovedOf : Session → Float → Float → List ℕ → ℕ → Reply
+clockMovedOf s delta seconds inbox len = unplayedOf accepted (syncedOf s (clockAfter s delta seconds inbox) seconds) (requestOf s delta) len
 
 -- an update in the first stage
-unfoldable pub clockUpdateOf : Session → Float → Float → List ℕ → ℕ → Answer
+unfoldable pub clockUpdateOf : Session → Float → Float → List ℕ → ℕ → Reply
 clockUpdateOf s delta seconds inbox len =
     unlessRefused (syncingRefusalBy (hasForWorlds inbox) (heardOther s seconds inbox)) s len (clockMovedOf s delta seconds inbox len)
 
 -- what a run comes to
-unfoldable pub concludedOf : Session → Clock → Bool → Run → ℕ → Answer
+unfoldable pub concludedOf : Session → Clock → Bool → Run → ℕ → Reply
 concludedOf s c request r len =
     unlessRefused (endRefusalBy (r .stop) (weightOk (tweenOf (r .overshoot) (s .settings .timestep))) (leb (length (r .played .words)) len)) s len
     (acceptedOf s c request r len)
@@ -104,19 +103,19 @@ unfoldable pub playedOf : Session → Clock → Float → Float → List ℕ →
 playedOf s c delta seconds inbox = updatedOf (s .settings) (sceneAfter s inbox) (s .overshoot) delta (laggedOf s c seconds)
 
 -- an update once worlds exist
-unfoldable pub worldsUpdateOf : Session → Float → Float → List ℕ → ℕ → Answer
+unfoldable pub worldsUpdateOf : Session → Float → Float → List ℕ → ℕ → Reply
 worldsUpdateOf s delta seconds inbox len =
     let c = clockAfter s delta seconds inbox in
     unlessRefused (arrivalRefusalBy (heardOther s seconds inbox) (receivedIn inbox (unreceived s) .full)) s len
     (concludedOf s c (requestOf s delta) (playedOf s c delta seconds inbox) len)
 
 -- an update that is not refused at once, by whether worlds exist
-abbrev pub updateBy : Bool → Session → Float → Float → List ℕ → ℕ → Answer
+abbrev pub updateBy : Bool → Session → Float → Float → List ℕ → ℕ → Reply
 updateBy true s delta seconds inbox len = worldsUpdateOf s delta seconds inbox len
 updateBy false s delta seconds inbox len = clockUpdateOf s delta seconds inbox len
 
 -- update, with a tape of so many words
-unfoldable pub updateOf : Session → Float → Float → List ℕ → ℕ → Answer
+unfoldable pub updateOf : Session → Float → Float → List ℕ → ℕ → Reply
 updateOf s delta seconds inbox len = unlessRefused (refusedAtOnce s delta seconds inbox) s len (updateBy (hasWorlds (s .stage)) s delta seconds inbox len)
 
 -- ---- report

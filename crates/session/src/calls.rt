@@ -71,7 +71,7 @@ pub(crate) fn update_clock(
     inbox: &[u32],
     tape: &mut [u32],
 ) -> UpdateAnswer
-    ensures { λ r. ⌜ Updates (clockUpdateOf session delta seconds (now (inbox .entry)) (length (now (tape .entry))) .reply) r (now (tape .exit)) ⌝ }
+    ensures { λ r. ⌜ Updates (clockUpdateOf session delta seconds (now (inbox .entry)) (length (now (tape .entry)))) r (now (tape .exit)) ⌝ }
 {
     let clock = session.clock;
     let settings = session.settings;
@@ -138,7 +138,7 @@ pub fn update(
     inbox: &[u32],
     tape: &mut [u32],
 ) -> UpdateAnswer
-    ensures { λ r. ⌜ Updates (updateOf session delta seconds (now (inbox .entry)) (length (now (tape .entry))) .reply) r (now (tape .exit)) ⌝ }
+    ensures { λ r. ⌜ Updates (updateOf session delta seconds (now (inbox .entry)) (length (now (tape .entry)))) r (now (tape .exit)) ⌝ }
 {
     let n = refused_at_once(session, delta, seconds, inbox);
     if n != refusals::ACCEPTED {

@@ -43,7 +43,7 @@ unplayed-is n s request was e hl hr =
 
 -- it was refused
 pub refuse-is : (n : ℕ) (s : Session) (len : ℕ) {r : UpdateAnswer} {last : List ℕ} → Updates (unplayedOf n s false len) r last
-    → Updates (refusedWith n s len .reply) r last
+    → Updates (refusedWith n s len) r last
 unfolding refusedWith
 refuse-is n s len h = h
 

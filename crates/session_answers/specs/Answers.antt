@@ -2,7 +2,7 @@
 -- answers. Definitions only. Assumes nothing.
 use Prim.Native.Nat.{ℕ, _-_}
 use mathlib.Core.Bool.{Bool, false, cond}
-use mathlib.Core.List.{List, [], _++_}
+use mathlib.Core.List.{List, _++_}
 use mathlib.Core.Path.{_≡_}
 use lib.Dec.{eqb}
 use lib.ListN.{length, replicate}
@@ -27,7 +27,7 @@ use Rattle.client.specs.declared.Received.{Received}
 use Rattle.client.specs.Ledgers.{emptyLedger, withHeld}
 use Rattle.client.specs.Sides.{newWorldsOf, oldStampOf, newStampOf}
 use Rattle.client.specs.Status.{statusOf}
-use Rattle.fixed_timestepper.specs.TimeKeeper.{Run, Event}
+use Rattle.fixed_timestepper.specs.TimeKeeper.{Run}
 use Rattle.session_state.specs.declared.Stage.{Stage}
 use Rattle.session_state.specs.declared.Stage.the-variants.{SyncingClock, SyncingInitialState, Ready}
 use Rattle.session_state.specs.declared.Session.{Session}
@@ -69,22 +69,17 @@ pub record Updates (a : Reply) (r : UpdateAnswer) (last : List ℕ) : Type 0 whe
   pub answer : r ≡ answerOf a
   pub tape : last ≡ a .tape
 
--- a reply, and the trace of what happened to the worlds: the code gives the reply alone
-pub record Answer : Type 0 where
-  pub reply : Reply
-  pub trace : List Event
-
 -- the reply of an update that played nothing: the tape (of so many words) is zeroed
 abbrev pub unplayedOf : ℕ → Session → Bool → ℕ → Reply
 unplayedOf n s request len =
     record { refusal = n; session = s; frames = 0; steps = 0; request = request; left = emptyLedger; right = emptyLedger; words = 0; tape = replicate len 0 }
 
--- a refused update: the session unchanged, the tape zeroed, all else 0 or no; nothing happened
-unfoldable pub refusedWith : ℕ → Session → ℕ → Answer
-refusedWith n s len = record { reply = unplayedOf n s false len; trace = [] }
+-- a refused update: the session unchanged, the tape zeroed, all else 0 or no
+unfoldable pub refusedWith : ℕ → Session → ℕ → Reply
+refusedWith n s len = unplayedOf n s false len
 
--- an answer, unless the update is refused
-abbrev pub unlessRefused : ℕ → Session → ℕ → Answer → Answer
+-- a reply, unless the update is refused
+abbrev pub unlessRefused : ℕ → Session → ℕ → Reply → Reply
 unlessRefused n s len a = cond (eqb n accepted) a (refusedWith n s len)
 
 -- the session that starts its worlds at a server time: the first stamp uses it without lag, cut toward zero
@@ -112,21 +107,18 @@ stageAfter SyncingInitialState (DisplayedAt x) = Ready
 stageAfter Ready t = Ready
 
 -- an update that was played to its end, whose words fit the tape: they are on it, and zeros after them
-unfoldable pub acceptedOf : Session → Clock → Bool → Run → ℕ → Answer
+unfoldable pub acceptedOf : Session → Clock → Bool → Run → ℕ → Reply
 acceptedOf s c request r len =
     record {
-      reply = record {
-        refusal = accepted;
-        session = sessionWith s (stageAfter (s .stage) (r .played .scene .worlds .published .time)) c (r .played .scene .worlds) (r .overshoot);
-        frames = r .frames;
-        steps = r .played .scene .steps;
-        request = request;
-        left = closedOf (r .played .scene .left) (r .played .scene .worlds .left .commands);
-        right = closedOf (r .played .scene .right) (r .played .scene .worlds .right .commands);
-        words = length (r .played .words);
-        tape = r .played .words ++ replicate (len - length (r .played .words)) 0;
-      };
-      trace = r .trace;
+      refusal = accepted;
+      session = sessionWith s (stageAfter (s .stage) (r .played .scene .worlds .published .time)) c (r .played .scene .worlds) (r .overshoot);
+      frames = r .frames;
+      steps = r .played .scene .steps;
+      request = request;
+      left = closedOf (r .played .scene .left) (r .played .scene .worlds .left .commands);
+      right = closedOf (r .played .scene .right) (r .played .scene .worlds .right .commands);
+      words = length (r .played .words);
+      tape = r .played .words ++ replicate (len - length (r .played .words)) 0;
     }
 
 -- ---- issue

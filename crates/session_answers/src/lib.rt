@@ -77,7 +77,7 @@ pub fn unplayed(refusal: u32, session: Session, request: bool, tape: &mut [u32])
 
 // A refused update: the session unchanged, the tape zeroed, everything else 0.
 pub fn refuse(refusal: u32, session: Session, tape: &mut [u32]) -> UpdateAnswer
-    ensures { λ r. ⌜ Updates (refusedWith refusal session (length (now (tape .entry))) .reply) r (now (tape .exit)) ⌝ }
+    ensures { λ r. ⌜ Updates (refusedWith refusal session (length (now (tape .entry)))) r (now (tape .exit)) ⌝ }
 {
     unplayed(refusal, session, false, tape)
 }

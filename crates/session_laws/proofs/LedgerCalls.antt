@@ -166,18 +166,19 @@ closed-settles (suc (suc x)) s t u marks p e w m c = absurd (omega arith)
 -- ---- update
 
 -- a refused one
-refused-settles : (n x : ℕ) (s : Session) (len : ℕ) → hasWorlds (s .stage) ≡ true → Replied x s (refusedWith n s len .reply)
+refused-settles : (n x : ℕ) (s : Session) (len : ℕ) → hasWorlds (s .stage) ≡ true → Replied x s (refusedWith n s len)
 unfolding refusedWith
 refused-settles n x s len w = none-settles (eqb x 0) x s (commandsOn x (replicate len 0)) w (commands-on-zeros x len)
 
-stage-kept : (g : Stage) (t : DisplayTime) → hasWorlds g ≡ true → hasWorlds (stageAfter g t) ≡ true
+-- the worlds of a session that an update leaves exist
+pub stage-kept : (g : Stage) (t : DisplayTime) → hasWorlds g ≡ true → hasWorlds (stageAfter g t) ≡ true
 stage-kept SyncingClock t h = h
 stage-kept SyncingInitialState NotDisplayed h = refl
 stage-kept SyncingInitialState (DisplayedAt x) h = refl
 stage-kept Ready t h = refl
 
 accepted-settles : {n : ℕ} (x : ℕ) (s : Session) (c : Clock) (request : Bool) (r : Run) (len : ℕ) → x < 2 → hasWorlds (s .stage) ≡ true
-    → KeptBy x (heldAt x (s .worlds)) n 0 r → Replied x s (acceptedOf s c request r len .reply)
+    → KeptBy x (heldAt x (s .worlds)) n 0 r → Replied x s (acceptedOf s c request r len)
 unfolding acceptedOf
 accepted-settles x s c request r len p w g =
     let ws : List ℕ = r .played .words in
@@ -186,9 +187,9 @@ accepted-settles x s c request r len p w g =
 
 -- update: from a session whose worlds exist, sound or not
 pub update-settles : (x : ℕ) (s : Session) (delta seconds : Float) (inbox : List ℕ) (len : ℕ) → x < 2 → hasWorlds (s .stage) ≡ true
-    → Replied x s (updateOf s delta seconds inbox len .reply)
+    → Replied x s (updateOf s delta seconds inbox len)
 update-settles x s delta seconds inbox len p w =
-    update-by-ways {P = λ a. Replied x s (a .reply)} s delta seconds inbox len
+    update-by-ways {P = Replied x s} s delta seconds inbox len
     (record {
       refuses = λ n k. refused-settles n x s len w;
       syncs = λ j z. not-true (sym z ∙ w);

@@ -40,7 +40,7 @@ use Rattle.session_state.specs.declared.Session.{Session}
 use Rattle.session_answers.specs.declared.IssueAnswer.{IssueAnswer}
 use Rattle.session_state.specs.Sound.{noOffset, connectedOf, soundOf}
 use Rattle.session.specs.Calls.{startOf, openOf, timesOk, clockAfter, requestOf, laggedOf, sceneAfter, playedOf, updateOf}
-use Rattle.session_answers.specs.Answers.{Answer, refusedWith, startedAt, syncedOf, sceneOf, stageAfter, acceptedOf}
+use Rattle.session_answers.specs.Answers.{Reply, refusedWith, startedAt, syncedOf, sceneOf, stageAfter, acceptedOf}
 use Rattle.session.specs.Issue.{entryOf, issueOf}
 use Rattle.session_laws.proofs.SoundParts.{sound-facts, facts-sound, times-within, clock-after-sound, clock-after-timer, clock-after-slots}
 use Rattle.session_laws.proofs.SoundParts.{clock-after-ready, clock-after-first, server-within, scene-after-kept, scene-after-weighed}
@@ -174,7 +174,7 @@ pub record Good (s : Session) : Type 0 where
   pub fit : FloatsFit s
 
 -- a refused answer is not accepted
-refused-not : (n : ℕ) (s : Session) (len : ℕ) {X : Type 0} → (n ≡ 0 → ⊥) → refusedWith n s len .reply .refusal ≡ 0 → X
+refused-not : (n : ℕ) (s : Session) (len : ℕ) {X : Type 0} → (n ≡ 0 → ⊥) → refusedWith n s len .refusal ≡ 0 → X
 unfolding refusedWith
 refused-not n s len h e = absurd (h e)
 
@@ -196,7 +196,7 @@ stage-ready Ready c n h = h
 module _ (s : Session) (delta seconds : Float) (inbox : List ℕ) (g : Given s delta seconds) (n : s .stage ≡ SyncingClock → ⊥) where
   accepted-good : (request : Bool) (len : ℕ) → runIn s delta seconds inbox .stop ≡ Done
       → weightOk (tweenOf (runIn s delta seconds inbox .overshoot) (s .settings .timestep)) ≡ true
-      → Good (acceptedOf s (clockAfter s delta seconds inbox) request (runIn s delta seconds inbox) len .reply .session)
+      → Good (acceptedOf s (clockAfter s delta seconds inbox) request (runIn s delta seconds inbox) len .session)
   unfolding acceptedOf playedOf
   accepted-good request len e ok =
       let f = sound-facts s (g .sound) in
@@ -221,10 +221,10 @@ module _ (s : Session) (delta seconds : Float) (inbox : List ℕ) (g : Given s d
 
 -- ---- update
 
-update-good : (s : Session) (delta seconds : Float) (inbox : List ℕ) (len : ℕ) → FloatsFit s → updateOf s delta seconds inbox len .reply .refusal ≡ 0
-    → Good (updateOf s delta seconds inbox len .reply .session)
+update-good : (s : Session) (delta seconds : Float) (inbox : List ℕ) (len : ℕ) → FloatsFit s → updateOf s delta seconds inbox len .refusal ≡ 0
+    → Good (updateOf s delta seconds inbox len .session)
 update-good s delta seconds inbox len f =
-    update-by-ways {P = λ a. a .reply .refusal ≡ 0 → Good (a .reply .session)} s delta seconds inbox len
+    update-by-ways {P = λ a. a .refusal ≡ 0 → Good (a .session)} s delta seconds inbox len
     (record {
       refuses = λ n k e. refused-not n s len k e;
       syncs = λ j w e. record
@@ -247,12 +247,12 @@ pub data Either (n : ℕ) (s t : Session) : Type 0 where
   accepted : n ≡ 0 → Either n s t
   handed-back : t ≡ s → Either n s t
 
-refused-back : (n : ℕ) (s : Session) (len : ℕ) → Either (refusedWith n s len .reply .refusal) s (refusedWith n s len .reply .session)
+refused-back : (n : ℕ) (s : Session) (len : ℕ) → Either (refusedWith n s len .refusal) s (refusedWith n s len .session)
 unfolding refusedWith
 refused-back n s len = handed-back refl
 
-abbrev Back : Session → Answer → Type 0
-Back s a = Either (a .reply .refusal) s (a .reply .session)
+abbrev Back : Session → Reply → Type 0
+Back s a = Either (a .refusal) s (a .session)
 
 update-back : (s : Session) (delta seconds : Float) (inbox : List ℕ) (len : ℕ) → Back s (updateOf s delta seconds inbox len)
 unfolding acceptedOf
@@ -262,19 +262,19 @@ update-back s delta seconds inbox len =
 
 -- what the types say of the session goes on holding, refused or not
 pub update-fits : (s : Session) (delta seconds : Float) (inbox : List ℕ) (len : ℕ) → FloatsFit s
-    → FloatsFit (updateOf s delta seconds inbox len .reply .session)
+    → FloatsFit (updateOf s delta seconds inbox len .session)
 update-fits s delta seconds inbox len f = go (update-back s delta seconds inbox len)
   where
-    go : Back s (updateOf s delta seconds inbox len) → FloatsFit (updateOf s delta seconds inbox len .reply .session)
+    go : Back s (updateOf s delta seconds inbox len) → FloatsFit (updateOf s delta seconds inbox len .session)
     go (accepted e) = update-good s delta seconds inbox len f e .fit
     go (handed-back e) = subst FloatsFit (sym e) f
 
 -- a sound session is followed by a sound one, refused or not
 pub update-stays-sound : (s : Session) (delta seconds : Float) (inbox : List ℕ) (len : ℕ) → FloatsFit s → soundOf s ≡ true
-    → soundOf (updateOf s delta seconds inbox len .reply .session) ≡ true
+    → soundOf (updateOf s delta seconds inbox len .session) ≡ true
 update-stays-sound s delta seconds inbox len f h = go (update-back s delta seconds inbox len)
   where
-    go : Back s (updateOf s delta seconds inbox len) → soundOf (updateOf s delta seconds inbox len .reply .session) ≡ true
+    go : Back s (updateOf s delta seconds inbox len) → soundOf (updateOf s delta seconds inbox len .session) ≡ true
     go (accepted e) = update-good s delta seconds inbox len f e .sound
     go (handed-back e) = subst (λ (t : Session). soundOf t ≡ true) (sym e) h
 

@@ -25,7 +25,7 @@ use Rattle.session_state.specs.Session.{hasWorlds, isReady}
 use Rattle.session_state.specs.Sound.{soundOf}
 use Rattle.inbox_passes.specs.Passes.{hasForWorlds, receivedIn}
 use Rattle.session_answers.specs.declared.IssueAnswer.{IssueAnswer}
-use Rattle.session_answers.specs.Answers.{Answer, refusedWith, unlessRefused, acceptedOf, unissued, issuedOf}
+use Rattle.session_answers.specs.Answers.{Reply, refusedWith, unlessRefused, acceptedOf, unissued, issuedOf}
 use Rattle.session.specs.Calls.{timesOk, refusedAtOnce, heardOther, clockAfter, requestOf, clockMovedOf, clockUpdateOf, concludedOf, unreceived, playedOf}
 use Rattle.session.specs.Calls.{worldsUpdateOf, updateBy, updateOf}
 use Rattle.session.specs.Issue.{entryOf, receivedNow, issueRefusalOf, issueOf}
@@ -47,7 +47,7 @@ abbrev pub runIn : Session → Float → Float → List ℕ → Run
 runIn s delta seconds inbox = playedOf s (clockAfter s delta seconds inbox) delta seconds inbox
 
 -- the ways of an update
-pub record Ways (P : Answer → Type 0) (s : Session) (delta seconds : Float) (box : List ℕ) (len : ℕ) : Type 0 where
+pub record Ways (P : Reply → Type 0) (s : Session) (delta seconds : Float) (box : List ℕ) (len : ℕ) : Type 0 where
   pub refuses : (n : ℕ) → (n ≡ 0 → ⊥) → P (refusedWith n s len)
   pub syncs : Judged s delta seconds box → hasWorlds (s .stage) ≡ false → P (clockMovedOf s delta seconds box len)
   pub plays :
@@ -56,7 +56,7 @@ pub record Ways (P : Answer → Type 0) (s : Session) (delta seconds : Float) (b
       P (acceptedOf s (clockAfter s delta seconds box) (requestOf s delta) (runIn s delta seconds box) len)
 
 -- refused, or not
-unless-by : (P : Answer → Type 0) (n : ℕ) (s : Session) (len : ℕ) (a : Answer) → ((n ≡ 0 → ⊥) → P (refusedWith n s len)) → (n ≡ 0 → P a)
+unless-by : (P : Reply → Type 0) (n : ℕ) (s : Session) (len : ℕ) (a : Reply) → ((n ≡ 0 → ⊥) → P (refusedWith n s len)) → (n ≡ 0 → P a)
     → P (unlessRefused n s len a)
 unless-by P n s len a f g = go (eqb n accepted) (eqb-true n 0) (eqb-false n 0)
   where
@@ -64,7 +64,7 @@ unless-by P n s len a f g = go (eqb n accepted) (eqb-true n 0) (eqb-false n 0)
     go true t e = g (t refl)
     go false t e = f (e refl)
 
-module _ {P : Answer → Type 0} (s : Session) (delta seconds : Float) (inbox : List ℕ) (len : ℕ) (h : Ways P s delta seconds inbox len) where
+module _ {P : Reply → Type 0} (s : Session) (delta seconds : Float) (inbox : List ℕ) (len : ℕ) (h : Ways P s delta seconds inbox len) where
   concluded-way : Judged s delta seconds inbox → hasWorlds (s .stage) ≡ true
       → P (concludedOf s (clockAfter s delta seconds inbox) (requestOf s delta) (runIn s delta seconds inbox) len)
   unfolding concludedOf

@@ -34,7 +34,7 @@ OpenUnsound = (c : Settings) → (openOf c .refusal ≡ accepted → ⊥) → so
 unfoldable pub UpdateSound : Type 0
 UpdateSound =
     (s : Session) (delta seconds : Float) (inbox : List ℕ) (len : ℕ) → FloatsFit s →
-    updateOf s delta seconds inbox len .reply .refusal ≡ accepted → soundOf (updateOf s delta seconds inbox len .reply .session) ≡ true
+    updateOf s delta seconds inbox len .refusal ≡ accepted → soundOf (updateOf s delta seconds inbox len .session) ≡ true
 
 -- issue, accepted, whatever session it was handed
 unfoldable pub IssueSound : Type 0
