@@ -6,7 +6,7 @@ use client::ReconciliationStatus;
 use libc::STDIN_FILENO;
 use libc::STDOUT_FILENO;
 use session::calls;
-use session_answers::ReportAnswer;
+use session_report::ReportAnswer;
 use session_answers::UpdateAnswer;
 use session_state::Session;
 use settings::Settings;

@@ -28,9 +28,10 @@ use Rattle.fixed_timestepper.specs.TimeKeeper.{updatedOf}
 use Rattle.session_state.specs.Sound.{queuedSound, weightSound, initSound, buffersSound, worldsSound, overshootSound, connectedOf, soundOf}
 use Rattle.inbox_passes.specs.Passes.{hasForWorlds, heardIn, receivedIn, notedIn}
 use Rattle.refusals.specs.Refusals.{onceRefusalBy}
-use Rattle.session_answers.specs.Answers.{Reply, Updates, answerOf, refusedWith, syncedOf, acceptedOf}
+use Rattle.session_answers.specs.Answers.{Reply, Updates, answerOf, refusedWith, acceptedOf}
+use Rattle.session_stage.specs.Stage.{syncedOf}
 use Rattle.session.specs.Calls.{startOf, openOf, timesOk, refusedAtOnce, clockUpdateOf, concludedOf, playedOf, worldsUpdateOf, updateOf}
-use Rattle.session.specs.Issue.{issueOf}
+use Rattle.session_issue.specs.Issue.{issueOf}
 use Rattle.demand.specs.Calls.{Chain}
 use Rattle.demand.specs.Demand.{Demand3}
 use Rattle.demand.proofs.Demand.{demand-3}

@@ -27,8 +27,10 @@ use Rattle.fixed_timestepper.specs.TimeKeeper.{updatedOf}
 use Rattle.session_state.specs.Sound.{queuedSound, weightSound, initSound, buffersSound, worldsSound, overshootSound, connectedOf, soundOf}
 use Rattle.inbox_passes.specs.Passes.{hasForWorlds, heardIn, receivedIn, notedIn}
 use Rattle.refusals.specs.Refusals.{onceRefusalBy}
-use Rattle.session.specs.Calls.{concludedOf, startOf, openOf, timesOk, refusedAtOnce, clockUpdateOf, playedOf, worldsUpdateOf, updateOf, reportOf}
-use Rattle.session_answers.specs.Answers.{syncedOf, acceptedOf}
+use Rattle.session.specs.Calls.{concludedOf, startOf, openOf, timesOk, refusedAtOnce, clockUpdateOf, playedOf, worldsUpdateOf, updateOf}
+use Rattle.session_report.specs.Report.{reportOf}
+use Rattle.session_stage.specs.Stage.{syncedOf}
+use Rattle.session_answers.specs.Answers.{acceptedOf}
 use Rattle.demand.specs.Events.{eventsOf}
 use Rattle.cases.specs.Table.{Marked, settingsWith, clockAt, opened, heardOnce, heardTwice, heardThrice, atFour, atFive, atSix, frameOne, frameTwo}
 use Rattle.cases.specs.Table.{frameThree, frameFour, traceOfFour}

@@ -10,7 +10,7 @@ use Rattle.session_state.specs.declared.Session.{Session}
 use Rattle.session_state.specs.Sound.{soundOf}
 use Rattle.session_answers.specs.Answers.{Reply, answerOf}
 use Rattle.session.specs.Calls.{updateOf}
-use Rattle.session.specs.Issue.{issueOf}
+use Rattle.session_issue.specs.Issue.{issueOf}
 use Rattle.demand.specs.Calls.{Call, Update, Issue, Chain, sum, framesOf, catchUpsOf, loadWordsOf, ledgerOn}
 use Rattle.session_state.specs.Session.{hasWorlds}
 use Rattle.demand.specs.Demand.{Typed, Told}

@@ -23,8 +23,9 @@ use Rattle.client.specs.declared.ReconciliationStatus.the-variants.{AwaitingSna
 use Rattle.session_state.specs.declared.Stage.{Stage}
 use Rattle.session_state.specs.declared.Stage.the-variants.{SyncingInitialState, Ready}
 use Rattle.session_state.specs.declared.Session.{Session}
-use Rattle.session_answers.specs.declared.ReportAnswer.{ReportAnswer}
-use Rattle.session.specs.Calls.{openOf, updateOf, reportOf}
+use Rattle.session_report.specs.declared.ReportAnswer.{ReportAnswer}
+use Rattle.session.specs.Calls.{openOf, updateOf}
+use Rattle.session_report.specs.Report.{reportOf}
 use Rattle.session_answers.specs.Answers.{Reply}
 use Rattle.demand.specs.Events.{Event, FrameFrom, SkipFrom, eventsOf}
 use Rattle.demand.specs.Demand.{Loading, NoLoad, Loaded, loadIn, behindOf, behindAfter}

@@ -2,6 +2,9 @@
 -- and into the functions of ledgers.rt, and nowhere else.
 -- Definitions only. Assumes nothing.
 use Prim.Native.Nat.{ℕ, _+_, _%_, _^_}
+use lib.ListN.{length}
+use Rattle.command.specs.declared.CommandBuffer.{CommandBuffer}
+use Rattle.command.specs.Buffer.{held}
 use Rattle.client.specs.declared.Ledger.{Ledger}
 
 -- a ledger with nothing in it
@@ -39,3 +42,7 @@ applies l n k = withApplied l (counted (l .applied) n) (counted (l .leftout) k)
 -- a ledger with so many more copied, replaced and left out
 abbrev pub loads : Ledger → ℕ → ℕ → ℕ → Ledger
 loads l c r k = withLoaded l (counted (l .copied) c) (counted (l .replaced) r) (counted (l .leftout) k)
+
+-- a ledger with what its side holds after the call
+abbrev pub closedOf : Ledger → CommandBuffer → Ledger
+closedOf l b = withHeld l (length (held b))

@@ -1,6 +1,7 @@
 // The ledger of one side's command buffer, and every way in which it is counted on. Counts wrap at 64 bits; that none ever does is a law.
 ghost use mathlib.Core.Path.{_≡_};
-ghost use Rattle.client.specs.Ledgers.{emptyLedger, withHeld, takes, applies, loads};
+ghost use Rattle.client.specs.Ledgers.{emptyLedger, withHeld, takes, applies, loads, closedOf};
+use command::CommandBuffer;
 use super::Ledger;
 
 // A ledger with nothing in it.
@@ -60,4 +61,11 @@ pub fn close(l: Ledger, held: usize) -> Ledger
     let mut t = l;
     t.held = held;
     t
+}
+
+// A ledger with what its side holds now.
+pub fn closed(l: Ledger, buffer: CommandBuffer) -> Ledger
+    ensures { λ r. ⌜ r ≡ closedOf l buffer ⌝ }
+{
+    close(l, command::held_count(buffer))
 }

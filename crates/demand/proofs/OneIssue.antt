@@ -7,8 +7,8 @@ use Rattle.session_laws.proofs.SoundCalls.{issue-stays-sound, issue-fits}
 use Rattle.session_laws.proofs.TraceReading.{issue-keeps}
 use Rattle.session_laws.proofs.LedgerCalls.{issue-settles}
 use Rattle.session_state.specs.declared.Session.{Session}
-use Rattle.session_answers.specs.declared.IssueAnswer.{IssueAnswer}
-use Rattle.session.specs.Issue.{issueOf}
+use Rattle.session_issue.specs.declared.IssueAnswer.{IssueAnswer}
+use Rattle.session_issue.specs.Issue.{issueOf}
 use Rattle.demand.specs.Calls.{Outcome, quiet}
 use Rattle.demand.proofs.OneCall.{OneCall, quiet-happens}
 

@@ -19,9 +19,9 @@ use Rattle.client.specs.declared.Queued.the-variants.{Nothing, Held}
 use Rattle.session.proofs.calls.update as update
 use Rattle.session.proofs.calls.update.Kinds as update-kinds
 use Rattle.session.proofs.calls.update.Reads as update-reads
-use Rattle.session.proofs.calls.issue as issue
-use Rattle.session.proofs.calls.issue.Kinds as issue-kinds
-use Rattle.session.proofs.calls.issue.Reads as issue-reads
+use Rattle.session_issue.proofs.issue as issue
+use Rattle.session_issue.proofs.issue.Kinds as issue-kinds
+use Rattle.session_issue.proofs.issue.Reads as issue-reads
 use Rattle.demand.specs.Calls.{Answered, Update, Issue}
 use Rattle.demand.specs.Demand.{Stamp, Typed}
 

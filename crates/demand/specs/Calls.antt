@@ -11,10 +11,10 @@ use Rattle.tape.specs.Words.{stepWords, stepsOn, commandsOn, snapshotWords}
 use Rattle.client.specs.declared.Ledger.{Ledger}
 use Rattle.session_state.specs.declared.Session.{Session}
 use Rattle.session_answers.specs.declared.UpdateAnswer.{UpdateAnswer}
-use Rattle.session_answers.specs.declared.IssueAnswer.{IssueAnswer}
+use Rattle.session_issue.specs.declared.IssueAnswer.{IssueAnswer}
 use Rattle.session.specs.Calls.{updateOf}
 use Rattle.session_answers.specs.Answers.{Updates}
-use Rattle.session.specs.Issue.{issueOf}
+use Rattle.session_issue.specs.Issue.{issueOf}
 use Rattle.demand.specs.Events.{Event, eventsOf}
 
 -- a call as it was made and answered: an update with its inbox, its tape before and after, or an issue

@@ -11,7 +11,7 @@ use lib.Ieee.{Float, binary64, add}
 use borrow.Author.Tests.{leb-true, eqb-true, eq-eqb, ne-eqb}
 use Rattle.timestamp.proofs.Tests.{apart}
 use Rattle.refusals.specs.Limits.{mostSteps}
-use Rattle.refusals.specs.Refusals.{accepted, onceRefusalBy, syncingRefusalBy, arrivalRefusalBy, endRefusalBy, reportRefusalBy}
+use Rattle.refusals.specs.Refusals.{accepted, onceRefusalBy, syncingRefusalBy, arrivalRefusalBy, endRefusalBy}
 use Rattle.refusals.proofs.Accepted.{once-accepted, end-accepted}
 use Rattle.settings.specs.Settings.{passesOf}
 use Rattle.settings.proofs.Limits.{steps-few}
@@ -36,12 +36,13 @@ use Rattle.session_state.specs.Session.{hasWorlds, sessionWith}
 use Rattle.session_state.specs.Sound.{soundOf}
 use Rattle.inbox_passes.specs.Passes.{hasForWorlds, heardIn, receivedIn, notedIn}
 use Rattle.session_answers.specs.declared.UpdateAnswer.{UpdateAnswer}
-use Rattle.session_answers.specs.declared.ReportAnswer.{ReportAnswer}
-use Rattle.session_answers.specs.Answers.{Reply, unplayedOf, refusedWith, unlessRefused, syncedOf, sceneOf, closedOf, stageAfter, acceptedOf, Updates}
-use Rattle.session_answers.specs.Answers.{unreported, reportedOf}
+use Rattle.session_answers.specs.Answers.{Reply, unplayedOf, refusedWith, unlessRefused, acceptedOf, Updates}
+use Rattle.session_stage.specs.Stage.{syncedOf, stageAfter}
+use Rattle.session_state.specs.Session.{sceneOf}
+use Rattle.client.specs.Ledgers.{closedOf}
 use Rattle.session_answers.specs.Inner.{acceptedBy}
 use Rattle.session.specs.Calls.{timesOk, refusedAtOnce, heardOther, clockAfter, requestOf, clockMovedOf, clockUpdateOf, concludedOf, serverTimeBy}
-use Rattle.session.specs.Calls.{laggedOf, unreceived, sceneAfter, playedOf, worldsUpdateOf, updateBy, updateOf, reportRefusalOf, reportOf}
+use Rattle.session.specs.Calls.{laggedOf, unreceived, sceneAfter, playedOf, worldsUpdateOf, updateBy, updateOf}
 use Rattle.session.specs.Inner.{endRefusalOf, unendedWith}
 
 -- ---- refused or not
@@ -244,19 +245,3 @@ module _ (s : Session) (delta seconds : Float) (inbox : List ℕ) (len : ℕ) {n
       → Updates (updateOf s delta seconds inbox len) r last
   unfolding updateOf
   update-by x e hw k h = accepted-by s len _ hn e (updates-as (λ i. updateBy ((sym k ∙ hw) i) s delta seconds inbox len) h)
-
--- ---- report
-
-module _ (s : Session) {p w : Bool} {n : ℕ} (hp : p ≡ soundOf s) (hw : w ≡ hasWorlds (s .stage)) (hn : n ≡ reportRefusalBy p w) where
-  report-refusal : n ≡ reportRefusalOf s
-  report-refusal = hn ∙ (λ i. reportRefusalBy (hp i) (hw i))
-
-  pub report-refused : {r : ReportAnswer} → (n ≡ 0 → ⊥) → r ≡ unreported n → r ≡ reportOf s
-  unfolding reportOf
-  report-refused k h =
-      h ∙ ap unreported report-refusal ∙ (λ i. cond (sym (ne-eqb (reportRefusalOf s) 0 (λ z. k (report-refusal ∙ z))) i) (reportedOf s)
-      (unreported (reportRefusalOf s)))
-
-  pub report-accepted : {r : ReportAnswer} → n ≡ 0 → r ≡ reportedOf s → r ≡ reportOf s
-  unfolding reportOf
-  report-accepted k h = h ∙ (λ i. cond (sym (eq-eqb (reportRefusalOf s) 0 (sym report-refusal ∙ k)) i) (reportedOf s) (unreported (reportRefusalOf s)))

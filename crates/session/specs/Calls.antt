@@ -1,12 +1,12 @@
 -- The calls open, update and report: document 01, "Kept, and written anew", "src/client/stage.rs", and both sections "Turned down".
 -- Definitions only. Assumes nothing.
 use Prim.Native.Nat.{ℕ}
-use mathlib.Core.Bool.{Bool, true, false, cond, _&&_}
+use mathlib.Core.Bool.{Bool, true, false, _&&_}
 use mathlib.Core.List.{List}
-use lib.Dec.{eqb, leb}
+use lib.Dec.{leb}
 use lib.ListN.{length}
 use lib.Ieee.{Float, binary64, add}
-use Rattle.refusals.specs.Refusals.{accepted, openRefusalBy, onceRefusalBy, syncingRefusalBy, arrivalRefusalBy, endRefusalBy, reportRefusalBy}
+use Rattle.refusals.specs.Refusals.{accepted, openRefusalBy, onceRefusalBy, syncingRefusalBy, arrivalRefusalBy, endRefusalBy}
 use Rattle.settings.specs.declared.Settings.{Settings}
 use Rattle.settings.specs.Settings.{passesOf}
 use Rattle.timestamp.specs.Floats.{between, tweenOf, hour64, minusHour64, timeOk}
@@ -26,8 +26,9 @@ use Rattle.session_state.specs.Session.{hasWorlds, startingOf}
 use Rattle.session_state.specs.Sound.{soundOf}
 use Rattle.inbox_passes.specs.Passes.{hasForWorlds, heardIn, receivedIn, notedIn}
 use Rattle.session_answers.specs.declared.OpenAnswer.{OpenAnswer}
-use Rattle.session_answers.specs.declared.ReportAnswer.{ReportAnswer}
-use Rattle.session_answers.specs.Answers.{Reply, unplayedOf, unlessRefused, syncedOf, sceneOf, acceptedOf, unreported, reportedOf}
+use Rattle.session_answers.specs.Answers.{Reply, unplayedOf, unlessRefused, acceptedOf}
+use Rattle.session_stage.specs.Stage.{syncedOf}
+use Rattle.session_state.specs.Session.{sceneOf}
 
 -- ---- open
 
@@ -117,13 +118,3 @@ updateBy false s delta seconds inbox len = clockUpdateOf s delta seconds inbox l
 -- update, with a tape of so many words
 unfoldable pub updateOf : Session → Float → Float → List ℕ → ℕ → Reply
 updateOf s delta seconds inbox len = unlessRefused (refusedAtOnce s delta seconds inbox) s len (updateBy (hasWorlds (s .stage)) s delta seconds inbox len)
-
--- ---- report
-
--- the refusal of a report
-abbrev pub reportRefusalOf : Session → ℕ
-reportRefusalOf s = reportRefusalBy (soundOf s) (hasWorlds (s .stage))
-
--- report
-unfoldable pub reportOf : Session → ReportAnswer
-reportOf s = cond (eqb (reportRefusalOf s) accepted) (reportedOf s) (unreported (reportRefusalOf s))

@@ -1,3 +1,2 @@
 pub mod Calls
 pub mod Inner
-pub mod Issue

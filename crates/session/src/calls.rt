@@ -6,18 +6,13 @@ ghost use Rattle.clocksync.specs.Clock.{serverSecondsOf};
 ghost use Rattle.fixed_timestepper.specs.TimeKeeper.{Advances};
 ghost use Rattle.refusals.specs.Limits.{mostSteps};
 ghost use Rattle.session_answers.specs.Answers.{Updates};
-ghost use Rattle.session.specs.Issue.{issueOf};
 ghost use Rattle.session.specs.Inner.{endRefusalOf, unendedWith};
-ghost use Rattle.session.specs.Calls.{openOf, timesOk, refusedAtOnce, clockUpdateOf, serverTimeBy, updateOf, reportOf};
+ghost use Rattle.session.specs.Calls.{openOf, timesOk, refusedAtOnce, clockUpdateOf, serverTimeBy, updateOf};
 use client::Received;
-use client::sides;
 use clocksync::Clock;
 use clocksync::ServerTime;
-use command::Entry;
 use fixed_timestepper::Advanced;
-use session_answers::IssueAnswer;
 use session_answers::OpenAnswer;
-use session_answers::ReportAnswer;
 use session_answers::UpdateAnswer;
 use session_state::Session;
 use session_state::Stage;
@@ -82,7 +77,7 @@ pub(crate) fn update_clock(
     }
     let t = clock.tick(settings, delta);
     let ticked = t.clock;
-    let next = session_answers::synced(session, ticked.settle(settings, h), seconds);
+    let next = session_stage::synced(session, ticked.settle(settings, h), seconds);
     session_answers::unplayed(refusals::ACCEPTED, next, t.request, tape)
 }
 
@@ -154,7 +149,7 @@ pub fn update(
     let r = inbox_passes::receive_commands(
         inbox,
         Received {
-            scene: session_answers::scene_of(session),
+            scene: session_state::scene_of(session),
             full: false,
         },
     );
@@ -171,43 +166,4 @@ pub fn update(
         return session_answers::refuse(k, session, tape);
     }
     session_answers::accept(session, settled, t.request, a, tape)
-}
-
-// A command of this client, for the frame that is played next.
-pub fn issue(session: Session, handle: u32) -> IssueAnswer
-    ensures { λ r. ⌜ r ≡ issueOf session handle ⌝ }
-{
-    let stage = session.stage;
-    let stamp = sides::last_completed_timestamp(session.worlds).add(1);
-    let r = client_receive::receive_command(
-        session_answers::scene_of(session),
-        Entry { stamp, handle },
-    );
-    let sound = session_state::is_sound(session);
-    let n = refusals::of_issue(
-        handle < refusals::HANDLE_ROOM,
-        sound,
-        session_state::has_worlds(stage),
-        r.full,
-        session_state::is_ready(stage),
-    );
-    if n != refusals::ACCEPTED {
-        return session_answers::refuse_issue(n, session);
-    }
-    session_answers::accept_issue(session, stamp, r)
-}
-
-// Where a session stands.
-pub fn report(session: Session) -> ReportAnswer
-    ensures { λ r. ⌜ r ≡ reportOf session ⌝ }
-{
-    let stage = session.stage;
-    let n = refusals::of_report(
-        session_state::is_sound(session),
-        session_state::has_worlds(stage),
-    );
-    if n != refusals::ACCEPTED {
-        return session_answers::refuse_report(n);
-    }
-    session_answers::report_worlds(session)
 }

@@ -10,7 +10,9 @@ use Rattle.fixed_timestepper.specs.declared.Advanced.{Advanced}
 use Rattle.fixed_timestepper.specs.TimeKeeper.{endedOf}
 use Rattle.session_state.specs.declared.Session.{Session}
 use Rattle.session_state.specs.Session.{sessionWith}
-use Rattle.session_answers.specs.Answers.{Reply, stageAfter, closedOf}
+use Rattle.session_answers.specs.Answers.{Reply}
+use Rattle.session_stage.specs.Stage.{stageAfter}
+use Rattle.client.specs.Ledgers.{closedOf}
 
 -- the reply to an update that nothing refuses: the rest of the tape is zeroed
 unfoldable pub acceptedBy : Session → Clock → Bool → Advanced → List ℕ → Reply

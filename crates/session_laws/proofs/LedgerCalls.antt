@@ -40,12 +40,16 @@ use Rattle.session_state.specs.declared.Stage.the-variants.{SyncingClock, Synci
 use Rattle.session_state.specs.declared.Session.{Session}
 use Rattle.session_state.specs.Session.{hasWorlds}
 use Rattle.timestamp.proofs.Basics.{not-true}
-use Rattle.session_answers.specs.declared.IssueAnswer.{IssueAnswer}
+use Rattle.session_issue.specs.declared.IssueAnswer.{IssueAnswer}
 use Rattle.session_state.specs.Sound.{soundOf}
 use Rattle.inbox_passes.specs.Passes.{receiveOne, receivedIn, noteOne, notedIn}
 use Rattle.session.specs.Calls.{clockAfter, requestOf, laggedOf, sceneAfter, clockAfter, playedOf, updateOf, unreceived}
-use Rattle.session_answers.specs.Answers.{Reply, refusedWith, sceneOf, closedOf, stageAfter, acceptedOf, unissued}
-use Rattle.session.specs.Issue.{receivedNow, entryOf, issueOf}
+use Rattle.session_answers.specs.Answers.{Reply, refusedWith, acceptedOf}
+use Rattle.session_state.specs.Session.{sceneOf}
+use Rattle.client.specs.Ledgers.{closedOf}
+use Rattle.session_stage.specs.Stage.{stageAfter}
+use Rattle.session_issue.specs.Issue.{unissued}
+use Rattle.session_issue.specs.Issue.{receivedNow, entryOf, issueOf}
 
 -- ---- what a sound session holds
 

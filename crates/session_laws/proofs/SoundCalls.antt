@@ -37,11 +37,13 @@ use Rattle.session_laws.proofs.SoundRuns.{InStep, updated-kept, updated
 use Rattle.session_state.specs.declared.Stage.{Stage}
 use Rattle.session_state.specs.declared.Stage.the-variants.{SyncingClock, SyncingInitialState, Ready}
 use Rattle.session_state.specs.declared.Session.{Session}
-use Rattle.session_answers.specs.declared.IssueAnswer.{IssueAnswer}
+use Rattle.session_issue.specs.declared.IssueAnswer.{IssueAnswer}
 use Rattle.session_state.specs.Sound.{noOffset, connectedOf, soundOf}
 use Rattle.session.specs.Calls.{startOf, openOf, timesOk, clockAfter, requestOf, laggedOf, sceneAfter, playedOf, updateOf}
-use Rattle.session_answers.specs.Answers.{Reply, refusedWith, startedAt, syncedOf, sceneOf, stageAfter, acceptedOf}
-use Rattle.session.specs.Issue.{entryOf, issueOf}
+use Rattle.session_answers.specs.Answers.{Reply, refusedWith, acceptedOf}
+use Rattle.session_stage.specs.Stage.{startedAt, syncedOf, stageAfter}
+use Rattle.session_state.specs.Session.{sceneOf}
+use Rattle.session_issue.specs.Issue.{entryOf, issueOf}
 use Rattle.session_laws.proofs.SoundParts.{sound-facts, facts-sound, times-within, clock-after-sound, clock-after-timer, clock-after-slots}
 use Rattle.session_laws.proofs.SoundParts.{clock-after-ready, clock-after-first, server-within, scene-after-kept, scene-after-weighed}
 

@@ -21,8 +21,8 @@ use Rattle.session_state.specs.declared.Session.{Session}
 use Rattle.session_state.specs.Sound.{soundOf}
 use Rattle.inbox_passes.specs.Passes.{receiveOne, receivedIn, noteOne, notedIn}
 use Rattle.session.specs.Calls.{sceneAfter, unreceived}
-use Rattle.session_answers.specs.Answers.{sceneOf}
-use Rattle.session.specs.Issue.{entryOf, receivedNow, issueOf}
+use Rattle.session_state.specs.Session.{sceneOf}
+use Rattle.session_issue.specs.Issue.{entryOf, receivedNow, issueOf}
 use Rattle.session_laws.proofs.SoundParts.{sound-facts}
 use Rattle.session_laws.proofs.Ways.{issue-by-ways}
 

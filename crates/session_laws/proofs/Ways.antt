@@ -24,11 +24,12 @@ use Rattle.session_state.specs.declared.Session.{Session}
 use Rattle.session_state.specs.Session.{hasWorlds, isReady}
 use Rattle.session_state.specs.Sound.{soundOf}
 use Rattle.inbox_passes.specs.Passes.{hasForWorlds, receivedIn}
-use Rattle.session_answers.specs.declared.IssueAnswer.{IssueAnswer}
-use Rattle.session_answers.specs.Answers.{Reply, refusedWith, unlessRefused, acceptedOf, unissued, issuedOf}
+use Rattle.session_issue.specs.declared.IssueAnswer.{IssueAnswer}
+use Rattle.session_answers.specs.Answers.{Reply, refusedWith, unlessRefused, acceptedOf}
+use Rattle.session_issue.specs.Issue.{unissued, issuedOf}
 use Rattle.session.specs.Calls.{timesOk, refusedAtOnce, heardOther, clockAfter, requestOf, clockMovedOf, clockUpdateOf, concludedOf, unreceived, playedOf}
 use Rattle.session.specs.Calls.{worldsUpdateOf, updateBy, updateOf}
-use Rattle.session.specs.Issue.{entryOf, receivedNow, issueRefusalOf, issueOf}
+use Rattle.session_issue.specs.Issue.{entryOf, receivedNow, issueRefusalOf, issueOf}
 
 -- the stage without worlds
 pub without-worlds : (x : Stage) → hasWorlds x ≡ false → x ≡ SyncingClock

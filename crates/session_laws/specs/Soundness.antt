@@ -14,7 +14,7 @@ use Rattle.settings.specs.declared.Settings.{Settings}
 use Rattle.session_state.specs.declared.Session.{Session}
 use Rattle.session_state.specs.Sound.{soundOf}
 use Rattle.session.specs.Calls.{openOf, updateOf}
-use Rattle.session.specs.Issue.{issueOf}
+use Rattle.session_issue.specs.Issue.{issueOf}
 
 -- what the types say of a session's floats and of its clock's slots
 pub record FloatsFit (s : Session) : Type 0 where

@@ -6,6 +6,8 @@ use Rattle.timestamp.specs.Floats.{zero64}
 use Rattle.settings.specs.declared.Settings.{Settings}
 use Rattle.clocksync.specs.declared.Clock.{Clock}
 use Rattle.client.specs.declared.ClientWorldSimulations.{ClientWorldSimulations}
+use Rattle.client.specs.declared.Scene.{Scene}
+use Rattle.client.specs.Ledgers.{emptyLedger}
 use Rattle.session_state.specs.declared.Stage.{Stage}
 use Rattle.session_state.specs.declared.Stage.the-variants.{SyncingClock, SyncingInitialState, Ready}
 use Rattle.session_state.specs.declared.Session.{Session}
@@ -37,3 +39,7 @@ withClock s c = sessionWith s (s .stage) c (s .worlds) (s .overshoot)
 -- with other worlds
 abbrev pub withWorldsOf : Session → ClientWorldSimulations → Session
 withWorldsOf s w = sessionWith s (s .stage) (s .clock) w (s .overshoot)
+
+-- the scene of a session's worlds before anything happened to them
+abbrev pub sceneOf : Session → Scene
+sceneOf s = record { worlds = s .worlds; left = emptyLedger; right = emptyLedger; steps = 0 }

@@ -2,12 +2,13 @@
 // of src/client/stage*.rs of crystalorb.
 ghost use mathlib.Core.Path.{_≡_};
 ghost use Rattle.command.specs.Soundness.{soundBuffer};
-ghost use Rattle.session_state.specs.Session.{hasWorlds, isReady};
+ghost use Rattle.session_state.specs.Session.{hasWorlds, isReady, sceneOf};
 ghost use Rattle.session_state.specs.Sound.{queuedSound, weightSound, initSound, buffersSound, worldsSound, overshootSound, connectedOf, soundOf};
 use client::ClientWorldSimulations;
 use client::Queued;
+use client::Scene;
+use client::ledgers;
 use client::sides;
-use clocksync::ClientId;
 use clocksync::Clock;
 use clocksync::Offset;
 use command::CommandBuffer;
@@ -178,4 +179,17 @@ pub fn is_sound(s: Session) -> bool
         return false;
     }
     overshoot_sound(s.overshoot, settings.timestep)
+}
+
+// The scene of worlds before anything happened to them.
+pub fn scene_of(session: Session) -> Scene
+    ensures { λ r. ⌜ r ≡ sceneOf session ⌝ }
+{
+    let worlds = session.worlds;
+    Scene {
+        worlds,
+        left: ledgers::empty_ledger(),
+        right: ledgers::empty_ledger(),
+        steps: 0,
+    }
 }
