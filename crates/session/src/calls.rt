@@ -1,4 +1,5 @@
-// The calls: open, update, issue and report. Each hands what its tests found to `refusals`, which knows the numbers and their order.
+// The calls: open and update, and beside them issue and report, which have crates of their own. Each hands
+// what its tests found to `refusals`, which knows the numbers and their order.
 ghost use mathlib.Core.Path.{_≡_};
 ghost use Prim.Native.Nat.{_≤_};
 ghost use lib.ListN.{length};
@@ -18,6 +19,9 @@ use session_state::Session;
 use session_state::Stage;
 use settings::Settings;
 use timestamp::Timestamp;
+
+pub use session_issue::issue;
+pub use session_report::report;
 
 // A session from settings. Refused, the session is that which the settings would have started, and is unsound.
 pub fn open(settings: Settings) -> OpenAnswer

@@ -9,9 +9,10 @@ use lib.ListN.{length, replicate}
 use Rattle.refusals.specs.Refusals.{accepted}
 use Rattle.clocksync.specs.declared.Clock.{Clock}
 use Rattle.client.specs.declared.Ledger.{Ledger}
-use Rattle.client.specs.Ledgers.{emptyLedger}
+use Rattle.client.specs.Ledgers.{emptyLedger, closedOf}
 use Rattle.fixed_timestepper.specs.TimeKeeper.{Run}
 use Rattle.session_state.specs.declared.Session.{Session}
+use Rattle.session_stage.specs.Stage.{stageAfter}
 use Rattle.session_state.specs.Session.{sessionWith}
 use Rattle.session_answers.specs.declared.UpdateAnswer.{UpdateAnswer}
 

@@ -16,7 +16,7 @@ use Rattle.inbox.specs.declared.Message.the-variants.{Command, Snapshot, Clock 
 use Rattle.inbox.specs.Inbox.{messagesOf, messagesAfter, frontOf}
 use Rattle.inbox_refusal.specs.Refusal.{refusalOf}
 use Rattle.inbox.specs.Passes.{over}
-use Rattle.inbox.proofs.Refusals.{accepted-few}
+use Rattle.inbox_refusal.proofs.Refusals.{accepted-few}
 use Rattle.command.specs.Buffer.{held}
 use Rattle.command.proofs.Soundness.{sound-few}
 use Rattle.client.specs.declared.ClientWorldSimulations.{ClientWorldSimulations}
