@@ -56,7 +56,7 @@ unfolding fits refusedWith add sub mul div rem round lt le eq ofInt toSigned toU
 counts =
     record {
       catches = record {
-        typed = record { timestep = tt; timer = tt; slots = refl; left = omega arith; right = omega arith; queued = tt };
+        typed = record { floats = record { timestep = tt; timer = tt; slots = refl }; left = omega arith; right = omega arith; queued = tt };
         sound = refl;
         exists = refl;
         answers = refl;
@@ -64,7 +64,7 @@ counts =
         caught = refl;
       };
       plays = record {
-        typed = record { timestep = tt; timer = tt; slots = refl; left = omega arith; right = omega arith; queued = tt };
+        typed = record { floats = record { timestep = tt; timer = tt; slots = refl }; left = omega arith; right = omega arith; queued = tt };
         sound = refl;
         exists = refl;
         answers = refl;

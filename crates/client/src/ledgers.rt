@@ -1,8 +1,8 @@
 // The ledger of one side's command buffer, and every way in which it is counted on. Counts wrap at 64 bits; that none ever does is a law.
 ghost use mathlib.Core.Path.{_≡_};
 ghost use Rattle.client.specs.Ledgers.{emptyLedger, withHeld, takes, applies, loads, closedOf};
-use command::CommandBuffer;
 use super::Ledger;
+use command::CommandBuffer;
 
 // A ledger with nothing in it.
 pub fn empty_ledger() -> Ledger

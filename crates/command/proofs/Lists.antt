@@ -135,7 +135,12 @@ module _ {A : Type 0} where
 
     pub sift-push : p (getD xs i d) ≡ true → Sifted ys p xs m n z (i + 1) (set out k (getD xs i d)) (k + 1)
     sift-push e =
-        record { laid = rw (filter-took p xs i d (omega arith) e, ← append-assoc ys) (laid-push (s .laid) (getD xs i d) (sift-room e)); room = s .room; most = omega arith; long = s .long }
+        record {
+          laid = rw (filter-took p xs i d (omega arith) e, ← append-assoc ys) (laid-push (s .laid) (getD xs i d) (sift-room e));
+          room = s .room;
+          most = omega arith;
+          long = s .long;
+        }
 
     pub sift-skip : p (getD xs i d) ≡ false → Sifted ys p xs m n z (i + 1) out k
     sift-skip e = record { laid = rw (filter-left p xs i d (omega arith) e) (s .laid); room = s .room; most = omega arith; long = s .long }

@@ -217,4 +217,10 @@ module _ {b : CommandBuffer} {n i lo : ℕ} (s : Testing b n i lo) where
     -- one that passes
     pub test-next : soundRank k lo (getD (b .entries) i blank .handle) ≡ true → Testing b n (i + 1) k
     test-next e =
-        record { slots = s .slots; count = s .count; few = s .few; most = omega arith; same = next ∙ ap (λ (t : Bool). t && soundFrom (b .timestamp) k (drop (i + 1) (take n (b .entries)))) e }
+        record {
+          slots = s .slots;
+          count = s .count;
+          few = s .few;
+          most = omega arith;
+          same = next ∙ ap (λ (t : Bool). t && soundFrom (b .timestamp) k (drop (i + 1) (take n (b .entries)))) e;
+        }

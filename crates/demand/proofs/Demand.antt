@@ -8,7 +8,6 @@ use Rattle.client.specs.declared.ClientWorldSimulations.{ClientWorldSimulations
 use Rattle.client.specs.declared.Queued.{Queued}
 use Rattle.client.specs.declared.Queued.the-variants.{Nothing, Held}
 use Rattle.client.specs.Sides.{newSideOf, oldSideOf, worldOf, oldStampOf, newStampOf}
-use Rattle.session_laws.specs.Soundness.{FloatsFit}
 use Rattle.session_laws.proofs.TraceFrames.{QueuedFits, Fitting}
 use Rattle.session_state.specs.declared.Session.{Session}
 use Rattle.demand.specs.Calls.{Call, Update, Issue, Answered, outcomeOf, happened, sessionOf, Chain}
@@ -31,9 +30,6 @@ lawful s (k ∷ cs) a = (one-call s k (a .0), lawful (sessionOf k) cs (a .1))
 
 -- ---- what the types say
 
-pub typed-floats : (s : Session) → Typed s → FloatsFit s
-typed-floats s t = record { timestep = t .timestep; timer = t .timer; slots = t .slots }
-
 queued-fits : (q : Queued) → Stamp q → QueuedFits q
 queued-fits Nothing h = tt
 queued-fits (Held t n) h = h
@@ -54,8 +50,8 @@ typed-fitting s t =
 
 pub always-sound : AlwaysSound
 unfolding AlwaysSound
-always-sound s cs t e a = all-sound s cs (typed-floats s t) e (lawful s cs a)
+always-sound s cs t e a = all-sound s cs (t .floats) e (lawful s cs a)
 
 pub demand-3 : Demand3
 unfolding Demand3
-demand-3 s cs t e x a = told s cs (typed-floats s t) (record { sound = e; exists = x; fitting = typed-fitting s t }) (lawful s cs a)
+demand-3 s cs t e x a = told s cs (t .floats) (record { sound = e; exists = x; fitting = typed-fitting s t }) (lawful s cs a)

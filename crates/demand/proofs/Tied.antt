@@ -53,9 +53,11 @@ update-typed κs a vss p =
     let c = s .1 .1 .0 .1 .1 in
     let w = s .1 .1 .1 .0 .1 .1 in
     record {
-      timestep = passes _ (s .0 .1 .1 .0 .1);
-      timer = passes _ (c .1 .1 .1 .0 .1);
-      slots = sym (length-map (a .0 .clock .samples) (λ v. v)) ∙ c .1 .0 .1 .0 .1;
+      floats = record {
+        timestep = passes _ (s .0 .1 .1 .0 .1);
+        timer = passes _ (c .1 .1 .1 .0 .1);
+        slots = sym (length-map (a .0 .clock .samples) (λ v. v)) ∙ c .1 .0 .1 .0 .1;
+      };
       left = w .0 .1 .1 .0 .1 .1 .1 .1 .0 .1 .1 .0 .1;
       right = w .1 .0 .1 .1 .0 .1 .1 .1 .1 .0 .1 .1 .0 .1;
       queued = queued-typed (a .0 .worlds .snapshots .queued) _ (w .1 .1 .1 .1 .0 .1 .1 .0);

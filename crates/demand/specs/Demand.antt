@@ -4,9 +4,8 @@ use mathlib.Core.Bool.{true, cond}
 use mathlib.Core.List.{List, [], _∷_, _++_}
 use mathlib.Core.Path.{_≡_}
 use Prim.Native.Nat.{ℕ, _+_, _-_, _*_, _%_, _<_, _≤_}
-use lib.Dec.{T, eqb}
+use lib.Dec.{eqb}
 use lib.ListN.{length, replicate}
-use lib.Ieee.{binary64, fits}
 use Rattle.timestamp.specs.declared.Timestamp.{Timestamp}
 use Rattle.timestamp.specs.Timestamps.{differenceOf}
 use Rattle.tape.specs.Words.{stepsOn}
@@ -22,6 +21,7 @@ use Rattle.client_frame.specs.Frame.{frameOf, frameOpened, snapshotOf}
 use Rattle.client_skip.specs.Skip.{skippedOf}
 use Rattle.fixed_timestepper.specs.TimeKeeper.{rulesOf}
 use Rattle.session_state.specs.declared.Session.{Session}
+use Rattle.session_laws.specs.Soundness.{FloatsFit}
 use Rattle.session_state.specs.Session.{hasWorlds}
 use Rattle.session_state.specs.Sound.{soundOf}
 use Rattle.demand.specs.Events.{Event, FrameFrom, SkipFrom}
@@ -224,11 +224,9 @@ abbrev pub Stamp : Queued → Type 0
 Stamp Nothing = Unit {0}
 Stamp (Held t h) = t .0 < 65536
 
--- of what the types say of a session, what the theorem needs, and no more: stamps have 16 bits, an f64 is a value of binary64, and a clock has 64 slots
+-- of what the types say of a session, what the theorem needs, and no more: its floats and its clock's slots (`FloatsFit`), and that stamps have 16 bits
 pub record Typed (s : Session) : Type 0 where
-  pub timestep : T (fits binary64 (s .settings .timestep))
-  pub timer : T (fits binary64 (s .clock .timer))
-  pub slots : length (s .clock .samples) ≡ 64
+  pub floats : FloatsFit s
   pub left : s .worlds .left .commands .timestamp .0 < 65536
   pub right : s .worlds .right .commands .timestamp .0 < 65536
   pub queued : Stamp (s .worlds .snapshots .queued)

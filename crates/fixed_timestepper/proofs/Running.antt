@@ -36,7 +36,17 @@ pub record Running (c : Settings) (from : Scene) (start : Float) (was tape : Lis
 -- before the first frame
 pub running-start : (c : Settings) (from : Scene) (start : Float) (was : List ℕ) → Few (from .worlds) → Running c from start was was from start 0 0
 running-start c from start was h =
-    record { bound = omega arith; held = h; at = omega arith; len = refl; scene = refl; overshoot = refl; stop = refl; frames = omega arith; puts = λ q last k. k }
+    record {
+      bound = omega arith;
+      held = h;
+      at = omega arith;
+      len = refl;
+      scene = refl;
+      overshoot = refl;
+      stop = refl;
+      frames = omega arith;
+      puts = λ q last k. k;
+    }
 
 -- the run is over: q is what is left, and it puts nothing more
 over-with : (c : Settings) (from : Scene) (start : Float) {was tape : List ℕ} {s : Scene} {o : Float} {p n : ℕ} (x : Stop)

@@ -173,11 +173,17 @@ still R = record { Denot = R .Denot; mir = R .mir; written = R .written; reaches
 -- the signature of `take`, and of a pass
 abbrev takes : RattleType → Ended
 takes R =
-    record { signature = record { lifetimes = 0; outlives = []; params = plain (λ _. R) ∷ plain (λ _. Msg.the-row) ∷ []; result = plain (λ _. R) }; kept = (yes, (yes, tt)) }
+    record {
+      signature = record { lifetimes = 0; outlives = []; params = plain (λ _. R) ∷ plain (λ _. Msg.the-row) ∷ []; result = plain (λ _. R) };
+      kept = (yes, (yes, tt));
+    }
 
 abbrev passes : RattleType → Ended
 passes R =
-    record { signature = record { lifetimes = 1; outlives = []; params = shrSliceOf (0 ∷ []) tt (plain (λ _. u32)) ∷ plain (λ _. R) ∷ []; result = plain (λ _. R) }; kept = (yes, (yes, tt)) }
+    record {
+      signature = record { lifetimes = 1; outlives = []; params = shrSliceOf (0 ∷ []) tt (plain (λ _. u32)) ∷ plain (λ _. R) ∷ []; result = plain (λ _. R) };
+      kept = (yes, (yes, tt));
+    }
 
 abbrev stayed : (R : RattleType) → Stays (passes R .signature .params) (passes R .kept)
 stayed R = (stay-none-slice (0 ∷ []) tt (plain (λ _. u32)) yes, (stay-none (λ _. R) yes, tt))

@@ -165,7 +165,11 @@ module _ {total : Float} {end : ℕ} {xs : List Float} {sum : Float} {i : ℕ} (
   pub summing-next : i < end → Summing total end xs (add binary64 sum (getD xs i nan)) (i + 1)
   unfolding sumFrom
   summing-next h =
-      record { rest = rw (add-one i) (sym (ap (sumFrom sum) (slice-cons i end xs nan h (omega (arith, s .few, s .long)))) ∙ s .rest); few = s .few; long = s .long }
+      record {
+        rest = rw (add-one i) (sym (ap (sumFrom sum) (slice-cons i end xs nan h (omega (arith, s .few, s .long)))) ∙ s .rest);
+        few = s .few;
+        long = s .long;
+      }
 
   pub summing-end : end ≤ i → sum ≡ total
   unfolding sumFrom
@@ -192,7 +196,12 @@ module _ {n : ℕ} {xs : List Float} {i : ℕ} (s : Testing n xs i) where
 
   pub testing-next : i < n → sampleOk (getD xs i nan) ≡ true → Testing n xs (i + 1)
   testing-next h t =
-      record { rest = rw (add-one i) (sym (ap (λ (b : Bool). b && samplesOk (slice (suc i) n xs)) t) ∙ sym (tested h) ∙ s .rest); high = omega arith; few = s .few; long = s .long }
+      record {
+        rest = rw (add-one i) (sym (ap (λ (b : Bool). b && samplesOk (slice (suc i) n xs)) t) ∙ sym (tested h) ∙ s .rest);
+        high = omega arith;
+        few = s .few;
+        long = s .long;
+      }
 
   pub testing-end : n ≤ i → true ≡ samplesOk (take n xs)
   unfolding samplesOk

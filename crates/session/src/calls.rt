@@ -15,13 +15,12 @@ use clocksync::ServerTime;
 use fixed_timestepper::Advanced;
 use session_answers::OpenAnswer;
 use session_answers::UpdateAnswer;
+pub use session_issue::issue;
+pub use session_report::report;
 use session_state::Session;
 use session_state::Stage;
 use settings::Settings;
 use timestamp::Timestamp;
-
-pub use session_issue::issue;
-pub use session_report::report;
 
 // A session from settings. Refused, the session is that which the settings would have started, and is unsound.
 pub fn open(settings: Settings) -> OpenAnswer

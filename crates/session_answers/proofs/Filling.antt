@@ -46,7 +46,16 @@ pub accept-is : (s : Session) (c : Clock) (request : Bool) (a : Advanced) (was :
     {l r : Ledger} → last ≡ cleared was (a .at) → w ≡ endedOf (s .settings) (a .scene .worlds) (a .overshoot)
     → st ≡ stageAfter (s .stage) (w .published .time) → l ≡ closedOf (a .scene .left) (w .left .commands) → r ≡ closedOf (a .scene .right) (w .right .commands)
     → Updates (acceptedBy s c request a was)
-    (record { refusal = 0; session = sessionWith s st c w (a .overshoot); frames = a .frames; steps = a .scene .steps; request = request; left = l; right = r; words = a .at }) last
+    (record {
+      refusal = 0;
+      session = sessionWith s st c w (a .overshoot);
+      frames = a .frames;
+      steps = a .scene .steps;
+      request = request;
+      left = l;
+      right = r;
+      words = a .at;
+    }) last
 unfolding acceptedBy
 accept-is s c request a was hz hw hs hL hR =
     record {

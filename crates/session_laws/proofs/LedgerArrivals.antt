@@ -37,10 +37,18 @@ pub offered-kept : {h n k : ℕ} (x side : ℕ) (s : Scene) (e : Entry) → x < 
 unfolding offeredSide scheduledOf ledgerOf withLedger worldOf withWorld
 offered-kept zero zero s e p q z c =
     let b : CommandBuffer = s .worlds .left .commands in
-    record { books = books-takes (s .left) (takenBy (insertedOf b e .outcome)) (length (held (insertedOf b e .buffer))) z (taken-one (insertedOf b e .outcome)) (inserted-ledger b e) (c .books); base = c .base }
+    record {
+      books = books-takes (s .left) (takenBy (insertedOf b e .outcome)) (length (held (insertedOf b e .buffer))) z
+          (taken-one (insertedOf b e .outcome)) (inserted-ledger b e) (c .books);
+      base = c .base;
+    }
 offered-kept (suc zero) (suc zero) s e p q z c =
     let b : CommandBuffer = s .worlds .right .commands in
-    record { books = books-takes (s .right) (takenBy (insertedOf b e .outcome)) (length (held (insertedOf b e .buffer))) z (taken-one (insertedOf b e .outcome)) (inserted-ledger b e) (c .books); base = c .base }
+    record {
+      books = books-takes (s .right) (takenBy (insertedOf b e .outcome)) (length (held (insertedOf b e .buffer))) z
+          (taken-one (insertedOf b e .outcome)) (inserted-ledger b e) (c .books);
+      base = c .base;
+    }
 offered-kept zero (suc zero) s e p q z c = record { books = books-more (omega arith) (c .books); base = c .base }
 offered-kept (suc zero) zero s e p q z c = record { books = books-more (omega arith) (c .books); base = c .base }
 offered-kept zero (suc (suc side)) s e p q z c = absurd (omega arith)

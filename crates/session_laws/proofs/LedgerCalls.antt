@@ -62,7 +62,11 @@ pub record Filled (w : ClientWorldSimulations) : Type 0 where
 pub sound-filled : (s : Session) → soundOf s ≡ true → Filled (s .worlds)
 sound-filled s h =
     let k = sound-facts s h .kept in
-    record { left = sound-few (s .worlds .left .commands) (k .left); right = sound-few (s .worlds .right .commands) (k .right); base = sound-few (s .worlds .base) (k .base) }
+    record {
+      left = sound-few (s .worlds .left .commands) (k .left);
+      right = sound-few (s .worlds .right .commands) (k .right);
+      base = sound-few (s .worlds .base) (k .base);
+    }
 
 -- the books of a call at its start
 start-kept : (x : ℕ) (s : Session) → Filled (s .worlds) → Kept x (heldAt x (s .worlds)) 64 0 (sceneOf s)

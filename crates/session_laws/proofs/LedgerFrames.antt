@@ -62,11 +62,19 @@ unfolding loadedOf loadedAt loadOf readiedWith ledgerOf withLedger worldOf withW
 loaded-kept zero zero s t i p q z c =
     let b : CommandBuffer = restOf (s .worlds .base) t in
     let m : length (held b) ≤ 64 = rest-few (s .worlds .base) t (c .base) in
-    record { books = books-as (omega (arith, snapshot-none 0 0 i)) refl (books-loads (s .left) (length (held b)) (movedOf b t .dropped) (length (held (movedOf b t .buffer))) z m (moved-ledger b t) (c .books)); base = m }
+    record {
+      books = books-as (omega (arith, snapshot-none 0 0 i)) refl
+          (books-loads (s .left) (length (held b)) (movedOf b t .dropped) (length (held (movedOf b t .buffer))) z m (moved-ledger b t) (c .books));
+      base = m;
+    }
 loaded-kept (suc zero) (suc zero) s t i p q z c =
     let b : CommandBuffer = restOf (s .worlds .base) t in
     let m : length (held b) ≤ 64 = rest-few (s .worlds .base) t (c .base) in
-    record { books = books-as (omega (arith, snapshot-none 1 1 i)) refl (books-loads (s .right) (length (held b)) (movedOf b t .dropped) (length (held (movedOf b t .buffer))) z m (moved-ledger b t) (c .books)); base = m }
+    record {
+      books = books-as (omega (arith, snapshot-none 1 1 i)) refl
+          (books-loads (s .right) (length (held b)) (movedOf b t .dropped) (length (held (movedOf b t .buffer))) z m (moved-ledger b t) (c .books));
+      base = m;
+    }
 loaded-kept zero (suc zero) s t i p q z c =
     record { books = books-more (omega arith) (books-as (omega (arith, snapshot-none 0 1 i)) refl (c .books)); base = rest-few (s .worlds .base) t (c .base) }
 loaded-kept (suc zero) zero s t i p q z c =

@@ -99,9 +99,15 @@ pub done-kept : {h n k : ℕ} (x side : ℕ) (s : Scene) (d : Done) → x < 2 �
     → Kept x h n k s → Kept x h n (k + commandsOn x (d .words)) (doneAt s side d .scene)
 unfolding doneAt putOf ledgerOf withLedger worldOf withWorld
 done-kept {h} {n} {k} zero zero s d p q z e c =
-    record { books = books-as (omega (arith, e .same)) refl (books-applies (s .left) (d .applied) (d .leftout) (entriesOf (d .world)) z (e .entries) (c .books)); base = c .base }
+    record {
+      books = books-as (omega (arith, e .same)) refl (books-applies (s .left) (d .applied) (d .leftout) (entriesOf (d .world)) z (e .entries) (c .books));
+      base = c .base;
+    }
 done-kept {h} {n} {k} (suc zero) (suc zero) s d p q z e c =
-    record { books = books-as (omega (arith, e .same)) refl (books-applies (s .right) (d .applied) (d .leftout) (entriesOf (d .world)) z (e .entries) (c .books)); base = c .base }
+    record {
+      books = books-as (omega (arith, e .same)) refl (books-applies (s .right) (d .applied) (d .leftout) (entriesOf (d .world)) z (e .entries) (c .books));
+      base = c .base;
+    }
 done-kept {h} {n} {k} zero (suc zero) s d p q z e c = record { books = books-as (omega (arith, e .other)) refl (c .books); base = c .base }
 done-kept {h} {n} {k} (suc zero) zero s d p q z e c = record { books = books-as (omega (arith, e .other)) refl (c .books); base = c .base }
 done-kept zero (suc (suc side)) s d p q z e c = absurd (omega arith)

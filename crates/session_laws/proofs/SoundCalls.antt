@@ -118,7 +118,14 @@ module _ (s : Session) (delta seconds : Float) (inbox : List ℕ) (g : Given s d
       let c = clockAfter s delta seconds inbox in
       let t : Timestamp = record { 0 = bitsOf (stampOf (fromSeconds (add binary64 seconds x) (s .settings .timestep))) } in
       facts-sound (startedAt s c (serverSecondsOf (Seconds x) seconds))
-      (record { settings = f .settings; clock = after-sound; connected = r; kept = new-kept t; weighed = new-weighed t; overshoot = nought-in (s .settings) (f .settings) })
+      (record {
+        settings = f .settings;
+        clock = after-sound;
+        connected = r;
+        kept = new-kept t;
+        weighed = new-weighed t;
+        overshoot = nought-in (s .settings) (f .settings);
+      })
 
   waiting-sound : s .stage ≡ SyncingClock → readyOf (clockAfter s delta seconds inbox) ≡ false → soundOf (withClock s (clockAfter s delta seconds inbox)) ≡ true
   unfolding connectedOf

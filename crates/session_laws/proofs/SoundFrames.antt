@@ -164,7 +164,11 @@ simulated-even m s e =
 weight-steps : Steps (Same (λ (w : ClientWorldSimulations). w .weight)) 0
 unfolding steppedSide
 weight-steps =
-    record { chains = same-chains (λ (w : ClientWorldSimulations). w .weight); steps = λ s side l. done-weight s side (stepOf (worldOf (s .worlds) side) side); counts = λ s. refl }
+    record {
+      chains = same-chains (λ (w : ClientWorldSimulations). w .weight);
+      steps = λ s side l. done-weight s side (stepOf (worldOf (s .worlds) side) side);
+      counts = λ s. refl;
+    }
 
 simulated-weighed : (m : ℕ) (s : Scene) → 1 ≤ m → Weighed (s .worlds) → Weighed (simulatedOf m s .scene .worlds)
 simulated-weighed zero s l h = absurd (omega arith)

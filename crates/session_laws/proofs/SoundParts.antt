@@ -171,7 +171,11 @@ sound-facts s h =
       kept = v .0;
       weighed = v .1;
       overshoot =
-          record { number = between-finite zero64 (s .overshoot) (s .settings .timestep) tt (timestep-within (s .settings) (a .0) .number) lo hi; low = lo; high = hi };
+          record {
+            number = between-finite zero64 (s .overshoot) (s .settings .timestep) tt (timestep-within (s .settings) (a .0) .number) lo hi;
+            low = lo;
+            high = hi;
+          };
     }
 
 pub facts-sound : (s : Session) → SoundFacts s → soundOf s ≡ true

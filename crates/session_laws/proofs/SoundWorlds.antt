@@ -71,9 +71,21 @@ put-kept w side x h i k = go (eqb side 0) i
   where
     go : (b : Bool) → x .init ≡ cond b (w .left) (w .right) .init → Kept (cond b (withLeft w x) (withRight w x))
     go true e =
-        record { left = h; right = k .right; base = k .base; queued = k .queued; init = subst (λ (v : Bool). InitOrder (eqb (w .new) 0) v (w .right .init)) (sym e) (k .init) }
+        record {
+          left = h;
+          right = k .right;
+          base = k .base;
+          queued = k .queued;
+          init = subst (λ (v : Bool). InitOrder (eqb (w .new) 0) v (w .right .init)) (sym e) (k .init);
+        }
     go false e =
-        record { left = k .left; right = h; base = k .base; queued = k .queued; init = subst (λ (v : Bool). InitOrder (eqb (w .new) 0) (w .left .init) v) (sym e) (k .init) }
+        record {
+          left = k .left;
+          right = h;
+          base = k .base;
+          queued = k .queued;
+          init = subst (λ (v : Bool). InitOrder (eqb (w .new) 0) (w .left .init) v) (sym e) (k .init);
+        }
 
 -- another world at a side leaves the weight
 pub put-weight : (w : ClientWorldSimulations) (side : ℕ) (x : Simulation) → withWorld w side x .weight ≡ w .weight

@@ -231,7 +231,12 @@ one-skip-based : (b : Bool) (s : Scene) (t : Timestamp) (p : Played) → OneSkip
     → OneSkip s t (record { scene = emptiedBase b (p .scene); words = p .words })
 unfolding newSideOf oldSideOf worldOf oldStampOf newStampOf
 one-skip-based true s t p k =
-    record { old = k .old; fitting = λ l f. let g : Fitting (p .scene .worlds) = k .fitting l f in record { old = g .old; new = g .new; queued = g .queued }; steps = k .steps; none = k .none }
+    record {
+      old = k .old;
+      fitting = λ l f. let g : Fitting (p .scene .worlds) = k .fitting l f in record { old = g .old; new = g .new; queued = g .queued };
+      steps = k .steps;
+      none = k .none;
+    }
 one-skip-based false s t p k = k
 
 pub one-skip : (s : Scene) (t : Timestamp) → OneSkip s t (skippedOf s t)

@@ -9,6 +9,7 @@ use Prim.Native.Nat.{ℕ}
 use lib.Dec.{T}
 use lib.ListN.{length}
 use lib.Ieee.{Float, binary64, fits}
+use Rattle.refusals.specs.Limits.{sampleRoom}
 use Rattle.refusals.specs.Refusals.{accepted}
 use Rattle.settings.specs.declared.Settings.{Settings}
 use Rattle.session_state.specs.declared.Session.{Session}
@@ -16,11 +17,11 @@ use Rattle.session_state.specs.Sound.{soundOf}
 use Rattle.session.specs.Calls.{openOf, updateOf}
 use Rattle.session_issue.specs.Issue.{issueOf}
 
--- what the types say of a session's floats and of its clock's slots
+-- of what the types say of a session, what soundness needs: an f64 is a value of binary64, and a clock has its slots
 pub record FloatsFit (s : Session) : Type 0 where
   pub timestep : T (fits binary64 (s .settings .timestep))
   pub timer : T (fits binary64 (s .clock .timer))
-  pub slots : length (s .clock .samples) ≡ 64
+  pub slots : length (s .clock .samples) ≡ sampleRoom
 
 -- open, accepted
 unfoldable pub OpenSound : Type 0

@@ -32,7 +32,14 @@ met-in-spec 𝓤 H 𝓜 𝓖 𝓡 =
     entered 𝓤 H (tripleOf 𝓤 H (𝓖 .A) this.signature (this.spec 𝓤 H (𝓖 .A) (𝓜 .mem) (𝓡 .run)))
     (tables 𝓤 H 𝓜 𝓡 code.env .C) (tables 𝓤 H 𝓜 𝓡 code.env .Λ) #inbox-passes·met-in code.function (code.unfolded 𝓤 H 𝓜 𝓡)
     (pass-meets 𝓤 H (𝓖 .A) (givenOf 𝓤 H 𝓜 𝓖) (𝓜 .mem) (𝓡 .run)
-    (record { row = bool; mir = tyBool; val = vbool; tells = bool-tells; typed = λ x v is. bool-lawful 𝓤 H (𝓖 .A) (givenOf 𝓤 H 𝓜 𝓖) .typed x (v ∷ []) is .0; makes = bool-makes 𝓤 H (𝓖 .A) (givenOf 𝓤 H 𝓜 𝓖) })
+    (record {
+      row = bool;
+      mir = tyBool;
+      val = vbool;
+      tells = bool-tells;
+      typed = λ x v is. bool-lawful 𝓤 H (𝓖 .A) (givenOf 𝓤 H 𝓜 𝓖) .typed x (v ∷ []) is .0;
+      makes = bool-makes 𝓤 H (𝓖 .A) (givenOf 𝓤 H 𝓜 𝓖);
+    })
     metOne metIn met-folds
     (tablesOf 𝓤 H 𝓜 (tables 𝓤 H 𝓜 𝓡 code.env)) take-def.name
     (cited 𝓤 H (New 𝓤 H (𝓖 .A) (𝓜 .mem) (𝓡 .run)) 𝓜 𝓡 code.env new-def.name new-def.routine code.calls-inbox·reader·new (new-thm.met 𝓤 H 𝓜 𝓖 𝓡))

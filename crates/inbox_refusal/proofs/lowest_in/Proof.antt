@@ -44,5 +44,6 @@ lowest-in-spec 𝓤 H 𝓜 𝓖 𝓡 =
     (cited 𝓤 H (New 𝓤 H (𝓖 .A) (𝓜 .mem) (𝓡 .run)) 𝓜 𝓡 code.env new-def.name new-def.routine code.calls-inbox·reader·new (new-thm.met 𝓤 H 𝓜 𝓖 𝓡))
     (cited 𝓤 H (More 𝓤 H (𝓖 .A) (𝓜 .mem) (𝓡 .run)) 𝓜 𝓡 code.env more-def.name more-def.routine code.calls-inbox·reader·more (more-thm.met 𝓤 H 𝓜 𝓖 𝓡))
     (cited 𝓤 H (Next 𝓤 H (𝓖 .A) (𝓜 .mem) (𝓡 .run)) 𝓜 𝓡 code.env next-def.name next-def.routine code.calls-inbox·reader·next (next-thm.met 𝓤 H 𝓜 𝓖 𝓡))
-    (cited 𝓤 H (Take 𝓤 H (𝓖 .A) (still u32) lowestWith) 𝓜 𝓡 code.env take-def.name take-def.routine code.calls-inbox-refusal·lowest-with (take-thm.met 𝓤 H 𝓜 𝓖 𝓡))
+    (cited 𝓤 H (Take 𝓤 H (𝓖 .A) (still u32) lowestWith) 𝓜 𝓡 code.env take-def.name take-def.routine code.calls-inbox-refusal·lowest-with
+    (take-thm.met 𝓤 H 𝓜 𝓖 𝓡))
     (cited 𝓤 H (Moved 𝓤 H (𝓖 .A) (𝓜 .mem) (𝓡 .run)) 𝓜 𝓡 code.env moved-def.name moved-def.routine code.calls-inbox·reader·moved (moved-thm.met 𝓤 H 𝓜 𝓖 𝓡)))
