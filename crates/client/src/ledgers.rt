@@ -55,7 +55,7 @@ pub fn count_load(l: Ledger, copied: usize, replaced: usize, leftout: usize) -> 
 }
 
 // A ledger with so many held at the end of a call.
-pub fn close(l: Ledger, held: usize) -> Ledger
+pub(crate) fn close(l: Ledger, held: usize) -> Ledger
     ensures { λ r. ⌜ r ≡ withHeld l held ⌝ }
 {
     let mut t = l;

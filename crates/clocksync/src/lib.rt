@@ -125,7 +125,7 @@ impl Clock {
 
     // One sample more. With the samples to store together their mean is taken: it is the offset where there is none yet, or where it
     // deviates too far; then the oldest sample goes.
-    pub fn add_sample(self, settings: Settings, x: f64) -> Clock
+    pub(crate) fn add_sample(self, settings: Settings, x: f64) -> Clock
         ensures { λ r. ⌜ r ≡ addedOf settings self x ⌝ }
     {
         let n = mean::least(self.len, refusals::MOST_SAMPLES);

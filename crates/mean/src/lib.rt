@@ -87,7 +87,7 @@ pub fn least(a: usize, b: usize) -> usize
 }
 
 // A count less another, and 0 where that is more.
-pub fn less(a: usize, b: usize) -> usize
+fn less(a: usize, b: usize) -> usize
     ensures { λ r. ⌜ r ≡ a - b ⌝ }
 {
     if a < b { 0 } else { a - b }

@@ -39,7 +39,7 @@ impl TweeningMethod {
     }
 
     // Whether it is one of the three methods.
-    pub fn is_known(self) -> bool
+    pub(crate) fn is_known(self) -> bool
         ensures { λ r. ⌜ r ≡ knownOf self ⌝ }
     {
         match self {
