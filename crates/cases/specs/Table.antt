@@ -130,7 +130,7 @@ frameThree = updateAt (frameTwo .session) 103 []
 unfoldable pub frameFour : Reply
 frameFour = updateAt (frameThree .session) 104 []
 
--- what happened in an update of delta 1 at n seconds that replied this
+-- what happened in an update of delta 1 at n seconds, of a session whose worlds exist, that replied this
 abbrev pub eventsAt : Session → ℕ → List ℕ → Reply → List Event
 eventsAt s n inbox r = eventsOf s (secondsOf 1) (secondsOf n) inbox (r .refusal)
 

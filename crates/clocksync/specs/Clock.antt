@@ -29,7 +29,7 @@ use Rattle.clocksync.specs.declared.Heard.{Heard}
 abbrev pub laidOut : List Float → List Float
 laidOut xs = xs ++ replicate (sampleRoom - length xs) zero64
 
--- the samples that a clock holds, oldest first; of a clock that is not sound no more than that many count
+-- the samples that a clock holds, oldest first; of a clock that is not sound no more than `mostSamples` count
 unfoldable pub heldOf : Clock → List Float
 heldOf c = take (min (c .len) mostSamples) (c .samples)
 

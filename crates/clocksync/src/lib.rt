@@ -1,5 +1,6 @@
 // The clock of a session: the offset to the server's clock, measured from clock messages, and when the next request goes out: what
-// src/clocksync.rs of crystalorb holds. Every function is total: it has its answer also for a clock that is not sound.
+// src/clocksync.rs of crystalorb holds, but for the mean, which is in the crate mean. Every function is total: it has its answer also for a
+// clock that is not sound.
 ghost use mathlib.Core.Path.{_≡_};
 ghost use mathlib.Core.Bool.{_||_};
 ghost use Prim.Native.Nat.{_≤_};

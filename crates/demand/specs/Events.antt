@@ -1,5 +1,5 @@
--- What happens to the worlds in an update, by what it was handed: document 01, "src/fixed_timestepper.rs". No frame and no skip is in it but those of
--- the definition. Definitions only. Assumes nothing.
+-- What happens to the worlds in an update, by what it was handed and by its refusal: document 01, "src/fixed_timestepper.rs". No frame and no skip is in it
+-- but those of the definition. Definitions only. Assumes nothing.
 use Prim.Native.Nat.{ℕ, zero, suc}
 use mathlib.Core.Bool.{cond}
 use mathlib.Core.List.{List, [], _∷_, _++_}

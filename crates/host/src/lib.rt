@@ -5,6 +5,7 @@ ghost use Prim.Native.Nat.{_+_, _*_, _≤_};
 ghost use lib.ListN.{length, take, replicate};
 ghost use lib.Ieee.{binary64, ofBits};
 ghost use Rattle.timestamp.specs.Timestamps.{bitsOf, orderOf, orderNumber};
+ghost use Rattle.refusals.specs.Limits.{sampleRoom};
 ghost use Rattle.host.specs.Host.{frameStampOf};
 ghost use Rattle.host.specs.Mean.{littleOf, wordAt, floatsOf, bytesOf, judgedMean, meanAnswerOf, AnswersMean};
 use timestamp::Ordering;
@@ -92,7 +93,7 @@ fn mean_of_bytes(needed: u32, rate: f64, samples: &[u8], room: usize) -> MeanAns
 
 // The mean of the first n samples of bytes, where each is finite and within 2^33.
 fn mean_of_first(samples: &[u8], n: usize, discard: usize) -> MeanAnswer
-    requires { ⌜ (n ≤ 64) × (8 * n ≤ length (now samples)) ⌝ }
+    requires { ⌜ (n ≤ sampleRoom) × (8 * n ≤ length (now samples)) ⌝ }
     ensures { λ r. ⌜ r ≡ judgedMean discard (floatsOf (now (samples .entry)) n) ⌝ }
 {
     let floats = floats_of(samples, n);
@@ -104,7 +105,7 @@ fn mean_of_first(samples: &[u8], n: usize, discard: usize) -> MeanAnswer
 
 // The first n floats of bytes, at the front of an array.
 fn floats_of(bytes: &[u8], n: usize) -> [f64; 64]
-    requires { ⌜ (n ≤ 64) × (8 * n ≤ length (now bytes)) ⌝ }
+    requires { ⌜ (n ≤ sampleRoom) × (8 * n ≤ length (now bytes)) ⌝ }
     ensures { λ r. ⌜ take n r ≡ floatsOf (now (bytes .entry)) n ⌝ }
 {
     let mut out = [0.0; 64];

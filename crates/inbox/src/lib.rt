@@ -1,6 +1,5 @@
 // The inbox: words that say commands, snapshots and clock messages. It stands for what a network would hand to the client of crystalorb.
-// `refusal` reads the whole inbox and gives the lowest refusal; `message_at` reads the message at a place, and a `Reader` goes from
-// message to message.
+// `message_at` reads the message at a place, and a `Reader` goes from message to message; what an inbox is refused for is in inbox_refusal.
 ghost use mathlib.Core.Path.{_≡_};
 ghost use Prim.Native.Nat.{_+_, _≤_, _<_};
 ghost use lib.ListN.{length, drop};

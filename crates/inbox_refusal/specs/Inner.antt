@@ -1,4 +1,4 @@
--- What inner functions of the code give of the search for a refusal. No contract of a call cites this module: proofs/Refusals ties it to Inbox.
+-- What inner functions of the code give of the search for a refusal. No contract of a call cites this module: proofs/Refusals ties it to Refusal.
 -- Definitions only. Assumes nothing.
 use Prim.Native.Nat.{ℕ}
 use mathlib.Core.List.{List}

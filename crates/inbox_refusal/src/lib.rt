@@ -1,4 +1,4 @@
-// The refusal of an inbox: every message is read before one is chosen, since a wrong word may come after a bad time.
+// What an inbox is refused for, 3 to 6: its length is tested first, then all of its messages are read, and the lowest number is given.
 ghost use mathlib.Core.Path.{_≡_};
 ghost use Rattle.inbox_refusal.specs.Refusal.{messageNumberOf, lowestOf, refusalOf};
 ghost use Rattle.inbox_refusal.specs.Inner.{lowestWith, lowestIn};

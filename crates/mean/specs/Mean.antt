@@ -1,4 +1,4 @@
--- Document 01, "src/clocksync.rs": the mean of samples. It sorts, drops both extremes and sums upward from +0.0.
+-- Document 01, "src/clocksync.rs": the mean of samples, which sorts, drops both extremes and sums upward from +0.0, and which samples are in range.
 -- Definitions only. Assumes nothing.
 use Prim.Native.Nat.{ℕ, suc, _-_}
 use mathlib.Core.Bool.{Bool, true, cond, _&&_}
@@ -44,7 +44,7 @@ averageOf xs = div binary64 (sumFrom zero64 xs) (ofInt binary64 (pos (length xs)
 unfoldable pub meanOf : ℕ → List Float → Float
 meanOf d xs = averageOf (innerOf d (sortedOf xs))
 
--- every sample is finite and within 2^33 (`sampleOk`), as those that a clock keeps and those that the exported mean takes
+-- every sample is finite and within 2^33 (`sampleOk`): asked of those of a sound clock, and of those of the hosts' mean call
 unfoldable pub samplesOk : List Float → Bool
 samplesOk [] = true
 samplesOk (x ∷ xs) = sampleOk x && samplesOk xs

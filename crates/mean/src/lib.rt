@@ -1,4 +1,5 @@
-// The mean of samples: sorted, cut at both ends, summed upward from +0.0.
+// The mean of samples, which src/clocksync.rs of crystalorb takes: sorted, cut at both ends, summed upward from +0.0; and which samples are
+// in range.
 ghost use mathlib.Core.Path.{_≡_};
 ghost use Prim.Native.Nat.{_+_, _-_, _≤_, _<_, min};
 ghost use lib.ListN.{take, drop};

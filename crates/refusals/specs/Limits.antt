@@ -1,4 +1,5 @@
--- The limits of document 01 that are whole numbers. Those that are floats stand in timestamp (Floats) and, where they are of settings alone, in settings.
+-- The limits of document 01 that are whole numbers, and those of a clock's samples, which follow from them. Those that are floats stand in timestamp (Floats)
+-- and, where they are of settings alone, in settings.
 -- Definitions only. Assumes nothing.
 use Prim.Native.Nat.{ℕ, _^_}
 
@@ -26,7 +27,7 @@ mostSteps = 64
 abbrev pub mostNeeded : ℕ
 mostNeeded = 32
 
--- a clock has so many slots for samples: twice the samples needed at most
+-- a clock has so many slots for samples: as many as settings that pass have it store, 32 needed and 16 to leave out at each end
 abbrev pub sampleRoom : ℕ
 sampleRoom = 64
 

@@ -53,7 +53,7 @@ pub const MOST_FRAMES: u32 = 65;
 pub const MOST_STEPS: u32 = 64;
 // The samples that a mean needs are at most so many.
 pub const MOST_NEEDED: u32 = 32;
-// A clock has so many slots for samples: twice the samples needed at most.
+// A clock has so many slots for samples: as many as settings that pass have it store.
 pub const SAMPLE_ROOM: usize = 64;
 // Between calls it holds at most so many: with one more their mean is taken.
 pub const MOST_SAMPLES: usize = 63;

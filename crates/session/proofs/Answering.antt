@@ -1,4 +1,4 @@
--- What the calls of a session come to, over plain values: each way that a call ends, from what its parts answered. Assumes nothing.
+-- What open and update come to, over plain values: each way that an update ends, from what its parts answered. Assumes nothing.
 use Prim.{⊥}
 use mathlib.Core.Path.{_≡_, refl, ap, sym, _∙_, subst}
 use mathlib.Core.Bool.{Bool, true, false, cond}

@@ -1,4 +1,4 @@
--- The calls open, update and report: document 01, "Kept, and written anew", "src/client/stage.rs", and both sections "Turned down".
+-- The calls open and update: document 01, "Kept, and written anew", "src/client/stage.rs", and both sections "Turned down".
 -- Definitions only. Assumes nothing.
 use Prim.Native.Nat.{ℕ}
 use mathlib.Core.Bool.{Bool, true, false, _&&_}

@@ -1,4 +1,4 @@
--- What calls answer once they are decided, over plain values: each way to fill an answer, from what its parts gave. Assumes nothing.
+-- What an update answers once it is decided, over plain values: each way to fill its answer, from what its parts gave. Assumes nothing.
 use mathlib.Core.Path.{_≡_, ap, _∙_}
 use mathlib.Core.Bool.{Bool, false}
 use mathlib.Core.List.{List}

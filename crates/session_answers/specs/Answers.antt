@@ -1,5 +1,5 @@
--- What calls answer once they are decided: document 01, "Kept, and written anew" (update, issue, report), "src/client/stage.rs", and what a refused call
--- answers. Definitions only. Assumes nothing.
+-- What an update answers once it is decided: document 01, "Kept, and written anew", and what a refused update answers.
+-- Definitions only. Assumes nothing.
 use Prim.Native.Nat.{ℕ, _-_}
 use mathlib.Core.Bool.{Bool, false, cond}
 use mathlib.Core.List.{List, _++_}

@@ -1,5 +1,4 @@
-// What calls answer once they are decided: the records of the answers, and each way to fill one. It answers to the parts of `Client` and
-// src/client/stage*.rs of crystalorb that change the stage and show the state.
+// The records of what open and update answer, and each way to fill that of update. It answers to `Client::update` of src/client.rs of crystalorb.
 ghost use lib.ListN.{length};
 ghost use Rattle.session_answers.specs.Answers.{unplayedOf, refusedWith, Updates};
 ghost use Rattle.session_answers.specs.Inner.{acceptedBy};

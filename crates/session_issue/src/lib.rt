@@ -1,4 +1,4 @@
-// The call `issue`: a command of this client, as `Client::issue_command` of src/client.rs of crystalorb takes it.
+// The call `issue`: a command of this client, as `Ready::issue_command` of src/client/stage/ready.rs of crystalorb takes it.
 ghost use mathlib.Core.Path.{_≡_};
 ghost use Rattle.session_issue.specs.Issue.{unissued, issuedOf, issueOf};
 use client::Ledger;

@@ -1,4 +1,4 @@
-// The call `report`: where a session stands, as the views of `Client` in src/client.rs of crystalorb show it.
+// The call `report`: where a session stands, as the views `SyncingInitialState` and `Ready` of src/client/stage/ of crystalorb show it.
 ghost use mathlib.Core.Path.{_≡_};
 ghost use Rattle.session_report.specs.Report.{unreported, reportedOf, reportOf};
 use client::DisplayTime;

@@ -1,5 +1,5 @@
--- The stages of a session: document 01, "src/client/stage.rs". The worlds are made once the clock is ready, and it is Ready once there is a time to display.
--- Definitions only. Assumes nothing.
+-- The stages of a session: document 01, "src/client/stage.rs". The worlds are made once the clock is ready, and the session is Ready once there is a time to
+-- display. Definitions only. Assumes nothing.
 use mathlib.Core.Bool.{cond}
 use lib.Ieee.{Float}
 use Rattle.timestamp.specs.Floats.{zero64}

@@ -1,4 +1,5 @@
-// The stages of a session: what src/client/stage*.rs of crystalorb decide after an update.
+// The stages of a session: what `StageOwned::update` of src/client/stage.rs of crystalorb decides at an update's end, and the first stamp of
+// `ActiveClient::new` of src/client.rs.
 ghost use mathlib.Core.Path.{_≡_};
 ghost use Rattle.session_stage.specs.Stage.{syncedOf, stageAfter};
 use client::DisplayTime;
@@ -18,14 +19,12 @@ pub fn synced(session: Session, clock: Clock, seconds: f64) -> Session
         let ServerTime::At(server) = time else {
             return session;
         };
-        let stage = Stage::SyncingInitialState;
-        return Session {
-            settings,
-            stage,
-            clock,
-            worlds: client::new(Timestamp::from_seconds(server, settings.timestep)),
-            overshoot: 0.0,
-        };
+        let mut started = session;
+        started.stage = Stage::SyncingInitialState;
+        started.clock = clock;
+        started.worlds = client::new(Timestamp::from_seconds(server, settings.timestep));
+        started.overshoot = 0.0;
+        return started;
     }
     let mut s = session;
     s.clock = clock;
