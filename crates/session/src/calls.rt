@@ -26,16 +26,9 @@ use timestamp::Timestamp;
 pub fn open(settings: Settings) -> OpenAnswer
     ensures { λ r. ⌜ r ≡ openOf settings ⌝ }
 {
-    let stage = Stage::SyncingClock;
     OpenAnswer {
         refusal: refusals::of_open(settings.passes()),
-        session: Session {
-            settings,
-            stage,
-            clock: Clock::new(),
-            worlds: client::new(Timestamp(0)),
-            overshoot: 0.0,
-        },
+        session: session_state::starting(settings, Clock::new(), client::new(Timestamp(0))),
     }
 }
 

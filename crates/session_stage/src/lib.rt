@@ -19,12 +19,9 @@ pub fn synced(session: Session, clock: Clock, seconds: f64) -> Session
         let ServerTime::At(server) = time else {
             return session;
         };
-        let mut started = session;
-        started.stage = Stage::SyncingInitialState;
-        started.clock = clock;
-        started.worlds = client::new(Timestamp::from_seconds(server, settings.timestep));
-        started.overshoot = 0.0;
-        return started;
+        let stage = Stage::SyncingInitialState;
+        let worlds = client::new(Timestamp::from_seconds(server, settings.timestep));
+        return session_state::session_with(session, stage, clock, worlds, 0.0);
     }
     let mut s = session;
     s.clock = clock;

@@ -2,7 +2,7 @@
 // of src/client/stage*.rs of crystalorb.
 ghost use mathlib.Core.Path.{_≡_};
 ghost use Rattle.command.specs.Soundness.{soundBuffer};
-ghost use Rattle.session_state.specs.Session.{hasWorlds, isReady, sceneOf};
+ghost use Rattle.session_state.specs.Session.{hasWorlds, isReady, startingOf, sessionWith, sceneOf};
 ghost use Rattle.session_state.specs.Sound.{queuedSound, weightSound, initSound, buffersSound, worldsSound, overshootSound, connectedOf, soundOf};
 use client::ClientWorldSimulations;
 use client::Queued;
@@ -191,5 +191,39 @@ pub fn scene_of(session: Session) -> Scene
         left: ledgers::empty_ledger(),
         right: ledgers::empty_ledger(),
         steps: 0,
+    }
+}
+
+// A session as settings start it, with this clock and these worlds.
+pub fn starting(settings: Settings, clock: Clock, worlds: ClientWorldSimulations) -> Session
+    ensures { λ r. ⌜ r ≡ startingOf settings clock worlds ⌝ }
+{
+    let stage = Stage::SyncingClock;
+    Session {
+        settings,
+        stage,
+        clock,
+        worlds,
+        overshoot: 0.0,
+    }
+}
+
+// The session with another stage, clock and overshoot and with other worlds.
+pub fn session_with(
+    session: Session,
+    stage: Stage,
+    clock: Clock,
+    worlds: ClientWorldSimulations,
+    overshoot: f64,
+) -> Session
+    ensures { λ r. ⌜ r ≡ sessionWith session stage clock worlds overshoot ⌝ }
+{
+    let settings = session.settings;
+    Session {
+        settings,
+        stage,
+        clock,
+        worlds,
+        overshoot,
     }
 }

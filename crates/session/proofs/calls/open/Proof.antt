@@ -1,7 +1,6 @@
 -- `open` meets its contract: the parts of the session, and the refusal by its settings. Assumes nothing.
 use borrow.Author.Needs.{needs}
 use mathlib.Core.Path.{ap, _∙_}
-use lib.Ieee.{ofBits}
 use Rattle.refusals.specs.Refusals.{openRefusalBy}
 use Rattle.session_state.specs.Session.{startingOf}
 use Rattle.session.specs.Calls.{startOf, openOf}
@@ -20,14 +19,17 @@ new-requires c κs = search needs
 new-requires-2 : tie.Need-new-requires-2
 new-requires-2 c κs = search needs
 
+starting-requires : tie.Need-starting-requires
+starting-requires c κs = search needs
+
 returns : tie.Need-returns
-unfolding openOf startOf ofBits
+unfolding openOf startOf
 returns c =
+    let p = c .before .before .before in
     λ i. record {
-      refusal = (c .before .before .of-open .ensures ∙ ap openRefusalBy (c .before .before .before .passes .ensures)) i;
-      session = startingOf (c .before .before .before .before .args .settings) (c .before .new .ensures i) (c .new2 .ensures i);
+      refusal = (p .of-open .ensures ∙ ap openRefusalBy (p .before .passes .ensures)) i;
+      session = (c .starting .ensures ∙ (λ j. startingOf (p .before .before .args .settings) (c .before .before .new .ensures j) (c .before .new2 .ensures j))) i;
     }
 
 pub open-spec : {M : Type 1} → statement M
-open-spec =
-    tie.close (tie.spec passes-requires of-open-requires new-requires new-requires-2 returns)
+open-spec = tie.close (tie.spec passes-requires of-open-requires new-requires new-requires-2 starting-requires returns)
