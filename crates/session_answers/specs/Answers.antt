@@ -16,8 +16,6 @@ use Rattle.session_stage.specs.Stage.{stageAfter}
 use Rattle.session_state.specs.Session.{sessionWith}
 use Rattle.session_answers.specs.declared.UpdateAnswer.{UpdateAnswer}
 
--- ---- update
-
 -- the answer of an update, and its tape
 pub record Reply : Type 0 where
   pub refusal : ℕ

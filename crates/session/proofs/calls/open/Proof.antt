@@ -26,9 +26,10 @@ returns : tie.Need-returns
 unfolding openOf startOf
 returns c =
     let p = c .before .before .before in
+    let n = c .before in
     λ i. record {
       refusal = (p .of-open .ensures ∙ ap openRefusalBy (p .before .passes .ensures)) i;
-      session = (c .starting .ensures ∙ (λ j. startingOf (p .before .before .args .settings) (c .before .before .new .ensures j) (c .before .new2 .ensures j))) i;
+      session = (c .starting .ensures ∙ (λ j. startingOf (p .before .before .args .settings) (n .before .new .ensures j) (n .new2 .ensures j))) i;
     }
 
 pub open-spec : {M : Type 1} → statement M
