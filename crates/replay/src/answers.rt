@@ -1,7 +1,7 @@
 // The answers as text. Each function takes the next place in the output buffer and returns it.
-use super::mean::Room;
 use super::output;
 use super::output::Out;
+use super::samples::Room;
 use super::session_calls::Tape;
 use client::ClientWorldSimulations;
 use client::DisplayTime;

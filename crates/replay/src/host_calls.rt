@@ -4,10 +4,10 @@ use super::fields;
 use super::input::In;
 use super::lines;
 use super::lines::Place;
-use super::mean;
-use super::mean::Bytes;
-use super::mean::Room;
 use super::output::Out;
+use super::samples;
+use super::samples::Bytes;
+use super::samples::Room;
 use timestamp::Timestamp;
 
 // The stamp of 16 bits.
@@ -41,7 +41,7 @@ pub(crate) fn frame_stamp(p: Place, end: u32, input: &mut In, out: &mut Out) -> 
 fn play_mean(v: [u64; 11], bytes: &Room, b: Bytes, at: usize, out: &mut Out) -> Place {
     // every byte of the answer is ff before the call, so that what is printed is the call's own
     let mut answer = [255u8; 513];
-    let refusal = mean::call(
+    let refusal = samples::call(
         fields::narrow(v[0]),
         fields::float_of(v[1]),
         bytes,
@@ -62,7 +62,7 @@ pub(crate) fn mean(p: Place, end: u32, input: &mut In, out: &mut Out) -> Place {
         return lines::bad(p);
     }
     let mut bytes = [0u8; 513];
-    let b = mean::read_bytes(input, f.cursor, &mut bytes);
+    let b = samples::read_bytes(input, f.cursor, &mut bytes);
     if !b.ok {
         return lines::bad(p);
     }

@@ -4,8 +4,8 @@ mod fields;
 mod host_calls;
 mod input;
 mod lines;
-mod mean;
 mod output;
+mod samples;
 mod session_calls;
 
 use fields::Fields;

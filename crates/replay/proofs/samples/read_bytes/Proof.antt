@@ -1,7 +1,7 @@
 -- `read_bytes` is safe and ends: the turns that are left fall. Assumes nothing.
 use native.Mathlib.Omega.{arith}
-use Rattle.replay.proofs.mean.read_bytes.Statement.{statement}
-use Rattle.replay.proofs.mean.read_bytes.Tie as tie
+use Rattle.replay.proofs.samples.read_bytes.Statement.{statement}
+use Rattle.replay.proofs.samples.read_bytes.Tie as tie
 
 abbrev Inv-loop : tie.InvT-loop
 Inv-loop input₀ bytes₀ cursor₀ r₀ turns₀ input bytes cursor r turns = Unit {0}

@@ -2,8 +2,8 @@
 use borrow.Author.Needs.{needs}
 use native.Mathlib.Omega.{arith}
 use lib.ListN.{length-take}
-use Rattle.replay.proofs.mean.first.Statement.{statement}
-use Rattle.replay.proofs.mean.first.Tie as tie
+use Rattle.replay.proofs.samples.first.Statement.{statement}
+use Rattle.replay.proofs.samples.first.Tie as tie
 
 slice-aggregate-result : tie.Need-slice-aggregate-result
 slice-aggregate-result c = simp length-take (omega arith)

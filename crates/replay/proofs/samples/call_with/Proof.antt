@@ -2,8 +2,8 @@
 use borrow.Author.Needs.{needs}
 use native.Mathlib.Omega.{arith}
 use lib.ListN.{length-take}
-use Rattle.replay.proofs.mean.call_with.Statement.{statement}
-use Rattle.replay.proofs.mean.call_with.Tie as tie
+use Rattle.replay.proofs.samples.call_with.Statement.{statement}
+use Rattle.replay.proofs.samples.call_with.Tie as tie
 
 slice-relend-prefix-kadwunge-mean-of-samples : tie.Need-slice-relend-prefix-kadwunge-mean-of-samples
 slice-relend-prefix-kadwunge-mean-of-samples c = search needs
