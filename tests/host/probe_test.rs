@@ -60,7 +60,8 @@ fn same(a: f64, b: f64) -> bool {
     a.to_bits() == b.to_bits() || (a.is_nan() && b.is_nan())
 }
 
-/// Limits and their neighbours, every exponent with digits all 0, all 1 and around a half, and random values of several kinds.
+/// Limits and their neighbours, every exponent with digits all 0, all 1 and around a half and with a point at each place of its
+/// digits, and random values of several kinds.
 fn floats() -> Vec<f64> {
     let mut values = vec![
         0.0,
@@ -84,6 +85,12 @@ fn floats() -> Vec<f64> {
     for exponent in 0..2047u64 {
         for digits in [0, 1, (1 << 51) - 1, 1 << 51, (1 << 51) + 1, (1 << 52) - 2, (1 << 52) - 1u64] {
             values.push(f64::from_bits(exponent << 52 | digits));
+        }
+        // a one at each place, ones below it, and ones from it up: one of the places is next to the point, wherever that is
+        for one in (0..52).map(|place| 1u64 << place) {
+            for digits in [one, one - 1, (1 << 52) - one] {
+                values.push(f64::from_bits(exponent << 52 | digits));
+            }
         }
     }
     for whole in 0..70_000u32 {
