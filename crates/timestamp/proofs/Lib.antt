@@ -4,8 +4,7 @@ pub mod Signed
 pub mod Order
 pub mod Rfc
 pub mod Saturate
-pub mod Table
-pub mod Masked
+pub mod Cleared
 pub mod Whole
 pub mod Nearer
 pub mod Patterns

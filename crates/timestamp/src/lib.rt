@@ -165,64 +165,8 @@ impl FloatTimestamp {
     }
 }
 
-// The bits of a float that lie above the point, by its exponent: entry i keeps the sign, the exponent and the i highest of the 52 digits.
-const MASKS: [u64; 53] = [
-    0xfff0_0000_0000_0000,
-    0xfff8_0000_0000_0000,
-    0xfffc_0000_0000_0000,
-    0xfffe_0000_0000_0000,
-    0xffff_0000_0000_0000,
-    0xffff_8000_0000_0000,
-    0xffff_c000_0000_0000,
-    0xffff_e000_0000_0000,
-    0xffff_f000_0000_0000,
-    0xffff_f800_0000_0000,
-    0xffff_fc00_0000_0000,
-    0xffff_fe00_0000_0000,
-    0xffff_ff00_0000_0000,
-    0xffff_ff80_0000_0000,
-    0xffff_ffc0_0000_0000,
-    0xffff_ffe0_0000_0000,
-    0xffff_fff0_0000_0000,
-    0xffff_fff8_0000_0000,
-    0xffff_fffc_0000_0000,
-    0xffff_fffe_0000_0000,
-    0xffff_ffff_0000_0000,
-    0xffff_ffff_8000_0000,
-    0xffff_ffff_c000_0000,
-    0xffff_ffff_e000_0000,
-    0xffff_ffff_f000_0000,
-    0xffff_ffff_f800_0000,
-    0xffff_ffff_fc00_0000,
-    0xffff_ffff_fe00_0000,
-    0xffff_ffff_ff00_0000,
-    0xffff_ffff_ff80_0000,
-    0xffff_ffff_ffc0_0000,
-    0xffff_ffff_ffe0_0000,
-    0xffff_ffff_fff0_0000,
-    0xffff_ffff_fff8_0000,
-    0xffff_ffff_fffc_0000,
-    0xffff_ffff_fffe_0000,
-    0xffff_ffff_ffff_0000,
-    0xffff_ffff_ffff_8000,
-    0xffff_ffff_ffff_c000,
-    0xffff_ffff_ffff_e000,
-    0xffff_ffff_ffff_f000,
-    0xffff_ffff_ffff_f800,
-    0xffff_ffff_ffff_fc00,
-    0xffff_ffff_ffff_fe00,
-    0xffff_ffff_ffff_ff00,
-    0xffff_ffff_ffff_ff80,
-    0xffff_ffff_ffff_ffc0,
-    0xffff_ffff_ffff_ffe0,
-    0xffff_ffff_ffff_fff0,
-    0xffff_ffff_ffff_fff8,
-    0xffff_ffff_ffff_fffc,
-    0xffff_ffff_ffff_fffe,
-    0xffff_ffff_ffff_ffff,
-];
-
-// x without its fraction, the sign kept: the bits below the point are cleared.
+// x without its fraction, the sign kept: the bits below the point are cleared, by a shift there and back. From 1 on x is
+// 1.d × 2^(exponent - 1023), where d are the 52 lowest bits, so exponent - 1023 of them stand before the point.
 pub fn trunc(x: f64) -> f64
     ensures { λ r. ⌜ r ≡ truncOf x ⌝ }
 {
@@ -232,16 +176,17 @@ pub fn trunc(x: f64) -> f64
     }
     let bits = f64::to_bits(x);
     let exponent = (bits >> 52) & 0x7ff;
-    // below 1 only the sign is left
-    if exponent < 1023 {
-        return f64::from_bits(bits & 0x8000_0000_0000_0000);
-    }
     // from 2^53 on, and at an infinity, no bit lies below the point
     if exponent > 1075 {
         return x;
     }
-    let at = (exponent - 1023) as usize;
-    f64::from_bits(bits & MASKS[at])
+    // how many do: below 1 all but the sign's, from 1 on those digits that the exponent leaves there
+    let below = if exponent < 1023 {
+        63
+    } else {
+        52 - (exponent - 1023)
+    };
+    f64::from_bits((bits >> below) << below)
 }
 
 // The least whole number that is not below x.

@@ -1,21 +1,21 @@
--- `trunc` meets its contract: the bits below the point are cleared by the table's mask (proofs/Masked.antt). Assumes nothing.
+-- `trunc` meets its contract: the bits below the point are cleared by a shift there and back (proofs/Cleared.antt). Assumes nothing.
 use borrow.Author.Needs.{needs}
 use mathlib.Core.Path.{_≡_, sym, ap, _∙_, subst}
-use mathlib.Core.Bool.{Bool, not, false}
-use Prim.Native.Nat.{ℕ, suc, _+_, _-_, _*_, _/_, _^_, _<_, _≤_}
+use mathlib.Core.Bool.{true, false, not}
+use mathlib.Core.Logic.{inl, inr}
+use Prim.Native.Nat.{ℕ, _/_, _^_, _<_}
 use native.Mathlib.Omega.{arith}
 use lib.Dec.{T}
 use lib.Bits.{and-mask, bitAnd}
-use lib.ListN.{getD}
-use lib.Ieee.{Float, nan, inf, fin, binary64, ne, isNan, fits, toBits, ofBits, nanBits}
+use lib.Ieee.{Float, nan, inf, fin, binary64, ne, isNan, fits, toBits, ofBits}
 use lib.Ieee.Bits.{ofBits-toBits, toBits-lt}
 use lib.Ieee.Compare.{differs-from-itself}
 use Rattle.timestamp.specs.Whole.{truncOf}
-use Rattle.timestamp.proofs.Masked.{expo, masks, masked, masked-no-nan, small, small-no-nan, large, under}
+use Rattle.timestamp.proofs.Cleared.{expo, Below, below-lt, shifted-whole, shifted-no-nan, large}
 use Rattle.timestamp.proofs.trunc.Statement.{statement}
 use Rattle.timestamp.proofs.trunc.Tie as tie
 
-nan-stays : (x : Float) → ne x x ≡ mathlib.Core.Bool.true → x ≡ truncOf x
+nan-stays : (x : Float) → ne x x ≡ true → x ≡ truncOf x
 unfolding truncOf
 nan-stays x h = let e = differs-from-itself x (subst T (sym h) tt) in e ∙ ap truncOf (sym e)
 
@@ -49,67 +49,45 @@ returns c = nan-stays (c .before .args .x) (c .if1 .taken)
 float-to-bits-bits : tie.Need-float-to-bits-bits
 float-to-bits-bits c = number (c .before .args .x) (c .if1 .left)
 
-float-from-bits-result : tie.Need-float-from-bits-result
-unfolding bits
-float-from-bits-result c = small-no-nan (bits (c .before .before)) (within (c .before .before))
-
 returns-2 : tie.Need-returns-2
 unfolding bits
 returns-2 c =
     let s = c .before .before in
-    small (bits s) (within s) (subst (λ (f : ℕ). f < 1023) (field s) (c .if2 .taken)) ∙ ap truncOf (is s)
+    sym (is s) ∙ large (bits s) (subst (λ (f : ℕ). 1075 < f) (field s) (c .if2 .taken)) ∙ ap truncOf (is s)
 
-returns-3 : tie.Need-returns-3
-unfolding bits
-returns-3 c =
-    let s = c .before .before .before in
-    sym (is s) ∙ large (bits s) (subst (λ (f : ℕ). 1075 < f) (field s) (c .if3 .taken)) ∙ ap truncOf (is s)
+sub-below : tie.Need-sub-below
+sub-below c = search needs
 
-mul-result : tie.Need-mul-result
-mul-result c = search needs
-
-array-read-result : tie.Need-array-read-result
-array-read-result c = search needs
-
-module _ (c : tie.Else3) where
+-- ---- up to 2 ^ 53
+module _ (c : tie.Joined3) where
   s : tie.Start
   s = c .before .before .before
 
-  f : ℕ
-  f = expo (bits s)
-
-  lo : 1023 ≤ expo (bits s)
+  -- as many bits are cleared as lie below the point
+  below : Below (bits s) (c .if3 .below)
   unfolding s bits
-  lo = subst (λ (n : ℕ). 1023 ≤ n) (field s) (c .before .if2 .left)
+  below = elim (c .if3 .came) [
+    | inl w ↦ inl (omega (arith, field s, w .0 .taken), omega (arith, w .1))
+    | inr w ↦ inr (omega (arith, field s, w .0 .left), omega (arith, field s, w .0 .left, c .before .if2 .left, w .1))
+  ]
 
-  hi : expo (bits s) ≤ 1075
-  unfolding s bits
-  hi = subst (λ (n : ℕ). n ≤ 1075) (field s) (c .if3 .left)
+  few : c .if3 .below < 64
+  few = below-lt (bits s) (c .if3 .below) below
 
-  read : bitAnd (bits s) (getD masks (bitAnd (bits s / 2 ^ 52) 2047 - 1023) 0) ≡ bits s / 2 ^ (1075 - expo (bits s)) * 2 ^ (1075 - expo (bits s))
-  read = ap (λ (n : ℕ). bitAnd (bits s) (getD masks (n - 1023) 0)) (field s) ∙ under (bits s) (expo (bits s)) (within s) lo hi
+shr-result : tie.Need-shr-result
+shr-result c = few (c .before)
 
-  up : expo (bits s) ≡ suc (expo (bits s) - 1)
-  up = omega (arith, lo)
+shl-result : tie.Need-shl-result
+shl-result c = few (c .before)
 
-  sum : 1075 - expo (bits s) + (expo (bits s) - 1) ≡ 1074
-  sum = omega (arith, lo, hi)
+float-from-bits-result : tie.Need-float-from-bits-result
+unfolding bits s
+float-from-bits-result c = shifted-no-nan (bits (s (c .before))) (c .before .if3 .below) (within (s (c .before))) (below (c .before))
 
-  few : 1075 - expo (bits s) ≤ 52
-  few = omega (arith, lo)
-
-float-from-bits-result-2 : tie.Need-float-from-bits-result-2
-unfolding bits masks s
-float-from-bits-result-2 c =
-    subst (λ (n : ℕ). T (not (nanBits binary64 n))) (sym (read c))
-    (masked-no-nan (bits (s c)) (expo (bits (s c)) - 1) (1075 - expo (bits (s c))) (up c) (sum c) (few c))
-
-returns-4 : tie.Need-returns-4
-unfolding bits masks s
-returns-4 c =
-    ap (ofBits binary64) (read c)
-    ∙ masked (bits (s c)) (expo (bits (s c)) - 1) (1075 - expo (bits (s c))) (up c) (sum c) (few c)
-    ∙ ap truncOf (is (s c))
+returns-3 : tie.Need-returns-3
+unfolding bits s
+returns-3 c =
+    shifted-whole (bits (s (c .before))) (c .before .if3 .below) (within (s (c .before))) (below (c .before)) ∙ ap truncOf (is (s (c .before)))
 
 pub trunc-spec : {M : Type 1} → statement M
 trunc-spec =
@@ -117,10 +95,9 @@ trunc-spec =
     (tie.spec
     returns
     float-to-bits-bits
-    float-from-bits-result
     returns-2
-    returns-3
-    mul-result
-    array-read-result
-    float-from-bits-result-2
-    returns-4)
+    sub-below
+    shr-result
+    shl-result
+    float-from-bits-result
+    returns-3)

@@ -1,15 +1,14 @@
 -- The bits of a binary64 value with those below the point cleared are the bits of its whole part. Assumes nothing.
 use mathlib.Core.Path.{_≡_, refl, sym, ap, _∙_, subst}
-use mathlib.Core.Logic.{inl, inr}
+use mathlib.Core.Logic.{_⊎_, inl, inr}
 use mathlib.Core.Bool.{Bool, true, false, cond, not}
 use Prim.Native.Nat.{ℕ, zero, suc, _+_, _-_, _*_, _/_, _%_, _^_, _<_, _≤_}
-use native.Mathlib.Nat.{mul-one, mul-assoc, mul-comm, mul-right-comm, add-mul, mul-div-cancel, add-mul-div-right, div-add-mod', div-eq-of-lt, mod-lt}
-use native.Mathlib.Nat.{div-mul-le-self, div-le-self, lt-of-le-of-lt, lt-of-lt-of-le, eq-of-mul-eq-mul-right, add-comm}
+use native.Mathlib.Nat.{mul-one, mul-assoc, mul-comm, mul-right-comm, add-mul, mul-div-cancel, add-mul-div-right, div-add-mod', div-eq-of-lt}
+use native.Mathlib.Nat.{mod-lt, mod-eq-of-lt, div-mul-le-self, div-le-self, lt-of-le-of-lt, lt-of-lt-of-le, eq-of-mul-eq-mul-right, add-comm}
 use native.Mathlib.Omega.{arith}
 use lib.Dec.{T, leb, eqb, lit<, lit≤}
-use lib.Pow.{pow-add, pow-pos, pow-mono, shr-mod, field, shl-lt}
+use lib.Pow.{pow-add, pow-pos, pow-mono, field, shl-lt}
 use lib.Arith.{digits-div, digits-mod}
-use lib.Bits.{bitAnd, and-high}
 use lib.IntN.{pos}
 use lib.Ieee.{Float, nan, inf, fin, binary64, up, down, round, odd, ofFields, ofBits, nanBits, isNan}
 use lib.Ieee.Fits.{round-fits, down-pos}
@@ -17,10 +16,6 @@ use lib.Ieee.Bits.{ofBits-fits, nanBits-is}
 use lib.Ieee.Exact.{HasValue, odd-sign, round-exact}
 use lib.Ieee.Back.{round-whole, whole-unique}
 use lib.Ieee.Nearest.{div-same}
-use lib.ListN.{getD}
-use mathlib.Core.List.{List, [], _∷_}
-use lib.Dec.{eqb→eq}
-use Rattle.timestamp.proofs.Table.{at}
 use borrow.Author.Tests.{le-leb, lt-leb, ne-eqb}
 use Rattle.timestamp.specs.Whole.{truncOf}
 use Rattle.timestamp.proofs.Basics.{split}
@@ -114,8 +109,16 @@ by-high b c e = elim (split b (2 ^ 63)) [
   | inr l ↦ le-leb (2 ^ 63) b l ∙ sym (le-leb (2 ^ 63) c (omega arith))
 ]
 
--- ---- from 1 up to 2 ^ 53: x = 1022 .. 1074 is the exponent's field less one, and the lowest 1074 - x bits are cleared
-module _ (b x k : ℕ) (e : expo b ≡ suc x) (xk : k + x ≡ 1074) (K : k ≤ 52) where
+-- ---- from 1 up to 2 ^ 53: with a field of 1023 .. 1075 the lowest 1075 - expo b bits lie below the point
+module _ (b k : ℕ) (below : k + expo b ≡ 1075) (K : k ≤ 52) where
+  -- the field less one, by which the digits are scaled
+  x : ℕ
+  x = expo b - 1
+
+  e : expo b ≡ suc x
+  unfolding x
+  e = omega arith
+
   N : ℕ
   N = 2 ^ (52 - k) + b % 2 ^ 52 / 2 ^ k
 
@@ -125,14 +128,16 @@ module _ (b x k : ℕ) (e : expo b ≡ suc x) (xk : k + x ≡ 1074) (K : k ≤ 5
       sym (pow-add 2 (52 - k) k) ∙ ap (λ (z : ℕ). 2 ^ z) e'
 
   top : 2 ^ k * 2 ^ x ≡ 2 ^ 1074
-  top = sym (pow-add 2 k x) ∙ ap (λ (z : ℕ). 2 ^ z) xk
+  top =
+      let e' : k + x ≡ 1074 = omega (arith, below, e) in
+      sym (pow-add 2 k x) ∙ ap (λ (z : ℕ). 2 ^ z) e'
 
   X : suc x < 2047
-  X = omega arith
+  X = omega (arith, below, e)
 
-  masked-value : HasValue (ofBits binary64 (b / 2 ^ k * 2 ^ k)) (sign b) N 1
+  cleared-value : HasValue (ofBits binary64 (b / 2 ^ k * 2 ^ k)) (sign b) N 1
   unfolding N
-  masked-value =
+  cleared-value =
       let c = b / 2 ^ k * 2 ^ k in
       let hi : c / 2 ^ 52 ≡ b / 2 ^ 52 = cleared-high b (2 ^ k) (2 ^ (52 - k)) (pow-pos k) parts in
       let v = normal-value c x (ap (λ (z : ℕ). z % 2 ^ 11) hi ∙ e) X in
@@ -163,10 +168,10 @@ module _ (b x k : ℕ) (e : expo b ≡ suc x) (xk : k + x ≡ 1074) (K : k ≤ 5
       omega arith
 
   -- the bits below the point cleared: the whole part
-  pub masked : ofBits binary64 (b / 2 ^ k * 2 ^ k) ≡ truncOf (ofBits binary64 b)
-  masked =
+  digits-whole : ofBits binary64 (b / 2 ^ k * 2 ^ k) ≡ truncOf (ofBits binary64 b)
+  digits-whole =
       whole-unique binary64 (ofBits binary64 (b / 2 ^ k * 2 ^ k)) (round binary64 (sign b) N 1) (sign b) N
-      (ofBits-fits binary64 (b / 2 ^ k * 2 ^ k)) (round-fits binary64 (sign b) N 1) masked-value (round-whole binary64 (sign b) N N-le)
+      (ofBits-fits binary64 (b / 2 ^ k * 2 ^ k)) (round-fits binary64 (sign b) N 1) cleared-value (round-whole binary64 (sign b) N N-le)
       ∙ sym (trunc-at (ofBits binary64 b) (sign b) ((2 ^ 52 + b % 2 ^ 52) * 2 ^ x) (2 ^ 1074) (pow-pos 1074) (normal-value b x e X)
       ∙ ap (λ (z : ℕ). round binary64 (sign b) z 1) whole-part)
 
@@ -180,9 +185,9 @@ no-nan-bits : (n : ℕ) → T (not (isNan (ofBits binary64 n))) → T (not (nanB
 no-nan-bits n h = subst (λ (t : Bool). T (not t)) (sym (nanBits-is binary64 n)) h
 
 -- which is no NaN's pattern
-pub masked-no-nan : (b x k : ℕ) → expo b ≡ suc x → k + x ≡ 1074 → k ≤ 52 → T (not (nanBits binary64 (b / 2 ^ k * 2 ^ k)))
-masked-no-nan b x k e xk K = no-nan-bits (b / 2 ^ k * 2 ^ k) (has-no-nan (ofBits binary64 (b / 2 ^ k * 2 ^ k)) (sign b) (N b x k e xk K) 1
-    (masked-value b x k e xk K))
+digits-no-nan : (b k : ℕ) → k + expo b ≡ 1075 → k ≤ 52 → T (not (nanBits binary64 (b / 2 ^ k * 2 ^ k)))
+digits-no-nan b k below K = no-nan-bits (b / 2 ^ k * 2 ^ k)
+    (has-no-nan (ofBits binary64 (b / 2 ^ k * 2 ^ k)) (sign b) (N b k below K) 1 (cleared-value b k below K))
 
 zero-of : (s : Bool) → round binary64 s 0 1 ≡ fin s 0 (pos 0)
 unfolding round
@@ -206,25 +211,56 @@ below-one b h = go (expo b) refl
         ∙ ap (λ (z : ℕ). round binary64 (sign b) z 1) (div-eq-of-lt r)
         ∙ zero-of (sign b)
 
-sign-bit : (b : ℕ) → b < 2 ^ 64 → ofBits binary64 (bitAnd b 0x8000_0000_0000_0000) ≡ fin (sign b) 0 (pos 0)
+sign-bit : (b : ℕ) → b < 2 ^ 64 → ofBits binary64 (b / 2 ^ 63 * 2 ^ 63) ≡ fin (sign b) 0 (pos 0)
 unfolding ofBits
 sign-bit b h = elim (split b (2 ^ 63)) [
   | inl l ↦
-      let z : b / 2 ^ 63 % 2 ^ 1 * 2 ^ 63 ≡ 0 = omega arith in
-      ap (ofBits binary64) (and-high b 1 63 ∙ z) ∙ ap (λ (s : Bool). fin s 0 (pos 0)) (sym (lt-leb (2 ^ 63) b l))
+      let z : b / 2 ^ 63 * 2 ^ 63 ≡ 0 = omega arith in
+      ap (ofBits binary64) z ∙ ap (λ (s : Bool). fin s 0 (pos 0)) (sym (lt-leb (2 ^ 63) b l))
   | inr l ↦
-      let z : b / 2 ^ 63 % 2 ^ 1 * 2 ^ 63 ≡ 2 ^ 63 = omega arith in
-      ap (ofBits binary64) (and-high b 1 63 ∙ z) ∙ ap (λ (s : Bool). fin s 0 (pos 0)) (sym (le-leb (2 ^ 63) b l))
+      let z : b / 2 ^ 63 * 2 ^ 63 ≡ 2 ^ 63 = omega arith in
+      ap (ofBits binary64) z ∙ ap (λ (s : Bool). fin s 0 (pos 0)) (sym (le-leb (2 ^ 63) b l))
 ]
 
 -- below 1 in size the whole part is a zero of the value's sign
-pub small : (b : ℕ) → b < 2 ^ 64 → expo b < 1023 → ofBits binary64 (bitAnd b 0x8000_0000_0000_0000) ≡ truncOf (ofBits binary64 b)
+small : (b : ℕ) → b < 2 ^ 64 → expo b < 1023 → ofBits binary64 (b / 2 ^ 63 * 2 ^ 63) ≡ truncOf (ofBits binary64 b)
 small b h k = sign-bit b h ∙ sym (below-one b k)
 
 -- which is no NaN's pattern
-pub small-no-nan : (b : ℕ) → b < 2 ^ 64 → T (not (nanBits binary64 (bitAnd b 0x8000_0000_0000_0000)))
+small-no-nan : (b : ℕ) → b < 2 ^ 64 → T (not (nanBits binary64 (b / 2 ^ 63 * 2 ^ 63)))
 unfolding isNan
-small-no-nan b h = no-nan-bits (bitAnd b 0x8000_0000_0000_0000) (subst (λ (v : Float). T (not (isNan v))) (sym (sign-bit b h)) tt)
+small-no-nan b h = no-nan-bits (b / 2 ^ 63 * 2 ^ 63) (subst (λ (v : Float). T (not (isNan v))) (sym (sign-bit b h)) tt)
+
+-- ---- the formula
+
+-- k bits of a pattern lie below the point: below 1 all but the sign's, from 1 up to 2 ^ 53 as many digits as the exponent says
+abbrev pub Below : ℕ → ℕ → Type 0
+Below b k = ((expo b < 1023) × (k ≡ 63)) ⊎ ((1023 ≤ expo b) × (k + expo b ≡ 1075))
+
+-- so many are fewer than 64
+pub below-lt : (b k : ℕ) → Below b k → k < 64
+below-lt b k w = elim w [
+  | inl p ↦ omega (arith, p .1)
+  | inr p ↦ omega (arith, p .0, p .1)
+]
+
+-- a shift of k bits there and back clears them: none of the others leaves the 64 bits
+there-and-back : (b k : ℕ) → b < 2 ^ 64 → b / 2 ^ k * 2 ^ k % 2 ^ 64 ≡ b / 2 ^ k * 2 ^ k
+there-and-back b k h = mod-eq-of-lt (lt-of-le-of-lt (div-mul-le-self b (2 ^ k)) h)
+
+-- the bits below the point shifted out: the whole part
+pub shifted-whole : (b k : ℕ) → b < 2 ^ 64 → Below b k → ofBits binary64 (b / 2 ^ k * 2 ^ k % 2 ^ 64) ≡ truncOf (ofBits binary64 b)
+shifted-whole b k h w = ap (ofBits binary64) (there-and-back b k h) ∙ elim w [
+  | inl p ↦ ap (λ (n : ℕ). ofBits binary64 (b / 2 ^ n * 2 ^ n)) (p .1) ∙ small b h (p .0)
+  | inr p ↦ digits-whole b k (p .1) (omega (arith, p .0, p .1))
+]
+
+-- which is no NaN's pattern
+pub shifted-no-nan : (b k : ℕ) → b < 2 ^ 64 → Below b k → T (not (nanBits binary64 (b / 2 ^ k * 2 ^ k % 2 ^ 64)))
+shifted-no-nan b k h w = subst (λ (n : ℕ). T (not (nanBits binary64 n))) (sym (there-and-back b k h)) (elim w [
+  | inl p ↦ subst (λ (n : ℕ). T (not (nanBits binary64 (b / 2 ^ n * 2 ^ n)))) (sym (p .1)) (small-no-nan b h)
+  | inr p ↦ digits-no-nan b k (p .1) (omega (arith, p .0, p .1))
+])
 
 ends : (q s : Bool) → cond q (inf s) nan ≡ truncOf (cond q (inf s) nan)
 unfolding truncOf
@@ -258,36 +294,3 @@ large b h = go (expo b) refl
           ofBits-is b ∙ ap (λ (z : ℕ). ofFields binary64 (sign b) z (b % 2 ^ 52)) (e ∙ y) ∙ at-ones (sign b) (b % 2 ^ 52) in
           i ∙ ends (eqb (b % 2 ^ 52) 0) (sign b) ∙ ap truncOf (sym i)
     ]
-
--- the table's entries
-unfoldable pub masks : List ℕ
-masks =
-    18442240474082181120 ∷ 18444492273895866368 ∷ 18445618173802708992 ∷ 18446181123756130304 ∷ 18446462598732840960 ∷ 18446603336221196288 ∷
-    18446673704965373952 ∷ 18446708889337462784 ∷ 18446726481523507200 ∷ 18446735277616529408 ∷ 18446739675663040512 ∷ 18446741874686296064 ∷
-    18446742974197923840 ∷ 18446743523953737728 ∷ 18446743798831644672 ∷ 18446743936270598144 ∷ 18446744004990074880 ∷ 18446744039349813248 ∷
-    18446744056529682432 ∷ 18446744065119617024 ∷ 18446744069414584320 ∷ 18446744071562067968 ∷ 18446744072635809792 ∷ 18446744073172680704 ∷
-    18446744073441116160 ∷ 18446744073575333888 ∷ 18446744073642442752 ∷ 18446744073675997184 ∷ 18446744073692774400 ∷ 18446744073701163008 ∷
-    18446744073705357312 ∷ 18446744073707454464 ∷ 18446744073708503040 ∷ 18446744073709027328 ∷ 18446744073709289472 ∷ 18446744073709420544 ∷
-    18446744073709486080 ∷ 18446744073709518848 ∷ 18446744073709535232 ∷ 18446744073709543424 ∷ 18446744073709547520 ∷ 18446744073709549568 ∷
-    18446744073709550592 ∷ 18446744073709551104 ∷ 18446744073709551360 ∷ 18446744073709551488 ∷ 18446744073709551552 ∷ 18446744073709551584 ∷
-    18446744073709551600 ∷ 18446744073709551608 ∷ 18446744073709551612 ∷ 18446744073709551614 ∷ 18446744073709551615 ∷ []
-
--- the table's rule: entry i is 64 ones with the lowest 52 - i cleared
-right : ℕ → ℕ → Bool
-right i m = eqb m (2 ^ 64 - 2 ^ (52 - i))
-
--- the rule holds at every entry: one test over the whole table
-entry : (i : ℕ) → i < 53 → getD masks i 0 ≡ 2 ^ 64 - 2 ^ (52 - i)
-unfolding masks right
-entry i h = eqb→eq (getD masks i 0) (2 ^ 64 - 2 ^ (52 - i)) (at right masks tt i h)
-
--- the bits under the entry for an exponent's field f of 1023 to 1075
-pub under : (b f : ℕ) → b < 2 ^ 64 → 1023 ≤ f → f ≤ 1075 → bitAnd b (getD masks (f - 1023) 0) ≡ b / 2 ^ (1075 - f) * 2 ^ (1075 - f)
-under b f B lo hi =
-    let k = 1075 - f in
-    let j = 64 - k in
-    let jk : j + k ≡ 64 = omega arith in
-    let ik : 52 - (f - 1023) ≡ k = omega arith in
-    ap (bitAnd b) (entry (f - 1023) (omega arith) ∙ ap (λ (z : ℕ). 2 ^ 64 - 2 ^ z) ik ∙ ap (λ (z : ℕ). 2 ^ z - 2 ^ k) (sym jk))
-    ∙ and-high b j k
-    ∙ ap (λ (z : ℕ). z * 2 ^ k) (shr-mod j k (subst (λ (z : ℕ). b < 2 ^ z) (sym jk) B))
