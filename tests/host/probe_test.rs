@@ -60,8 +60,8 @@ fn same(a: f64, b: f64) -> bool {
     a.to_bits() == b.to_bits() || (a.is_nan() && b.is_nan())
 }
 
-/// Limits and their neighbours, every exponent with digits all 0, all 1 and around a half and with a point at each place of its
-/// digits, and random values of several kinds.
+/// Limits; every exponent with digits all 0, all 1 and around a half and at each place; whole numbers and halves to 70,000 and their
+/// neighbours; random values of several kinds: each with both signs.
 fn floats() -> Vec<f64> {
     let mut values = vec![
         0.0,
@@ -83,12 +83,10 @@ fn floats() -> Vec<f64> {
     ];
     values.extend([0x7ff8_0000_0000_0000, 0x7ff0_0000_0000_0001].map(f64::from_bits));
     for exponent in 0..2047u64 {
-        for digits in [0, 1, (1 << 51) - 1, 1 << 51, (1 << 51) + 1, (1 << 52) - 2, (1 << 52) - 1u64] {
-            values.push(f64::from_bits(exponent << 52 | digits));
-        }
-        // a one at each place, ones below it, and ones from it up: one of the places is next to the point, wherever that is
+        // a one at each place and its neighbours, and ones from it up: 0, all ones and a half are among them, and
+        // from 1 up to 2^53 places on both sides of the point
         for one in (0..52).map(|place| 1u64 << place) {
-            for digits in [one, one - 1, (1 << 52) - one] {
+            for digits in [one - 1, one, one + 1, (1 << 52) - one] {
                 values.push(f64::from_bits(exponent << 52 | digits));
             }
         }

@@ -42,7 +42,7 @@ trunc-at (inf t) s a c C v = absurd v
 trunc-at (fin t m e) s a c C v = λ i. round binary64 (v .0 i) (div-same (m * up e) (down e) a c (down-pos e) C (v .1) i) 1
 
 -- the sign's bit of a pattern
-abbrev pub sign : ℕ → Bool
+abbrev sign : ℕ → Bool
 sign b = leb (2 ^ 63) b
 
 -- the exponent's field of a pattern
@@ -112,12 +112,12 @@ by-high b c e = elim (split b (2 ^ 63)) [
 -- ---- from 1 up to 2 ^ 53: with a field of 1023 .. 1075 the lowest 1075 - expo b bits lie below the point
 module _ (b k : ℕ) (below : k + expo b ≡ 1075) (K : k ≤ 52) where
   -- the field less one, by which the digits are scaled
-  x : ℕ
-  x = expo b - 1
+  scale : ℕ
+  scale = expo b - 1
 
-  e : expo b ≡ suc x
-  unfolding x
-  e = omega arith
+  scale-is : expo b ≡ suc scale
+  unfolding scale
+  scale-is = omega arith
 
   N : ℕ
   N = 2 ^ (52 - k) + b % 2 ^ 52 / 2 ^ k
@@ -127,34 +127,35 @@ module _ (b k : ℕ) (below : k + expo b ≡ 1075) (K : k ≤ 52) where
       let e' : 52 - k + k ≡ 52 = omega arith in
       sym (pow-add 2 (52 - k) k) ∙ ap (λ (z : ℕ). 2 ^ z) e'
 
-  top : 2 ^ k * 2 ^ x ≡ 2 ^ 1074
+  top : 2 ^ k * 2 ^ scale ≡ 2 ^ 1074
   top =
-      let e' : k + x ≡ 1074 = omega (arith, below, e) in
-      sym (pow-add 2 k x) ∙ ap (λ (z : ℕ). 2 ^ z) e'
+      let e' : k + scale ≡ 1074 = omega (arith, below, scale-is) in
+      sym (pow-add 2 k scale) ∙ ap (λ (z : ℕ). 2 ^ z) e'
 
-  X : suc x < 2047
-  X = omega (arith, below, e)
+  X : suc scale < 2047
+  X = omega (arith, below, scale-is)
 
   cleared-value : HasValue (ofBits binary64 (b / 2 ^ k * 2 ^ k)) (sign b) N 1
   unfolding N
   cleared-value =
       let c = b / 2 ^ k * 2 ^ k in
       let hi : c / 2 ^ 52 ≡ b / 2 ^ 52 = cleared-high b (2 ^ k) (2 ^ (52 - k)) (pow-pos k) parts in
-      let v = normal-value c x (ap (λ (z : ℕ). z % 2 ^ 11) hi ∙ e) X in
-      let w : (2 ^ 52 + c % 2 ^ 52) * 2 ^ x ≡ N * 2 ^ 1074 =
-      ap (λ (z : ℕ). (2 ^ 52 + z) * 2 ^ x) (cleared-low b (2 ^ k) (2 ^ (52 - k)) (pow-pos k) parts)
-      ∙ ap (λ (z : ℕ). (z + b % 2 ^ 52 / 2 ^ k * 2 ^ k) * 2 ^ x) (sym parts)
-      ∙ ap (λ (z : ℕ). z * 2 ^ x) (sym (add-mul (2 ^ (52 - k)) (b % 2 ^ 52 / 2 ^ k) (2 ^ k)))
-      ∙ mul-assoc (2 ^ (52 - k) + b % 2 ^ 52 / 2 ^ k) (2 ^ k) (2 ^ x)
+      let v = normal-value c scale (ap (λ (z : ℕ). z % 2 ^ 11) hi ∙ scale-is) X in
+      let w : (2 ^ 52 + c % 2 ^ 52) * 2 ^ scale ≡ N * 2 ^ 1074 =
+      ap (λ (z : ℕ). (2 ^ 52 + z) * 2 ^ scale) (cleared-low b (2 ^ k) (2 ^ (52 - k)) (pow-pos k) parts)
+      ∙ ap (λ (z : ℕ). (z + b % 2 ^ 52 / 2 ^ k * 2 ^ k) * 2 ^ scale) (sym parts)
+      ∙ ap (λ (z : ℕ). z * 2 ^ scale) (sym (add-mul (2 ^ (52 - k)) (b % 2 ^ 52 / 2 ^ k) (2 ^ k)))
+      ∙ mul-assoc (2 ^ (52 - k) + b % 2 ^ 52 / 2 ^ k) (2 ^ k) (2 ^ scale)
       ∙ ap (λ (z : ℕ). (2 ^ (52 - k) + b % 2 ^ 52 / 2 ^ k) * z) top in
-      rescale (ofBits binary64 c) (sign b) ((2 ^ 52 + c % 2 ^ 52) * 2 ^ x) (2 ^ 1074) N 1 (pow-pos 1074) (sym w ∙ sym (mul-one ((2 ^ 52 + c % 2 ^ 52) * 2 ^ x)))
-      (subst (λ (s : Bool). HasValue (ofBits binary64 c) s ((2 ^ 52 + c % 2 ^ 52) * 2 ^ x) (2 ^ 1074)) (by-high c b hi) v)
+      rescale (ofBits binary64 c) (sign b) ((2 ^ 52 + c % 2 ^ 52) * 2 ^ scale) (2 ^ 1074) N 1 (pow-pos 1074)
+      (sym w ∙ sym (mul-one ((2 ^ 52 + c % 2 ^ 52) * 2 ^ scale)))
+      (subst (λ (s : Bool). HasValue (ofBits binary64 c) s ((2 ^ 52 + c % 2 ^ 52) * 2 ^ scale) (2 ^ 1074)) (by-high c b hi) v)
 
-  whole-part : (2 ^ 52 + b % 2 ^ 52) * 2 ^ x / 2 ^ 1074 ≡ N
+  whole-part : (2 ^ 52 + b % 2 ^ 52) * 2 ^ scale / 2 ^ 1074 ≡ N
   unfolding N
   whole-part =
-      div-same ((2 ^ 52 + b % 2 ^ 52) * 2 ^ x) (2 ^ 1074) (2 ^ 52 + b % 2 ^ 52) (2 ^ k) (pow-pos 1074) (pow-pos k)
-      (mul-assoc (2 ^ 52 + b % 2 ^ 52) (2 ^ x) (2 ^ k) ∙ ap (λ (z : ℕ). (2 ^ 52 + b % 2 ^ 52) * z) (mul-comm (2 ^ x) (2 ^ k) ∙ top))
+      div-same ((2 ^ 52 + b % 2 ^ 52) * 2 ^ scale) (2 ^ 1074) (2 ^ 52 + b % 2 ^ 52) (2 ^ k) (pow-pos 1074) (pow-pos k)
+      (mul-assoc (2 ^ 52 + b % 2 ^ 52) (2 ^ scale) (2 ^ k) ∙ ap (λ (z : ℕ). (2 ^ 52 + b % 2 ^ 52) * z) (mul-comm (2 ^ scale) (2 ^ k) ∙ top))
       ∙ ap (λ (z : ℕ). z / 2 ^ k) (add-comm (2 ^ 52) (b % 2 ^ 52) ∙ ap (λ (z : ℕ). b % 2 ^ 52 + z) (sym parts))
       ∙ add-mul-div-right (b % 2 ^ 52) (2 ^ (52 - k)) (pow-pos k)
       ∙ add-comm (b % 2 ^ 52 / 2 ^ k) (2 ^ (52 - k))
@@ -172,7 +173,7 @@ module _ (b k : ℕ) (below : k + expo b ≡ 1075) (K : k ≤ 52) where
   digits-whole =
       whole-unique binary64 (ofBits binary64 (b / 2 ^ k * 2 ^ k)) (round binary64 (sign b) N 1) (sign b) N
       (ofBits-fits binary64 (b / 2 ^ k * 2 ^ k)) (round-fits binary64 (sign b) N 1) cleared-value (round-whole binary64 (sign b) N N-le)
-      ∙ sym (trunc-at (ofBits binary64 b) (sign b) ((2 ^ 52 + b % 2 ^ 52) * 2 ^ x) (2 ^ 1074) (pow-pos 1074) (normal-value b x e X)
+      ∙ sym (trunc-at (ofBits binary64 b) (sign b) ((2 ^ 52 + b % 2 ^ 52) * 2 ^ scale) (2 ^ 1074) (pow-pos 1074) (normal-value b scale scale-is X)
       ∙ ap (λ (z : ℕ). round binary64 (sign b) z 1) whole-part)
 
 has-no-nan : (x : Float) (s : Bool) (a c : ℕ) → HasValue x s a c → T (not (isNan x))
@@ -233,31 +234,31 @@ small-no-nan b h = no-nan-bits (b / 2 ^ 63 * 2 ^ 63) (subst (λ (v : Float). T (
 
 -- ---- the formula
 
--- k bits of a pattern lie below the point: below 1 all but the sign's, from 1 up to 2 ^ 53 as many digits as the exponent says
-abbrev pub Below : ℕ → ℕ → Type 0
-Below b k = ((expo b < 1023) × (k ≡ 63)) ⊎ ((1023 ≤ expo b) × (k + expo b ≡ 1075))
+-- the lowest k bits are to be cleared: below 1 in size all but the sign's, from 1 up to 2 ^ 53 the digits below the point
+abbrev pub Clears : ℕ → ℕ → Type 0
+Clears b k = ((expo b < 1023) × (k ≡ 63)) ⊎ ((1023 ≤ expo b) × (k + expo b ≡ 1075))
 
 -- so many are fewer than 64
-pub below-lt : (b k : ℕ) → Below b k → k < 64
-below-lt b k w = elim w [
+pub clears-lt : (b k : ℕ) → Clears b k → k < 64
+clears-lt b k w = elim w [
   | inl p ↦ omega (arith, p .1)
   | inr p ↦ omega (arith, p .0, p .1)
 ]
 
--- a shift of k bits there and back clears them: none of the others leaves the 64 bits
-there-and-back : (b k : ℕ) → b < 2 ^ 64 → b / 2 ^ k * 2 ^ k % 2 ^ 64 ≡ b / 2 ^ k * 2 ^ k
-there-and-back b k h = mod-eq-of-lt (lt-of-le-of-lt (div-mul-le-self b (2 ^ k)) h)
+-- what k bits were shifted out of is within 64 bits once it is shifted back
+shifted-back : (b k : ℕ) → b < 2 ^ 64 → b / 2 ^ k * 2 ^ k % 2 ^ 64 ≡ b / 2 ^ k * 2 ^ k
+shifted-back b k h = mod-eq-of-lt (lt-of-le-of-lt (div-mul-le-self b (2 ^ k)) h)
 
--- the bits below the point shifted out: the whole part
-pub shifted-whole : (b k : ℕ) → b < 2 ^ 64 → Below b k → ofBits binary64 (b / 2 ^ k * 2 ^ k % 2 ^ 64) ≡ truncOf (ofBits binary64 b)
-shifted-whole b k h w = ap (ofBits binary64) (there-and-back b k h) ∙ elim w [
+-- these bits shifted out, and zeros in: the whole part
+pub shifted-whole : (b k : ℕ) → b < 2 ^ 64 → Clears b k → ofBits binary64 (b / 2 ^ k * 2 ^ k % 2 ^ 64) ≡ truncOf (ofBits binary64 b)
+shifted-whole b k h w = ap (ofBits binary64) (shifted-back b k h) ∙ elim w [
   | inl p ↦ ap (λ (n : ℕ). ofBits binary64 (b / 2 ^ n * 2 ^ n)) (p .1) ∙ small b h (p .0)
   | inr p ↦ digits-whole b k (p .1) (omega (arith, p .0, p .1))
 ]
 
 -- which is no NaN's pattern
-pub shifted-no-nan : (b k : ℕ) → b < 2 ^ 64 → Below b k → T (not (nanBits binary64 (b / 2 ^ k * 2 ^ k % 2 ^ 64)))
-shifted-no-nan b k h w = subst (λ (n : ℕ). T (not (nanBits binary64 n))) (sym (there-and-back b k h)) (elim w [
+pub shifted-no-nan : (b k : ℕ) → b < 2 ^ 64 → Clears b k → T (not (nanBits binary64 (b / 2 ^ k * 2 ^ k % 2 ^ 64)))
+shifted-no-nan b k h w = subst (λ (n : ℕ). T (not (nanBits binary64 n))) (sym (shifted-back b k h)) (elim w [
   | inl p ↦ subst (λ (n : ℕ). T (not (nanBits binary64 (b / 2 ^ n * 2 ^ n)))) (sym (p .1)) (small-no-nan b h)
   | inr p ↦ digits-no-nan b k (p .1) (omega (arith, p .0, p .1))
 ])

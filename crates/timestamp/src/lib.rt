@@ -165,8 +165,8 @@ impl FloatTimestamp {
     }
 }
 
-// x without its fraction, the sign kept: the bits below the point are cleared, by a shift there and back. From 1 on x is
-// 1.d × 2^(exponent - 1023), where d are the 52 lowest bits, so exponent - 1023 of them stand before the point.
+// x without its fraction, the sign kept: the bits below the point are shifted out, and zeros in. From 1 up to 2^53 in size x is
+// 1.d × 2^(exponent - 1023), where d are the 52 lowest bits, so all of these but exponent - 1023 lie below the point.
 pub fn trunc(x: f64) -> f64
     ensures { λ r. ⌜ r ≡ truncOf x ⌝ }
 {
@@ -180,13 +180,13 @@ pub fn trunc(x: f64) -> f64
     if exponent > 1075 {
         return x;
     }
-    // how many do: below 1 all but the sign's, from 1 on those digits that the exponent leaves there
-    let below = if exponent < 1023 {
+    // the number of bits to clear: below 1 in size all but the sign's
+    let cleared = if exponent < 1023 {
         63
     } else {
         52 - (exponent - 1023)
     };
-    f64::from_bits((bits >> below) << below)
+    f64::from_bits((bits >> cleared) << cleared)
 }
 
 // The least whole number that is not below x.

@@ -159,6 +159,12 @@ pub const ALL: &[Case] = &[
         mean_zero_sign,
     ),
     case(
+        "whole-part",
+        "Frame counts cut to stamps. By hand: 2^k - 2^-30 gives 2^k - 1, 2^k and 2^k + 1/2 give 2^k, \
+         2^(k+1) - 1 itself, below 1 all give 0; -x gives minus that.",
+        whole_part,
+    ),
+    case(
         "deviation-move",
         "The BTreeMap deviates from the rule in a move: a skip back by 20,000 frames drops a \
          command that the rule keeps.",
@@ -980,6 +986,18 @@ fn mean_zero_sign(out: &mut Out) {
     for _ in 0..3 {
         let inbox = text::clock(7, 0.0, -0.0);
         out.call(&text::update_line(0.0, 0.0, TAPE, &inbox));
+    }
+}
+
+fn whole_part(out: &mut Out) {
+    // Exact in the stamps' space: the sum with 32,768 keeps 37 bits after the point.
+    let step = 0.5_f64.powi(30);
+    let mut frames = vec![step, 0.5, 0.75];
+    for power in (0..15).map(|k| 2.0_f64.powi(k)) {
+        frames.extend([power - step, power, power + 0.5, 2.0 * power - 1.0]);
+    }
+    for frames in frames.into_iter().flat_map(|frames| [frames, -frames]) {
+        out.call(&text::stamp_line(frames, 1.0));
     }
 }
 

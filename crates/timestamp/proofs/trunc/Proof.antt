@@ -1,4 +1,4 @@
--- `trunc` meets its contract: the bits below the point are cleared by a shift there and back (proofs/Cleared.antt). Assumes nothing.
+-- `trunc` meets its contract: the bits below the point are shifted out, and zeros in (proofs/Cleared.antt). Assumes nothing.
 use borrow.Author.Needs.{needs}
 use mathlib.Core.Path.{_≡_, sym, ap, _∙_, subst}
 use mathlib.Core.Bool.{true, false, not}
@@ -11,7 +11,7 @@ use lib.Ieee.{Float, nan, inf, fin, binary64, ne, isNan, fits, toBits, ofBits}
 use lib.Ieee.Bits.{ofBits-toBits, toBits-lt}
 use lib.Ieee.Compare.{differs-from-itself}
 use Rattle.timestamp.specs.Whole.{truncOf}
-use Rattle.timestamp.proofs.Cleared.{expo, Below, below-lt, shifted-whole, shifted-no-nan, large}
+use Rattle.timestamp.proofs.Cleared.{expo, Clears, clears-lt, shifted-whole, shifted-no-nan, large}
 use Rattle.timestamp.proofs.trunc.Statement.{statement}
 use Rattle.timestamp.proofs.trunc.Tie as tie
 
@@ -53,26 +53,26 @@ returns-2 : tie.Need-returns-2
 unfolding bits
 returns-2 c =
     let s = c .before .before in
-    sym (is s) ∙ large (bits s) (subst (λ (f : ℕ). 1075 < f) (field s) (c .if2 .taken)) ∙ ap truncOf (is s)
+    sym (is s) ∙ large (bits s) (omega (arith, field s, c .if2 .taken)) ∙ ap truncOf (is s)
 
-sub-below : tie.Need-sub-below
-sub-below c = search needs
+sub-cleared : tie.Need-sub-cleared
+sub-cleared c = search needs
 
 -- ---- up to 2 ^ 53
 module _ (c : tie.Joined3) where
   s : tie.Start
   s = c .before .before .before
 
-  -- as many bits are cleared as lie below the point
-  below : Below (bits s) (c .if3 .below)
+  -- the number of bits that are shifted out is right
+  clears : Clears (bits s) (c .if3 .cleared)
   unfolding s bits
-  below = elim (c .if3 .came) [
+  clears = elim (c .if3 .came) [
     | inl w ↦ inl (omega (arith, field s, w .0 .taken), omega (arith, w .1))
     | inr w ↦ inr (omega (arith, field s, w .0 .left), omega (arith, field s, w .0 .left, c .before .if2 .left, w .1))
   ]
 
-  few : c .if3 .below < 64
-  few = below-lt (bits s) (c .if3 .below) below
+  few : c .if3 .cleared < 64
+  few = clears-lt (bits s) (c .if3 .cleared) clears
 
 shr-result : tie.Need-shr-result
 shr-result c = few (c .before)
@@ -82,12 +82,12 @@ shl-result c = few (c .before)
 
 float-from-bits-result : tie.Need-float-from-bits-result
 unfolding bits s
-float-from-bits-result c = shifted-no-nan (bits (s (c .before))) (c .before .if3 .below) (within (s (c .before))) (below (c .before))
+float-from-bits-result c = shifted-no-nan (bits (s (c .before))) (c .before .if3 .cleared) (within (s (c .before))) (clears (c .before))
 
 returns-3 : tie.Need-returns-3
 unfolding bits s
 returns-3 c =
-    shifted-whole (bits (s (c .before))) (c .before .if3 .below) (within (s (c .before))) (below (c .before)) ∙ ap truncOf (is (s (c .before)))
+    shifted-whole (bits (s (c .before))) (c .before .if3 .cleared) (within (s (c .before))) (clears (c .before)) ∙ ap truncOf (is (s (c .before)))
 
 pub trunc-spec : {M : Type 1} → statement M
 trunc-spec =
@@ -96,7 +96,7 @@ trunc-spec =
     returns
     float-to-bits-bits
     returns-2
-    sub-below
+    sub-cleared
     shr-result
     shl-result
     float-from-bits-result
