@@ -10,15 +10,16 @@ use lib.Dec.{T, leb, eqb, lit<, lit≤}
 use lib.Pow.{pow-add, pow-pos, pow-mono, field, shl-lt}
 use lib.Arith.{digits-div, digits-mod}
 use lib.IntN.{pos}
-use lib.Ieee.{Float, nan, inf, fin, binary64, up, down, round, odd, ofFields, ofBits, nanBits, isNan}
+use lib.Ieee.{Float, nan, inf, fin, binary64, up, down, round, odd, ofFields, ofBits, nanBits}
 use lib.Ieee.Fits.{round-fits, down-pos}
-use lib.Ieee.Bits.{ofBits-fits, nanBits-is}
+use lib.Ieee.Bits.{ofBits-fits}
 use lib.Ieee.Exact.{HasValue, odd-sign, round-exact}
 use lib.Ieee.Back.{round-whole, whole-unique}
 use lib.Ieee.Nearest.{div-same}
 use borrow.Author.Tests.{le-leb, lt-leb, ne-eqb}
 use Rattle.timestamp.specs.Whole.{truncOf}
 use Rattle.timestamp.proofs.Basics.{split}
+use Rattle.timestamp.proofs.Patterns.{no-nan}
 
 -- a value given by one fraction is given by any other that is equal to it
 rescale : (x : Float) (s : Bool) (w l num den : ℕ) → 0 < l → num * l ≡ w * den → HasValue x s w l → HasValue x s num den
@@ -79,7 +80,18 @@ low-value b e =
     (sym (ofBits-is b ∙ ap (λ (n : ℕ). ofFields binary64 (sign b) n (b % 2 ^ 52)) e ∙ at-none (sign b) (b % 2 ^ 52)))
     (odd-sign 53 (sign b) (b % 2 ^ 52) 0 1074)
 
--- ---- the lowest k bits cleared, k at most 52: the sign and the exponent stay
+-- a value of a / 2 ^ 1074 that is the whole number n
+whole-value : (x : Float) (s : Bool) (a n : ℕ) → a ≡ n * 2 ^ 1074 → HasValue x s a (2 ^ 1074) → HasValue x s n 1
+whole-value x s a n w v = rescale x s a (2 ^ 1074) n 1 (pow-pos 1074) (sym w ∙ sym (mul-one a)) v
+
+-- a pattern c with the whole number that a / 2 ^ 1074, the value of b, is cut to is the whole part of b
+is-whole : (b c a n : ℕ) → HasValue (ofBits binary64 b) (sign b) a (2 ^ 1074) → a / 2 ^ 1074 ≡ n → HasValue (ofBits binary64 c) (sign b) n 1 →
+    HasValue (round binary64 (sign b) n 1) (sign b) n 1 → ofBits binary64 c ≡ truncOf (ofBits binary64 b)
+is-whole b c a n v q w r =
+    whole-unique binary64 (ofBits binary64 c) (round binary64 (sign b) n 1) (sign b) n (ofBits-fits binary64 c) (round-fits binary64 (sign b) n 1) w r
+    ∙ sym (trunc-at (ofBits binary64 b) (sign b) a (2 ^ 1074) (pow-pos 1074) v ∙ ap (λ (z : ℕ). round binary64 (sign b) z 1) q)
+
+-- ---- the bits below g = 2 ^ k cleared, k at most 52: the sign and the exponent stay
 
 module _ (b g h : ℕ) (G : 0 < g) (hg : h * g ≡ 2 ^ 52) where
   low-lt : b % 2 ^ 52 / g * g < 2 ^ 52
@@ -135,21 +147,22 @@ module _ (b k : ℕ) (below : k + expo b ≡ 1075) (K : k ≤ 52) where
   X : suc scale < 2047
   X = omega (arith, below, scale-is)
 
+  high : b / 2 ^ k * 2 ^ k / 2 ^ 52 ≡ b / 2 ^ 52
+  high = cleared-high b (2 ^ k) (2 ^ (52 - k)) (pow-pos k) parts
+
   cleared-value : HasValue (ofBits binary64 (b / 2 ^ k * 2 ^ k)) (sign b) N 1
   unfolding N
   cleared-value =
       let c = b / 2 ^ k * 2 ^ k in
-      let hi : c / 2 ^ 52 ≡ b / 2 ^ 52 = cleared-high b (2 ^ k) (2 ^ (52 - k)) (pow-pos k) parts in
-      let v = normal-value c scale (ap (λ (z : ℕ). z % 2 ^ 11) hi ∙ scale-is) X in
+      let v = normal-value c scale (ap (λ (z : ℕ). z % 2 ^ 11) high ∙ scale-is) X in
       let w : (2 ^ 52 + c % 2 ^ 52) * 2 ^ scale ≡ N * 2 ^ 1074 =
       ap (λ (z : ℕ). (2 ^ 52 + z) * 2 ^ scale) (cleared-low b (2 ^ k) (2 ^ (52 - k)) (pow-pos k) parts)
       ∙ ap (λ (z : ℕ). (z + b % 2 ^ 52 / 2 ^ k * 2 ^ k) * 2 ^ scale) (sym parts)
       ∙ ap (λ (z : ℕ). z * 2 ^ scale) (sym (add-mul (2 ^ (52 - k)) (b % 2 ^ 52 / 2 ^ k) (2 ^ k)))
       ∙ mul-assoc (2 ^ (52 - k) + b % 2 ^ 52 / 2 ^ k) (2 ^ k) (2 ^ scale)
       ∙ ap (λ (z : ℕ). (2 ^ (52 - k) + b % 2 ^ 52 / 2 ^ k) * z) top in
-      rescale (ofBits binary64 c) (sign b) ((2 ^ 52 + c % 2 ^ 52) * 2 ^ scale) (2 ^ 1074) N 1 (pow-pos 1074)
-      (sym w ∙ sym (mul-one ((2 ^ 52 + c % 2 ^ 52) * 2 ^ scale)))
-      (subst (λ (s : Bool). HasValue (ofBits binary64 c) s ((2 ^ 52 + c % 2 ^ 52) * 2 ^ scale) (2 ^ 1074)) (by-high c b hi) v)
+      whole-value (ofBits binary64 c) (sign b) ((2 ^ 52 + c % 2 ^ 52) * 2 ^ scale) N w
+      (subst (λ (s : Bool). HasValue (ofBits binary64 c) s ((2 ^ 52 + c % 2 ^ 52) * 2 ^ scale) (2 ^ 1074)) (by-high c b high) v)
 
   whole-part : (2 ^ 52 + b % 2 ^ 52) * 2 ^ scale / 2 ^ 1074 ≡ N
   unfolding N
@@ -171,24 +184,8 @@ module _ (b k : ℕ) (below : k + expo b ≡ 1075) (K : k ≤ 52) where
   -- the bits below the point cleared: the whole part
   digits-whole : ofBits binary64 (b / 2 ^ k * 2 ^ k) ≡ truncOf (ofBits binary64 b)
   digits-whole =
-      whole-unique binary64 (ofBits binary64 (b / 2 ^ k * 2 ^ k)) (round binary64 (sign b) N 1) (sign b) N
-      (ofBits-fits binary64 (b / 2 ^ k * 2 ^ k)) (round-fits binary64 (sign b) N 1) cleared-value (round-whole binary64 (sign b) N N-le)
-      ∙ sym (trunc-at (ofBits binary64 b) (sign b) ((2 ^ 52 + b % 2 ^ 52) * 2 ^ scale) (2 ^ 1074) (pow-pos 1074) (normal-value b scale scale-is X)
-      ∙ ap (λ (z : ℕ). round binary64 (sign b) z 1) whole-part)
-
-has-no-nan : (x : Float) (s : Bool) (a c : ℕ) → HasValue x s a c → T (not (isNan x))
-unfolding isNan
-has-no-nan nan s a c v = v
-has-no-nan (inf t) s a c v = tt
-has-no-nan (fin t m e) s a c v = tt
-
-no-nan-bits : (n : ℕ) → T (not (isNan (ofBits binary64 n))) → T (not (nanBits binary64 n))
-no-nan-bits n h = subst (λ (t : Bool). T (not t)) (sym (nanBits-is binary64 n)) h
-
--- which is no NaN's pattern
-digits-no-nan : (b k : ℕ) → k + expo b ≡ 1075 → k ≤ 52 → T (not (nanBits binary64 (b / 2 ^ k * 2 ^ k)))
-digits-no-nan b k below K = no-nan-bits (b / 2 ^ k * 2 ^ k)
-    (has-no-nan (ofBits binary64 (b / 2 ^ k * 2 ^ k)) (sign b) (N b k below K) 1 (cleared-value b k below K))
+      is-whole b (b / 2 ^ k * 2 ^ k) ((2 ^ 52 + b % 2 ^ 52) * 2 ^ scale) N (normal-value b scale scale-is X) whole-part cleared-value
+      (round-whole binary64 (sign b) N N-le)
 
 zero-of : (s : Bool) → round binary64 s 0 1 ≡ fin s 0 (pos 0)
 unfolding round
@@ -227,11 +224,6 @@ sign-bit b h = elim (split b (2 ^ 63)) [
 small : (b : ℕ) → b < 2 ^ 64 → expo b < 1023 → ofBits binary64 (b / 2 ^ 63 * 2 ^ 63) ≡ truncOf (ofBits binary64 b)
 small b h k = sign-bit b h ∙ sym (below-one b k)
 
--- which is no NaN's pattern
-small-no-nan : (b : ℕ) → b < 2 ^ 64 → T (not (nanBits binary64 (b / 2 ^ 63 * 2 ^ 63)))
-unfolding isNan
-small-no-nan b h = no-nan-bits (b / 2 ^ 63 * 2 ^ 63) (subst (λ (v : Float). T (not (isNan v))) (sym (sign-bit b h)) tt)
-
 -- ---- the formula
 
 -- the lowest k bits are to be cleared: below 1 in size all but the sign's, from 1 up to 2 ^ 53 the digits below the point
@@ -259,8 +251,8 @@ shifted-whole b k h w = ap (ofBits binary64) (shifted-back b k h) ∙ elim w [
 -- which is no NaN's pattern
 pub shifted-no-nan : (b k : ℕ) → b < 2 ^ 64 → Clears b k → T (not (nanBits binary64 (b / 2 ^ k * 2 ^ k % 2 ^ 64)))
 shifted-no-nan b k h w = subst (λ (n : ℕ). T (not (nanBits binary64 n))) (sym (shifted-back b k h)) (elim w [
-  | inl p ↦ subst (λ (n : ℕ). T (not (nanBits binary64 (b / 2 ^ n * 2 ^ n)))) (sym (p .1)) (small-no-nan b h)
-  | inr p ↦ digits-no-nan b k (p .1) (omega (arith, p .0, p .1))
+  | inl p ↦ no-nan (b / 2 ^ k * 2 ^ k) (subst (λ (n : ℕ). b / 2 ^ n * 2 ^ n % 2 ^ 63 ≤ 0x7ff0_0000_0000_0000) (sym (p .1)) (omega arith))
+  | inr p ↦ no-nan (b / 2 ^ k * 2 ^ k) (omega (arith, p .1, high b k (p .1) (omega (arith, p .0, p .1))))
 ])
 
 ends : (q s : Bool) → cond q (inf s) nan ≡ truncOf (cond q (inf s) nan)
@@ -284,11 +276,9 @@ large b h = go (expo b) refl
           let v = normal-value b x e l in
           let Q : q < 2 ^ 53 = omega (arith, mod-lt b {m = 2 ^ 52} (lit< tt)) in
           let R : q * 2 ^ x < 2 ^ (1074 + 1024) = (let y : 53 + x ≤ 1074 + 1024 = omega arith in lt-of-lt-of-le (shl-lt 53 x Q) (pow-mono y)) in
-          whole-unique binary64 (ofBits binary64 b) (round binary64 (sign b) n 1) (sign b) n (ofBits-fits binary64 b) (round-fits binary64 (sign b) n 1)
-          (rescale (ofBits binary64 b) (sign b) (q * 2 ^ x) (2 ^ 1074) n 1 (pow-pos 1074) (sym w ∙ sym (mul-one (q * 2 ^ x))) v)
+          is-whole b b (q * 2 ^ x) n v (ap (λ (z : ℕ). z / 2 ^ 1074) w ∙ mul-div-cancel n (pow-pos 1074))
+          (whole-value (ofBits binary64 b) (sign b) (q * 2 ^ x) n w v)
           (round-exact binary64 (sign b) n 1 q x (lit< tt) Q R (sym w ∙ sym (mul-one (q * 2 ^ x))))
-          ∙ sym (trunc-at (ofBits binary64 b) (sign b) (q * 2 ^ x) (2 ^ 1074) (pow-pos 1074) v
-          ∙ ap (λ (z : ℕ). round binary64 (sign b) z 1) (ap (λ (z : ℕ). z / 2 ^ 1074) w ∙ mul-div-cancel n (pow-pos 1074)))
       | inr l ↦
           let y : suc x ≡ 2047 = omega (arith, e, mod-lt (b / 2 ^ 52) {m = 2 ^ 11} (lit< tt)) in
           let i : ofBits binary64 b ≡ cond (eqb (b % 2 ^ 52) 0) (inf (sign b)) nan =
