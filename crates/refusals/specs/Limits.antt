@@ -1,5 +1,5 @@
--- The limits of document 01 that are whole numbers, and those of a clock's samples, which follow from them. Those that are floats stand in timestamp (Floats)
--- and, where they are of settings alone, in settings.
+-- The limits of documents 01 and 02 that are whole numbers, and those of a clock's samples, which follow from them. Those that are floats stand in timestamp
+-- (Floats) and, where they are of settings alone, in settings.
 -- Definitions only. Assumes nothing.
 use Prim.Native.Nat.{ℕ, _^_}
 
@@ -38,3 +38,11 @@ mostSamples = 63
 -- the lag is at most so many frames
 abbrev pub mostLagFrames : ℕ
 mostLagFrames = 16383
+
+-- a span whose frames are asked for has at most so many microseconds
+abbrev pub longestSpan : ℕ
+longestSpan = 2 ^ 40
+
+-- each of the two parts of a frame rate is at most this
+abbrev pub mostRatePart : ℕ
+mostRatePart = 65535

@@ -1,5 +1,5 @@
--- The numbers under which calls are turned down: document 01, "Turned down by the input" and "Turned down by the session". And the order in which each call is
--- judged: the lowest number first, but 25 to 27 by which is met first. Definitions only. Assumes nothing.
+-- The numbers under which calls are turned down: document 01, "Turned down by the input" and "Turned down by the session", and from 31 on document 02's. And
+-- the order in which each call is judged: the lowest number first, but 25 to 27 by which is met first. Definitions only. Assumes nothing.
 use Prim.Native.Nat.{ℕ}
 use mathlib.Core.Bool.{Bool, cond}
 use lib.Dec.{eqb}
@@ -79,6 +79,10 @@ weightRefusal = 27
 -- words that exceed the tape
 abbrev pub tapeRefusal : ℕ
 tapeRefusal = 28
+
+-- the hosts' call for the frames of a span: the span or a part of the rate is out of range
+abbrev pub spanRefusal : ℕ
+spanRefusal = 31
 
 -- ---- the order in which each call is judged
 

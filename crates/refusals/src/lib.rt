@@ -40,6 +40,8 @@ pub const STATUS: u32 = 26;
 pub const WEIGHT: u32 = 27;
 // Words that exceed the tape.
 pub const TAPE: u32 = 28;
+// A span or a part of a frame rate that is out of its range.
+pub const SPAN: u32 = 31;
 
 // An inbox has at most so many words.
 pub const MOST_WORDS: usize = 4096;
@@ -59,6 +61,10 @@ pub const SAMPLE_ROOM: usize = 64;
 pub const MOST_SAMPLES: usize = 63;
 // The lag is at most so many frames.
 pub const MOST_LAG_FRAMES: i16 = 16383;
+// A span whose frames are asked for has at most so many microseconds: 2^40.
+pub const LONGEST_SPAN: u64 = 1099511627776;
+// Each of the two parts of a frame rate is at most this.
+pub const MOST_RATE_PART: u32 = 65535;
 
 // The seconds of an hour: the limit of a delta, of the request timer and of thresholds.
 pub const HOUR: f64 = 3600.0;
