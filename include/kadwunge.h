@@ -49,6 +49,25 @@ int32_t kadwunge_frame_stamp(double seconds, double timestep);
 uint32_t kadwunge_mean_of_samples(uint32_t needed, double rate, const uint8_t *samples, size_t samples_length, uint8_t *answer,
                                   size_t answer_length);
 
+/* The frames of a span of time. */
+typedef struct kadwunge_span_frames {
+    uint64_t frames;    /* whole frames */
+    uint64_t remainder; /* what is left over, in parts of which a frame has q * 1000000 and a microsecond p */
+    uint32_t refusal;   /* 0, or 31 */
+    uint32_t spare;     /* 0 */
+} kadwunge_span_frames;
+
+/* The whole frames of a span of time at a rate such as 60000 over 1001 frames a second, and what is left over. Nothing is rounded.
+ *
+ * Takes     a span in microseconds, 0 to 2^40 (some 12.7 days), and the rate p over q frames a second, each 1 to 65535.
+ * Returns   frames and remainder, the only two numbers with
+ *               span * p = frames * q * 1000000 + remainder   and   remainder < q * 1000000.
+ *           There are at most 72056494526 frames. They end remainder / p microseconds, a fraction, before the span does. The refusal and
+ *           the spare word are 0.
+ * Refuses   31 where the span, p or q is out of its range, in the field refusal. Frames, remainder and the spare word are 0 then.
+ */
+kadwunge_span_frames kadwunge_frames_of_span(uint64_t span, uint32_t p, uint32_t q);
+
 #ifdef __cplusplus
 }
 #endif

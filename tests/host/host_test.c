@@ -108,6 +108,30 @@ static uint32_t expected_mean(uint32_t needed, double rate, const uint8_t *sampl
     return 0;
 }
 
+/* Frames and remainder by long division of the product, a bit at a time from the highest: no '/' and no '%'. */
+static kadwunge_span_frames expected_span(uint64_t span, uint32_t p, uint32_t q)
+{
+    kadwunge_span_frames want = {0, 0, 0, 0};
+    if (span > 1099511627776u || p < 1 || p > 65535 || q < 1 || q > 65535) {
+        want.refusal = 31;
+        return want;
+    }
+    uint64_t product = 0, divisor = 0;
+    for (int bit = 0; bit < 16; bit++) {
+        product += p >> bit & 1 ? span << bit : 0;
+        divisor += q >> bit & 1 ? (uint64_t)1000000 << bit : 0;
+    }
+    for (int bit = 63; bit >= 0; bit--) {
+        want.frames <<= 1;
+        want.remainder = want.remainder << 1 | (product >> bit & 1);
+        if (want.remainder >= divisor) {
+            want.remainder -= divisor;
+            want.frames |= 1;
+        }
+    }
+    return want;
+}
+
 static uint64_t compared, differences;
 static int failed;
 
@@ -135,6 +159,19 @@ static void check_stamp(double seconds, double timestep)
     compared++;
     if (got != want && differences++ < 5)
         printf("  stamp %a %a: %d, expected %d\n", seconds, timestep, got, want);
+}
+
+/* Every byte of the answer is compared: it has no gaps. */
+_Static_assert(sizeof(kadwunge_span_frames) == 24, "the words of a kadwunge_span_frames");
+
+static void check_span(uint64_t span, uint32_t p, uint32_t q)
+{
+    kadwunge_span_frames got = kadwunge_frames_of_span(span, p, q), want = expected_span(span, p, q);
+    compared++;
+    if (memcmp(&got, &want, sizeof got) != 0 && differences++ < 5)
+        printf("  span %llu %u %u: %u %llu %llu, expected %u %llu %llu\n", (unsigned long long)span, (unsigned)p, (unsigned)q,
+               (unsigned)got.refusal, (unsigned long long)got.frames, (unsigned long long)got.remainder, (unsigned)want.refusal,
+               (unsigned long long)want.frames, (unsigned long long)want.remainder);
 }
 
 /* The answer buffer and 16 bytes on either side of it are filled before the call, and all of them are compared after it. */
@@ -285,6 +322,36 @@ static void mean_random(void)
     finish("C mean of samples, random");
 }
 
+/* Spans and rates at their limits and next to them, and film rates, each with each. */
+static void span_limits(void)
+{
+    static const uint64_t spans[] = {0, 1, 15, 16, 999999, 1000000, 1000001, 1000999999, 1001000000, 1001000001, 3600000000u, 65534999999u,
+                                     65535000000u, 1036800000000u, 1099511627775u, 1099511627776u, 1099511627777u, UINT64_MAX / 65535,
+                                     UINT64_MAX / 2, UINT64_MAX};
+    static const uint32_t parts[] = {0, 1, 2, 24, 25, 999, 1000, 1001, 24000, 30000, 60000, 65534, 65535, 65536, 131072, 0x7fffffff,
+                                     0xffffffff};
+    for (size_t i = 0; i < sizeof spans / sizeof *spans; i++)
+        for (size_t j = 0; j < sizeof parts / sizeof *parts; j++)
+            for (size_t k = 0; k < sizeof parts / sizeof *parts; k++)
+                check_span(spans[i], parts[j], parts[k]);
+    finish("C frames of a span, limits");
+}
+
+/* Random spans and rates; and the first span that has some number of frames, with its neighbours. */
+static void span_random(void)
+{
+    for (int i = 0; i < 500000; i++) {
+        uint64_t r = next_random();
+        uint32_t p = (uint32_t)(next_random() % 65535 + 1), q = (uint32_t)(next_random() % 65535 + 1);
+        check_span(r >> (r & 63), p, q);
+        check_span(r >> 24, (uint32_t)(r % 65537), q);
+        uint64_t frames = r % ((uint64_t)1099511 * p / q + 1), first = (frames * q * 1000000 + p - 1) / p;
+        for (uint64_t d = 0; d < 3; d++)
+            check_span(first + d - 1, p, q);
+    }
+    finish("C frames of a span, random");
+}
+
 int main(void)
 {
     orders();
@@ -292,5 +359,7 @@ int main(void)
     stamp_random();
     mean_limits();
     mean_random();
+    span_limits();
+    span_random();
     return failed;
 }

@@ -1,4 +1,5 @@
-//! Compares the host's calls, as Rust links them, with Rust's own wrapping i16 and f64 operations.
+//! Compares the host's calls, as Rust links them, with Rust's own wrapping i16 and f64 operations, and the frames of a span with the
+//! equation that they have to meet, in u128.
 
 mod compare;
 
@@ -17,6 +18,16 @@ mod ours {
             answer: *mut u8,
             answer_length: usize,
         ) -> u32;
+        pub fn kadwunge_frames_of_span(span: u64, p: u32, q: u32) -> SpanFrames;
+    }
+
+    #[repr(C)]
+    #[derive(Clone, Copy, Debug, PartialEq)]
+    pub struct SpanFrames {
+        pub frames: u64,
+        pub remainder: u64,
+        pub refusal: u32,
+        pub spare: u32,
     }
 }
 
@@ -33,6 +44,11 @@ fn frame_stamp(seconds: f64, timestep: f64) -> i32 {
 fn mean_of_samples(needed: u32, rate: f64, samples: &[u8], answer: &mut [u8]) -> u32 {
     // SAFETY: each pointer comes with the length of its slice, and the slices do not overlap; the function answers every content.
     unsafe { ours::kadwunge_mean_of_samples(needed, rate, samples.as_ptr(), samples.len(), answer.as_mut_ptr(), answer.len()) }
+}
+
+fn frames_of_span(span: u64, p: u32, q: u32) -> ours::SpanFrames {
+    // SAFETY: the function takes three numbers and answers every three of them.
+    unsafe { ours::kadwunge_frames_of_span(span, p, q) }
 }
 
 fn expected_order(first: i16, second: i16) -> i32 {
@@ -75,6 +91,22 @@ fn expected_mean(needed: u32, rate: f64, samples: &[u8], room: usize) -> Result<
     values.sort_by(|x, y| x.partial_cmp(y).expect("a sample is finite"));
     let kept = &values[discard..store - discard];
     Ok(kept.iter().fold(0.0, |sum, x| sum + x) / kept.len() as f64)
+}
+
+/// In range, the equation and the bound themselves, which one pair alone meets; else the refusal and zeros.
+fn span_answer_is_right(a: ours::SpanFrames, span: u64, p: u32, q: u32) -> bool {
+    let in_range = span <= 1 << 40 && (1..=65_535).contains(&p) && (1..=65_535).contains(&q);
+    if !in_range {
+        return (a.refusal, a.frames, a.remainder, a.spare) == (31, 0, 0, 0);
+    }
+    let frame = u128::from(q) * 1_000_000;
+    let parts = u128::from(a.frames) * frame + u128::from(a.remainder);
+    u128::from(span) * u128::from(p) == parts && u128::from(a.remainder) < frame && (a.refusal, a.spare) == (0, 0)
+}
+
+fn check_span(group: &mut Group, span: u64, p: u32, q: u32) {
+    let a = frames_of_span(span, p, q);
+    group.check(span_answer_is_right(a, span, p, q), || format!("{span} {p} {q}: {a:?}"));
 }
 
 fn check_order(group: &mut Group, a: i16, b: i16) {
@@ -234,8 +266,32 @@ fn means() -> bool {
     at_limits.finish() & edges.finish() & random.finish()
 }
 
+fn spans() -> bool {
+    let mut at_limits = Group::new("Rust frames of a span, limits");
+    let edge_spans = [0, 1_000_000, 1_001_000_000, 3_600_000_000, 65_535_000_000, 1_036_800_000_000, 1 << 40, u64::MAX / 65_535];
+    let edge_parts = [0, 1, 25, 1_000, 1_001, 24_000, 60_000, 65_535, 65_536, 1 << 31];
+    let around = |x: u64| [x.wrapping_sub(1), x, x.wrapping_add(1)];
+    for span in edge_spans.into_iter().flat_map(around) {
+        for p in edge_parts.into_iter().flat_map(around) {
+            for q in edge_parts.into_iter().flat_map(around) {
+                check_span(&mut at_limits, span, p as u32, q as u32);
+            }
+        }
+    }
+    let mut random = Group::new("Rust frames of a span, random");
+    let mut r = Random(0x1234_5678_9abc_def1);
+    for _ in 0..1_000_000 {
+        let (n, m) = (r.next(), r.next());
+        let (p, q) = ((m & 0xffff) as u32, (m >> 16 & 0xffff) as u32);
+        check_span(&mut random, n >> 24, p, q);
+        check_span(&mut random, n >> (m >> 58), p, q);
+        check_span(&mut random, n >> 30, p, (m >> 40) as u32);
+    }
+    at_limits.finish() & random.finish()
+}
+
 fn main() {
-    if !(orders() & stamps() & means()) {
+    if !(orders() & stamps() & means() & spans()) {
         std::process::exit(1);
     }
 }

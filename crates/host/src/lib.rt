@@ -6,8 +6,10 @@ ghost use lib.ListN.{length, take, replicate};
 ghost use lib.Ieee.{binary64, ofBits};
 ghost use Rattle.timestamp.specs.Timestamps.{bitsOf, orderOf, orderNumber};
 ghost use Rattle.refusals.specs.Limits.{sampleRoom};
+ghost use Rattle.film_rate.specs.Spans.{spanFramesOf};
 ghost use Rattle.host.specs.Host.{frameStampOf};
 ghost use Rattle.host.specs.Mean.{littleOf, wordAt, floatsOf, bytesOf, judgedMean, meanAnswerOf, AnswersMean};
+ghost use Rattle.host.specs.Spans.{hostSpanOf};
 use timestamp::Ordering;
 use timestamp::Timestamp;
 
@@ -19,6 +21,15 @@ pub enum MeanAnswer {
     SettingsRefused,
     // bytes that are not the samples to store, or no room of 8 bytes for the answer
     SamplesRefused,
+}
+
+// The frames of a span as C lays them out. The spare word is 0 and fills the record, so that no byte of it is left undetermined.
+#[repr(C)]
+pub struct HostSpanFrames {
+    pub frames: u64,
+    pub remainder: u64,
+    pub refusal: u32,
+    pub spare: u32,
 }
 
 // The order of two stamps, the first against the second: -1, 0 or 1.
@@ -45,6 +56,20 @@ pub extern "C" fn kadwunge_frame_stamp(seconds: f64, timestep: f64) -> i32
         return 65538;
     }
     65537
+}
+
+// The whole frames of a span of microseconds at p over q frames a second, and the remainder; or 31, both being 0 then.
+#[no_mangle]
+pub extern "C" fn kadwunge_frames_of_span(span: u64, p: u32, q: u32) -> HostSpanFrames
+    ensures { λ r. ⌜ r ≡ hostSpanOf (spanFramesOf span p q) ⌝ }
+{
+    let a = film_rate::frames_of_span(span, p, q);
+    HostSpanFrames {
+        frames: a.frames,
+        remainder: a.remainder,
+        refusal: a.refusal,
+        spare: 0,
+    }
 }
 
 // The mean of samples, given as bytes, 8 a sample, low byte first: 0, and the mean in the 8 bytes of the answer. Or 1 where samples needed or
