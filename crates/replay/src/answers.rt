@@ -17,6 +17,7 @@ use clocksync::ClientId;
 use clocksync::Clock;
 use clocksync::Offset;
 use command::CommandBuffer;
+use host::HostSpanFrames;
 use session_answers::UpdateAnswer;
 use session_issue::IssueAnswer;
 use session_report::ReportAnswer;
@@ -448,4 +449,12 @@ pub(crate) fn mean(out: &mut Out, at: usize, refusal: u32, all: &Room, length: u
 pub(crate) fn bad_call(out: &mut Out, at: usize, line: u64) -> usize {
     let n = named(out, at, b"bad call at line ", line);
     output::byte(out, n, b'\n')
+}
+
+// The answer of `span`.
+pub(crate) fn span(out: &mut Out, at: usize, a: HostSpanFrames) -> usize {
+    let n = named(out, at, b"span refusal=", a.refusal as u64);
+    let m = named(out, n, b" frames=", a.frames);
+    let k = named(out, m, b" rest=", a.remainder);
+    output::byte(out, k, b'\n')
 }

@@ -1,4 +1,4 @@
-// The three host calls: order, stamp and mean. Each reads what is left of its line; `end` is the byte that ended the call's name.
+// The host calls: order, stamp, mean and span. Each reads what is left of its line; `end` is the byte that ended the call's name.
 use super::answers;
 use super::fields;
 use super::input::In;
@@ -68,4 +68,15 @@ pub(crate) fn mean(p: Place, end: u32, input: &mut In, out: &mut Out) -> Place {
     }
     let v = f.values;
     play_mean(v, &bytes, b, p.at, out)
+}
+
+// Plays `span`.
+pub(crate) fn span(p: Place, end: u32, input: &mut In, out: &mut Out) -> Place {
+    let f = fields::read_last(input, p.cursor, end, b"ddd");
+    if !f.ok {
+        return lines::bad(p);
+    }
+    let v = f.values;
+    let a = host::kadwunge_frames_of_span(v[0], fields::narrow(v[1]), fields::narrow(v[2]));
+    lines::answered(f.cursor, answers::span(out, p.at, a))
 }

@@ -15,6 +15,7 @@ pub enum Line {
     Order,
     Stamp,
     Mean,
+    Span,
     Unknown,
 }
 
@@ -43,12 +44,15 @@ const STAMP: u64 = 495873781104;
 
 const MEAN: u64 = 1835360622;
 
+const SPAN: u64 = 1936744814;
+
 // The call that a name of so many letters names. A name of 8 letters or more names none, so its number is not asked.
 fn call_of(letters: u32, name: u64) -> Line {
     if letters == 4 {
         return match name {
             OPEN => Line::Open,
             MEAN => Line::Mean,
+            SPAN => Line::Span,
             _ => Line::Unknown,
         };
     }

@@ -36,6 +36,7 @@ fn play_beside(l: Line, p: Place, end: u32, input: &mut In, out: &mut Out) -> Pl
         Line::Order => host_calls::order(p, end, input, out),
         Line::Stamp => host_calls::frame_stamp(p, end, input, out),
         Line::Mean => host_calls::mean(p, end, input, out),
+        Line::Span => host_calls::span(p, end, input, out),
         _ => lines::bad(p),
     }
 }
