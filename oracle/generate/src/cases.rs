@@ -1,5 +1,7 @@
 //! The constructed cases: short lists that each show one thing.
 
+mod spans;
+
 use crate::{
     rng::Rng,
     run::{Exact, Run, TAPE},
@@ -165,6 +167,12 @@ pub const ALL: &[Case] = &[
         whole_part,
     ),
     case(
+        "spans",
+        "Request 1 of 02, the frames of spans. Each answer is worked out by hand in the comment above its call: \
+         span x p / (q x 1,000,000) and what is left of it.",
+        spans::spans,
+    ),
+    case(
         "deviation-move",
         "The BTreeMap deviates from the rule in a move: a skip back by 20,000 frames drops a \
          command that the rule keeps.",
@@ -200,6 +208,11 @@ pub const ALL: &[Case] = &[
         "bad-call-fields",
         "A bad call: an open with a field too few.",
         bad_call_fields,
+    ),
+    case(
+        "bad-call-span",
+        "A bad call: a span over 64 bits. By hand: 2^64 - 1 is in no range and gets 31, 2^64 is no call.",
+        spans::bad_call_span,
     ),
 ];
 

@@ -6,6 +6,7 @@ mod limits;
 mod ordinary;
 mod skips;
 mod snapshots;
+mod spans;
 mod stops;
 
 use crate::{
@@ -134,7 +135,13 @@ pub const ALL: &[Profile] = &[
         "tapes of 0 words up to the exact length, one word too short among them",
         limits::tapes,
     ),
-    profile("host", 6, "the three host calls", limits::host),
+    profile("host", 6, "the host calls order, stamp and mean", limits::host),
+    profile(
+        "spans",
+        4,
+        "the frames of spans and rates of every size, around whole frames and at the limits",
+        spans::spans,
+    ),
 ];
 
 /// What a profile, or `all` of them, is after; `None` where there is none of this name.

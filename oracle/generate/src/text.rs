@@ -54,6 +54,10 @@ pub fn stamp_line(seconds: f64, timestep: f64) -> String {
     format!("stamp {} {}", float(seconds), float(timestep))
 }
 
+pub fn span_line(span: u64, p: u64, q: u64) -> String {
+    format!("span {span} {p} {q}")
+}
+
 pub fn command(stamp: i16, handle: u32) -> [u32; 2] {
     [0x1000_0000 | u32::from(stamp as u16), 0x4000_0000 | handle]
 }
@@ -114,7 +118,7 @@ impl Out {
         }
         self.left -= 1;
         self.print(line);
-        let host = ["order", "stamp", "mean"]
+        let host = ["order", "stamp", "mean", "span"]
             .iter()
             .any(|name| line.starts_with(name));
         if self.sessions == 0 || host {

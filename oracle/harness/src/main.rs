@@ -8,6 +8,7 @@ mod limits;
 mod network;
 mod panics;
 mod session;
+mod spans;
 mod statistics;
 mod text;
 mod world;
@@ -95,6 +96,12 @@ impl Player {
                     host::mean_of_bytes(needed, rate, answer_length as usize, &bytes);
                 self.statistics.mean(refusal);
                 Ok(text::mean_text(refusal, &answer))
+            }
+            Call::Span { span, p, q } => {
+                let answer = spans::frames_of_span(span, p, q);
+                self.statistics.refused(answer.err().unwrap_or(0), None);
+                self.statistics.answered_by_request(1);
+                Ok(text::span_text(answer))
             }
         }
     }
@@ -186,6 +193,7 @@ fn name_of(call: &Call) -> &'static str {
         Call::Order(..) => "order",
         Call::Stamp { .. } => "stamp",
         Call::Mean { .. } => "mean",
+        Call::Span { .. } => "span",
     }
 }
 

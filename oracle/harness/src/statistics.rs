@@ -8,6 +8,8 @@ use std::{collections::BTreeMap, fmt::Write};
 #[derive(Default)]
 pub struct Statistics {
     calls: BTreeMap<&'static str, u64>,
+    /// Calls that a request of 02 answered in place of the Rust, by the request's number.
+    by_request: BTreeMap<u32, u64>,
     refusals: BTreeMap<u32, u64>,
     stops: BTreeMap<&'static str, u64>,
     statuses: BTreeMap<&'static str, u64>,
@@ -53,6 +55,16 @@ fn listed<K: std::fmt::Display>(counts: &BTreeMap<K, u64>) -> String {
 impl Statistics {
     pub fn call(&mut self, name: &'static str) {
         *self.calls.entry(name).or_default() += 1;
+    }
+
+    pub fn answered_by_request(&mut self, request: u32) {
+        *self.by_request.entry(request).or_default() += 1;
+    }
+
+    /// Calls other than `session`, and those of them that no request answered.
+    fn calls_and_rust_alone(&self) -> (u64, u64) {
+        let all = self.calls.values().sum::<u64>() - self.calls.get("session").unwrap_or(&0);
+        (all, all - self.by_request.values().sum::<u64>())
     }
 
     pub fn refused(&mut self, number: u32, kind: Option<Stop26>) {
@@ -160,6 +172,16 @@ impl Statistics {
                 " none".to_owned()
             } else {
                 listed(&self.deviations)
+            }
+        );
+        let (all, rust_alone) = self.calls_and_rust_alone();
+        eprintln!(
+            "statistics calls that no request of 02 answers: {rust_alone} of {all} ({:.2} %), by request:{}",
+            100.0 * rust_alone as f64 / all.max(1) as f64,
+            if self.by_request.is_empty() {
+                " none".to_owned()
+            } else {
+                listed(&self.by_request)
             }
         );
         eprintln!(

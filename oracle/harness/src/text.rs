@@ -28,6 +28,12 @@ pub enum Call {
         answer_length: u64,
         bytes: Vec<u8>,
     },
+    /// Request 1 of 02.
+    Span {
+        span: u64,
+        p: u64,
+        q: u64,
+    },
 }
 
 /// Lower-case hexadecimal digits of exactly this number.
@@ -122,6 +128,11 @@ pub fn parse(line: &str) -> Option<Call> {
             rate: float(rate)?,
             answer_length: decimal(answer_length)?,
             bytes: bytes(sample_bytes)?,
+        }),
+        ["span", span, p, q] => Some(Call::Span {
+            span: decimal(span)?,
+            p: decimal(p)?,
+            q: decimal(q)?,
         }),
         _ => None,
     }
@@ -303,4 +314,12 @@ pub fn mean_text(refusal: u32, answer: &[u8]) -> String {
     }
     let bytes: String = answer.iter().map(|byte| format!("{byte:02x}")).collect();
     format!("mean {refusal} {bytes}")
+}
+
+pub fn span_text(answer: Result<(u128, u128), u32>) -> String {
+    let (refusal, (frames, rest)) = match answer {
+        Ok(counted) => (0, counted),
+        Err(refusal) => (refusal, (0, 0)),
+    };
+    format!("span refusal={refusal} frames={frames} rest={rest}")
 }

@@ -243,7 +243,7 @@ fn order_call(rng: &mut Rng) -> String {
     format!("order {first} {second}")
 }
 
-/// The three host calls with inputs of every kind.
+/// The host calls order, stamp and mean with inputs of every kind.
 pub fn host(out: &mut Out, rng: &mut Rng) {
     for _ in 0..rng.between(10, 40) {
         let line = match rng.below(4) {
