@@ -52,7 +52,7 @@ uint32_t kadwunge_mean_of_samples(uint32_t needed, double rate, const uint8_t *s
 /* The frames of a span of time. */
 typedef struct kadwunge_span_frames {
     uint64_t frames;    /* whole frames */
-    uint64_t remainder; /* what is left over, in parts of which a frame has q * 1000000 and a microsecond p */
+    uint64_t remainder; /* what is left over, in parts: p of them are a microsecond, and q * 1000000 a frame */
     uint32_t refusal;   /* 0, or 31 */
     uint32_t spare;     /* 0 */
 } kadwunge_span_frames;
@@ -62,9 +62,11 @@ typedef struct kadwunge_span_frames {
  * Takes     a span in microseconds, 0 to 2^40 (some 12.7 days), and the rate p over q frames a second, each 1 to 65535.
  * Returns   frames and remainder, the only two numbers with
  *               span * p = frames * q * 1000000 + remainder   and   remainder < q * 1000000.
- *           There are at most 72056494526 frames. They end remainder / p microseconds, a fraction, before the span does. The refusal and
+ *           In C write (uint64_t)q * 1000000, since q * 1000000 alone has 32 bits; in 64 bits nothing of this overflows. There are at
+ *           most 72056494526 frames. They end remainder / p microseconds, in general a fraction, before the span does. The refusal and
  *           the spare word are 0.
- * Refuses   31 where the span, p or q is out of its range, in the field refusal. Frames, remainder and the spare word are 0 then.
+ * Refuses   31, in the field refusal, where the span, p or q is out of its range. Frames, remainder and the spare word are 0 then; a span
+ *           that is accepted may have 0 frames and remainder 0 too, so look at the refusal first.
  */
 kadwunge_span_frames kadwunge_frames_of_span(uint64_t span, uint32_t p, uint32_t q);
 

@@ -5,25 +5,9 @@ use Prim.Native.Nat.{ℕ, _+_, _*_, _/_, _%_, _<_}
 use native.Mathlib.Nat.{div-add-mod', mod-lt, mul-assoc}
 use native.Mathlib.Omega.{arith}
 use lib.Arith.{digits-div, digits-mod}
-use Rattle.refusals.specs.Refusals.{spanRefusal}
 use Rattle.film_rate.specs.Spans.{spanPasses, spanFramesOf}
-use Rattle.film_rate.specs.Division.{SpanAccepted, SpanRefused, SpanDivides, SpanOnly}
+use Rattle.film_rate.specs.Division.{SpanDivides, SpanOnly, SpanRefused, SpanAccepted}
 use Rattle.film_rate.proofs.Ranges.{in-range, passes, counted-answer, refused-answer, accepted-passes}
-
--- what is in range is accepted
-pub span-accepted : SpanAccepted
-unfolding SpanAccepted
-span-accepted span p q r = ap (λ a. a .refusal) (counted-answer span p q (passes span p q r))
-
--- what is not is refused
-pub span-refused : SpanRefused
-unfolding SpanRefused
-span-refused span p q n = go (spanPasses span p q) refl
-  where
-    go : (t : Bool) → spanPasses span p q ≡ t
-        → (spanFramesOf span p q .refusal ≡ spanRefusal) × (spanFramesOf span p q .frames ≡ 0) × (spanFramesOf span p q .remainder ≡ 0)
-    go true h = absurd (n (in-range span p q h))
-    go false h = let e = refused-answer span p q h in (ap (λ a. a .refusal) e, ap (λ a. a .frames) e, ap (λ a. a .remainder) e)
 
 -- a number by its quotient and its remainder
 divided : (n q : ℕ) → n ≡ n / (q * 1000000) * q * 1000000 + n % (q * 1000000)
@@ -50,3 +34,18 @@ span-only span p q f r h d =
       sym (digits-div f b) ∙ ap (λ (x : ℕ). x / (q * 1000000)) (sym s) ∙ sym (ap (λ c. c .frames) e),
       sym (digits-mod f b) ∙ ap (λ (x : ℕ). x % (q * 1000000)) (sym s) ∙ sym (ap (λ c. c .remainder) e),
     )
+
+-- what is out of range is refused
+pub span-refused : SpanRefused
+unfolding SpanRefused
+span-refused span p q n = go (spanPasses span p q) refl
+  where
+    go : (t : Bool) → spanPasses span p q ≡ t
+        → (spanFramesOf span p q .refusal ≡ 31) × (spanFramesOf span p q .frames ≡ 0) × (spanFramesOf span p q .remainder ≡ 0)
+    go true h = absurd (n (in-range span p q h))
+    go false h = let e = refused-answer span p q h in (ap (λ a. a .refusal) e, ap (λ a. a .frames) e, ap (λ a. a .remainder) e)
+
+-- what is in range is accepted
+pub span-accepted : SpanAccepted
+unfolding SpanAccepted
+span-accepted span p q r = ap (λ a. a .refusal) (counted-answer span p q (passes span p q r))

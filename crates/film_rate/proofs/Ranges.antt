@@ -30,11 +30,17 @@ module _ (span p q : ℕ) where
       let b = apart (leb span (2 ^ 40)) (ratePartPasses p) (a .0) in
       let c = part-range p (b .1) in
       let d = part-range q (a .1) in
-      record { span-to = leb-true span (2 ^ 40) (b .0); p-from = c .0; p-to = c .1; q-from = d .0; q-to = d .1 }
+      record {
+        span-to = omega (arith, leb-true span (2 ^ 40) (b .0));
+        p-from = omega (arith, c .0);
+        p-to = omega (arith, c .1);
+        q-from = omega (arith, d .0);
+        q-to = omega (arith, d .1);
+      }
 
   pub passes : InRange span p q → spanPasses span p q ≡ true
   unfolding spanPasses
-  passes r = both (both (le-leb span (2 ^ 40) (r .span-to)) (part-passes p (r .p-from) (r .p-to))) (part-passes q (r .q-from) (r .q-to))
+  passes r = both (both (le-leb span (2 ^ 40) (omega arith)) (part-passes p (omega arith) (omega arith))) (part-passes q (omega arith) (omega arith))
 
   -- ---- the answer
 

@@ -23,7 +23,7 @@ spanPasses span p q = leb span longestSpan && ratePartPasses p && ratePartPasses
 abbrev pub second : ℕ
 second = 1000000
 
--- a frame in parts, of which a microsecond has p
+-- a frame in parts: p of them are a microsecond
 abbrev pub frameParts : (q : ℕ) → ℕ
 frameParts q = q * second
 

@@ -12,7 +12,7 @@ pub struct SpanFrames {
     pub refusal: u32,
     // whole frames
     pub frames: u64,
-    // what is left over, in parts of which a frame has q * 1,000,000 and a microsecond p
+    // what is left over, in parts: p of them are a microsecond, and q * 1,000,000 a frame
     pub remainder: u64,
 }
 

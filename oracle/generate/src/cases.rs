@@ -211,7 +211,7 @@ pub const ALL: &[Case] = &[
     ),
     case(
         "bad-call-span",
-        "A bad call: a span over 64 bits. By hand: 2^64 - 1 is in no range and gets 31, 2^64 is no call.",
+        "A bad call: a span over 64 bits. By hand: 2^64 - 1 is out of range and gets 31, 2^64 is no call.",
         spans::bad_call_span,
     ),
 ];

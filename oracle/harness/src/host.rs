@@ -1,4 +1,4 @@
-//! The three host calls, answered by the Rust's own stamps and clock.
+//! The host calls of 01, order, stamp and mean, answered by the Rust's own stamps and clock.
 
 use crate::limits::{mean_settings_pass, sample_passes, seconds_pass, timestep_passes};
 use crystalorb::{

@@ -11,7 +11,7 @@ fn worked(out: &mut Out, by_hand: &str, span: u64, p: u64, q: u64) {
     out.call(&span_line(span, p, q));
 }
 
-/// Film rates over long spans, and a rate at which whole frames fall on whole seconds.
+/// Film rates over long spans, and a span of exactly 60,000 frames with its neighbours.
 fn film(out: &mut Out) {
     worked(out, "0 x 60,000 = 0: 0 frames, 0 left", 0, 60_000, 1_001);
     worked(
@@ -67,7 +67,7 @@ fn film(out: &mut Out) {
     );
 }
 
-/// The slowest rate, the fastest one, and the longest span under each.
+/// The slowest rate, the fastest one, and the longest span under these and three others.
 fn limits(out: &mut Out) {
     worked(
         out,

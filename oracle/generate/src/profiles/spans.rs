@@ -44,7 +44,7 @@ fn rate(rng: &mut Rng) -> (u64, u64) {
     }
 }
 
-/// The last microsecond before a whole number of frames, its first one, and their neighbours.
+/// The first span that has some whole number of frames, the one before it, or the one after.
 fn around_a_frame(rng: &mut Rng, p: u64, q: u64) -> u64 {
     let p = p.clamp(1, PART_MAX);
     let q = q.clamp(1, PART_MAX);
