@@ -13,7 +13,7 @@ use Rattle.tape.specs.Tape.{Puts}
 use Rattle.tape.specs.Words.{stepWord}
 use Rattle.tape.proofs.Writing.{puts-as}
 use Rattle.timestamp.proofs.Tests.{apart}
-use Rattle.command.specs.declared.Entry.{Entry}
+use Rattle.command.specs.Entries.{Entry}
 use Rattle.command.specs.declared.CommandBuffer.{CommandBuffer}
 use Rattle.command.specs.Buffer.{around, movedOf, takenOf, restOf, commandWords}
 use Rattle.command.specs.Ranks.{waitsOf}

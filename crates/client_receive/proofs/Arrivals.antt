@@ -4,7 +4,7 @@ use mathlib.Core.Bool.{Bool, true, false, _||_}
 use Prim.Native.Nat.{ℕ}
 use lib.Dec.{eqb}
 use Rattle.timestamp.specs.declared.Timestamp.{Timestamp}
-use Rattle.command.specs.declared.Entry.{Entry}
+use Rattle.command.specs.Entries.{Entry}
 use Rattle.command.specs.declared.Insertion.{Insertion}
 use Rattle.command.specs.declared.Outcome.{Outcome}
 use Rattle.command.specs.Buffer.{insertedOf, takenBy}

@@ -14,7 +14,6 @@ use client::Snapshots;
 use client::ledgers;
 use client::sides;
 use client::status;
-use command::Entry;
 use command::Outcome;
 use timestamp::Timestamp;
 
@@ -62,7 +61,7 @@ pub(crate) fn take(l: Ledger, o: Outcome) -> Ledger
 
 // A command goes to the base, the old and the new world. `full` says whether one of them takes it but has no room: refusal 23. None of the
 // three looks at another, so left and right need not be told apart, and the scene is laid out once.
-pub fn receive_command(s: Scene, entry: Entry) -> Received
+pub fn receive_command(s: Scene, entry: u64) -> Received
     ensures { λ r. ⌜ r ≡ receivedOf s entry ⌝ }
 {
     let w = s.worlds;

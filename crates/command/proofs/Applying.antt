@@ -9,7 +9,7 @@ use Rattle.tape.specs.Words.{commandWord, stepsOn, commandsOn}
 use Rattle.tape.specs.Tape.{Puts}
 use Rattle.tape.proofs.Writing.{puts-none, puts-then, puts-as, puts-length}
 use Rattle.tape.proofs.Counting.{steps-on-command, commands-on-command, same-side, other-side}
-use Rattle.command.specs.declared.Entry.{Entry}
+use Rattle.command.specs.Entries.{Entry, stampIn, handleIn, plainEntry}
 use Rattle.command.specs.Lists.{filterB}
 use Rattle.command.specs.declared.CommandBuffer.{CommandBuffer}
 use Rattle.command.specs.Buffer.{held, commandWords}
@@ -21,31 +21,31 @@ use Rattle.command.proofs.Holding.{held-take}
 module _ (side : ℕ) where
   pub words-append : (xs ys : List Entry) → commandWords side (xs ++ ys) ≡ commandWords side xs ++ commandWords side ys
   unfolding commandWords
-  words-append xs ys = map-append (λ e. commandWord side (e .handle)) xs ys
+  words-append xs ys = map-append (λ e. commandWord side (handleIn e)) xs ys
 
-  pub words-one : (e : Entry) → commandWords side (e ∷ []) ≡ commandWord side (e .handle) ∷ []
+  pub words-one : (e : Entry) → commandWords side (e ∷ []) ≡ commandWord side (handleIn e) ∷ []
   unfolding commandWords
   words-one e = refl
 
   pub words-length : (xs : List Entry) → length (commandWords side xs) ≡ length xs
   unfolding commandWords
-  words-length xs = length-map xs (λ e. commandWord side (e .handle))
+  words-length xs = length-map xs (λ e. commandWord side (handleIn e))
 
   pub words-no-step-on : (other : ℕ) (xs : List Entry) → stepsOn other (commandWords side xs) ≡ 0
   unfolding commandWords stepsOn
   words-no-step-on other [] = refl
-  words-no-step-on other (x ∷ xs) = steps-on-command other (commandWords side xs) side (x .handle) ∙ words-no-step-on other xs
+  words-no-step-on other (x ∷ xs) = steps-on-command other (commandWords side xs) side (handleIn x) ∙ words-no-step-on other xs
 
 -- on their own side they count as many as there are entries, and on the other side none
 pub words-counted : (side : ℕ) → side < 2 → (xs : List Entry) → commandsOn side (commandWords side xs) ≡ length xs
 unfolding commandWords commandsOn
 words-counted side h [] = refl
-words-counted side h (x ∷ xs) = commands-on-command side (commandWords side xs) side (x .handle) ∙ omega (arith, same-side side h, words-counted side h xs)
+words-counted side h (x ∷ xs) = commands-on-command side (commandWords side xs) side (handleIn x) ∙ omega (arith, same-side side h, words-counted side h xs)
 
 pub words-other-side : (side : ℕ) → side < 2 → (xs : List Entry) → commandsOn (1 - side) (commandWords side xs) ≡ 0
 unfolding commandWords commandsOn
 words-other-side side h [] = refl
-words-other-side side h (x ∷ xs) = commands-on-command (1 - side) (commandWords side xs) side (x .handle)
+words-other-side side h (x ∷ xs) = commands-on-command (1 - side) (commandWords side xs) side (handleIn x)
     ∙ omega (arith, other-side side h, words-other-side side h xs)
 
 -- ---- the loop
@@ -70,7 +70,7 @@ module _ {side : ℕ} {p : Entry → Bool} {xs : List Entry} {m : ℕ} {was : Li
   apply-length = puts-length (s .words)
 
   module _ (d : Entry) (h : i < m) where
-    pub apply-one : p (getD xs i d) ≡ true → {w r : ℕ} {next : List ℕ} → w ≡ commandWord side (getD xs i d .handle) → Puts last q (w ∷ []) r next
+    pub apply-one : p (getD xs i d) ≡ true → {w r : ℕ} {next : List ℕ} → w ≡ commandWord side (handleIn (getD xs i d)) → Puts last q (w ∷ []) r next
         → Applying side p xs m was place (i + 1) r next
     apply-one e {w} {r} {next} f u =
         let xs′ : commandWords side (filterB p (take i xs)) ++ (w ∷ []) ≡ commandWords side (filterB p (take (i + 1) xs)) =

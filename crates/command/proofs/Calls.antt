@@ -10,7 +10,7 @@ use Rattle.timestamp.specs.declared.Timestamp.{Timestamp}
 use Rattle.timestamp.specs.Timestamps.{inRange}
 use Rattle.tape.specs.Tape.{Puts}
 use Rattle.tape.proofs.Writing.{puts-as}
-use Rattle.command.specs.declared.Entry.{Entry}
+use Rattle.command.specs.Entries.{Entry, stampIn, handleIn, plainEntry}
 use Rattle.command.specs.declared.CommandBuffer.{CommandBuffer}
 use Rattle.command.specs.declared.Insertion.{Insertion}
 use Rattle.command.specs.declared.Moved.{Moved}
@@ -131,19 +131,19 @@ applies-all-is b t {side} {place} {next} {was} {last} {lo} {hi} el eh p {r} e =
 -- ---- an insertion
 
 module _ (b : CommandBuffer) (e : Entry) where
-  pub inserted-out : inRange (b .timestamp .0) (e .stamp .0) ≡ false → _≡_ {A = Insertion} (record { outcome = OutOfRange; buffer = b }) (insertedOf b e)
-  unfolding insertedOf inRangeOf
+  pub inserted-out : inRangeOf (b .timestamp) e ≡ false → _≡_ {A = Insertion} (record { outcome = OutOfRange; buffer = b }) (insertedOf b e)
+  unfolding insertedOf
   inserted-out h = simp h
 
-  module _ (h : inRange (b .timestamp .0) (e .stamp .0) ≡ true) where
+  module _ (h : inRangeOf (b .timestamp) e ≡ true) where
     pub inserted-full : 64 ≤ length (held b) → _≡_ {A = Insertion} (record { outcome = Full; buffer = b }) (insertedOf b e)
-    unfolding insertedOf inRangeOf
+    unfolding insertedOf
     inserted-full f = simp (h, le-ltb (length (held b)) 64 f)
 
     pub inserted-taken : length (held b) < 64 → {next : ℕ} → next ≡ rankIn (b .timestamp) e + 1 → {lo hi : ℕ} → lo ≡ 0 → hi ≡ 65536
         → {q : CommandBuffer} → q ≡ laid ((filterB (rankWithin (b .timestamp) lo next) (held b) ++ (e ∷ [])) ++ filterB
         (rankWithin (b .timestamp) next hi) (held b)) (b .timestamp) → _≡_ {A = Insertion} (record { outcome = Taken; buffer = q }) (insertedOf b e)
-    unfolding insertedOf inRangeOf placedOf
+    unfolding insertedOf placedOf
     inserted-taken f {next} en {lo} {hi} el eh {q} eq =
         let m = b .timestamp in
         let before : filterB (rankWithin m lo next) (held b) ≡ filterB (λ x. not (laterThan m e x)) (held b) =

@@ -7,7 +7,7 @@ use native.Mathlib.Omega.{arith}
 use lib.ListN.{length, take, length-take}
 use lib.Seq.{take-append-seam}
 use Rattle.timestamp.specs.declared.Timestamp.{Timestamp}
-use Rattle.command.specs.declared.Entry.{Entry}
+use Rattle.command.specs.Entries.{Entry, stampIn, handleIn, plainEntry}
 use Rattle.command.specs.declared.CommandBuffer.{CommandBuffer}
 use Rattle.command.specs.Buffer.{held, blank, laid, leaving}
 use Rattle.command.specs.Lists.{filterB}

@@ -8,7 +8,7 @@ use lib.Dec.{ltb}
 use lib.ListN.{length, length-append}
 use borrow.Author.Tests.{ltb-true, ltb-false}
 use Rattle.timestamp.specs.declared.Timestamp.{Timestamp}
-use Rattle.command.specs.declared.Entry.{Entry}
+use Rattle.command.specs.Entries.{Entry, stampIn, handleIn, plainEntry}
 use Rattle.command.specs.declared.CommandBuffer.{CommandBuffer}
 use Rattle.command.specs.declared.Outcome.the-variants.{Taken, OutOfRange, Full}
 use Rattle.command.specs.Lists.{filterB}

@@ -1,4 +1,5 @@
 pub mod Lists
+pub mod Entries
 pub mod Holding
 pub mod Ranks
 pub mod Applying

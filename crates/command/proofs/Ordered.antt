@@ -9,7 +9,7 @@ use lib.Dec.{leb}
 use borrow.Author.Tests.{le-leb, lt-leb, leb-true}
 use Rattle.timestamp.specs.declared.Timestamp.{Timestamp}
 use Rattle.timestamp.proofs.Tests.{apart, both}
-use Rattle.command.specs.declared.Entry.{Entry}
+use Rattle.command.specs.Entries.{Entry, stampIn, handleIn, plainEntry}
 use Rattle.command.specs.Lists.{filterB, allB}
 use Rattle.command.specs.Buffer.{inRangeOf, laterThan, placedOf}
 use Rattle.command.specs.Ranks.{rankOf}
@@ -21,12 +21,12 @@ use Rattle.command.proofs.Ranks.{rankIn, in-range-rank, later-rank}
 pub in-range-tells : (m : Timestamp) (e : Entry) → inRangeOf m e ≡ true → (16385 ≤ rankIn m e) × (rankIn m e ≤ 49150)
 unfolding inRangeOf
 in-range-tells m e h =
-    let a = apart (leb 16385 (rankIn m e)) (leb (rankIn m e) 49150) (sym (in-range-rank (m .0) (e .stamp .0)) ∙ h) in
+    let a = apart (leb 16385 (rankIn m e)) (leb (rankIn m e) 49150) (sym (in-range-rank (m .0) (stampIn e)) ∙ h) in
     (leb-true 16385 (rankIn m e) (a .0), leb-true (rankIn m e) 49150 (a .1))
 
 pub in-range-holds : (m : Timestamp) (e : Entry) → 16385 ≤ rankIn m e → rankIn m e ≤ 49150 → inRangeOf m e ≡ true
 unfolding inRangeOf
-in-range-holds m e low high = in-range-rank (m .0) (e .stamp .0) ∙ both (le-leb 16385 (rankIn m e) low) (le-leb (rankIn m e) 49150 high)
+in-range-holds m e low high = in-range-rank (m .0) (stampIn e) ∙ both (le-leb 16385 (rankIn m e) low) (le-leb (rankIn m e) 49150 high)
 
 -- each entry is in range, none ranks below lo, and none below one before it
 abbrev pub Ordered : Timestamp → ℕ → List Entry → Type 0
@@ -111,7 +111,7 @@ ordered-moved m t lo low (x ∷ xs) f s =
           f x (s .0) (s .1) (s .2) (i .0) (i .1),
           i .0,
           i .1,
-          r (λ y a b c d g. order-kept (x .stamp .0) (y .stamp .0) (m .0) (t .0) (s .1) (s .2) b c (i .0) (i .1) d g a),
+          r (λ y a b c d g. order-kept (stampIn x) (stampIn y) (m .0) (t .0) (s .1) (s .2) b c (i .0) (i .1) d g a),
         )
     step false e r n = n
 

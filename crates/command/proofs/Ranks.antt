@@ -12,13 +12,13 @@ use Rattle.timestamp.specs.declared.Timestamp.{Timestamp}
 use Rattle.timestamp.specs.Timestamps.{differenceOf, sumOf, signedOf, inRange}
 use Rattle.timestamp.proofs.Basics.{split}
 use Rattle.timestamp.proofs.Signed.{signed-low, signed-high}
-use Rattle.command.specs.declared.Entry.{Entry}
+use Rattle.command.specs.Entries.{Entry, stampIn, handleIn, plainEntry}
 use Rattle.command.specs.Buffer.{inRangeOf, dueOf, laterThan}
 use Rattle.command.specs.Ranks.{rankOf, spanned, rankWithin}
 
 -- the rank of an entry around m
 abbrev pub rankIn : Timestamp → Entry → ℕ
-rankIn m e = rankOf (m .0) (e .stamp .0)
+rankIn m e = rankOf (m .0) (stampIn e)
 
 pub rank-lt : (m s : ℕ) → rankOf m s < 65536
 unfolding rankOf
@@ -72,15 +72,15 @@ in-range-rank m s =
 pub due-rank : (s : Timestamp) (e : Entry) → dueOf s e ≡ leb (rankIn s e) 32768
 unfolding dueOf rankOf
 due-rank s e =
-    let d = differenceOf (e .stamp .0) (s .0) in
+    let d = differenceOf (stampIn e) (s .0) in
     let none : signedOf 0 ≡ pos 0 = signed-low 0 (omega arith) in
-    ap (λ (z : ℤ). leZ (signedOf d) z) (sym none) ∙ signed-order d 0 (difference-lt (e .stamp .0) (s .0)) (omega arith)
+    ap (λ (z : ℤ). leZ (signedOf d) z) (sym none) ∙ signed-order d 0 (difference-lt (stampIn e) (s .0)) (omega arith)
 
 -- later, by the rank
 pub later-rank : (m : Timestamp) (e x : Entry) → laterThan m e x ≡ not (leb (rankIn m x) (rankIn m e))
 unfolding laterThan rankOf
-later-rank m e x = ap not (signed-order (differenceOf (x .stamp .0) (m .0)) (differenceOf (e .stamp .0) (m .0)) (difference-lt (x .stamp .0) (m .0))
-    (difference-lt (e .stamp .0) (m .0)))
+later-rank m e x = ap not (signed-order (differenceOf (stampIn x) (m .0)) (differenceOf (stampIn e) (m .0)) (difference-lt (stampIn x) (m .0))
+    (difference-lt (stampIn e) (m .0)))
 
 -- ---- spans
 
@@ -94,7 +94,7 @@ below-next k n hi e = elim (split n k) [
 -- the accepted range
 pub span-in-range : (m : Timestamp) (lo hi : ℕ) → lo ≡ 16385 → hi ≡ 49151 → (e : Entry) → rankWithin m lo hi e ≡ inRangeOf m e
 unfolding spanned inRangeOf
-span-in-range m lo hi el eh e = rw (el, below-next (rankIn m e) 49150 hi eh) (sym (in-range-rank (m .0) (e .stamp .0)))
+span-in-range m lo hi el eh e = rw (el, below-next (rankIn m e) 49150 hi eh) (sym (in-range-rank (m .0) (stampIn e)))
 
 from-zero : (k lo : ℕ) → lo ≡ 0 → leb lo k ≡ true
 from-zero k lo e = le-leb lo k (omega arith)
@@ -119,7 +119,7 @@ pub span-from : (m : Timestamp) (lo hi : ℕ) → hi ≡ 65536 → (e : Entry) �
 unfolding spanned
 span-from m lo hi eh e =
     let k = rankIn m e in
-    let top : ltb k hi ≡ true = lt-ltb k hi (omega (arith, rank-lt (m .0) (e .stamp .0))) in
+    let top : ltb k hi ≡ true = lt-ltb k hi (omega (arith, rank-lt (m .0) (stampIn e))) in
     elim (split k lo) [
       | inl l ↦ simp (lt-leb lo k l, lt-ltb k lo l, le-leb 0 k (omega arith))
       | inr l ↦ simp (le-leb lo k l, le-ltb k lo l, le-leb 0 k (omega arith), top)
@@ -128,4 +128,4 @@ span-from m lo hi eh e =
 -- every rank
 pub span-all : (m : Timestamp) (lo hi : ℕ) → lo ≡ 0 → hi ≡ 65536 → (e : Entry) → rankWithin m lo hi e ≡ true
 unfolding spanned
-span-all m lo hi el eh e = simp (from-zero (rankIn m e) lo el, lt-ltb (rankIn m e) hi (omega (arith, rank-lt (m .0) (e .stamp .0))))
+span-all m lo hi el eh e = simp (from-zero (rankIn m e) lo el, lt-ltb (rankIn m e) hi (omega (arith, rank-lt (m .0) (stampIn e))))

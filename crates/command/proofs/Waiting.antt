@@ -10,7 +10,7 @@ use lib.ListN.{length}
 use borrow.Author.Tests.{le-leb, lt-leb, lt-ltb, eq-eqb, ne-eqb}
 use Rattle.timestamp.specs.declared.Timestamp.{Timestamp}
 use Rattle.timestamp.proofs.Basics.{split}
-use Rattle.command.specs.declared.Entry.{Entry}
+use Rattle.command.specs.Entries.{Entry, stampIn, handleIn, plainEntry}
 use Rattle.command.specs.declared.CommandBuffer.{CommandBuffer}
 use Rattle.command.specs.Lists.{filterB}
 use Rattle.command.specs.Buffer.{held, inRangeOf, dueOf, droppedOf, movedOf, takenOf}
@@ -34,7 +34,7 @@ span-both : (t : Timestamp) (e : Entry) → rankWithin t 32769 49151 e ≡ rankW
 unfolding spanned
 span-both t e =
     let k = rankIn t e in
-    let top : ltb k 65536 ≡ true = lt-ltb k 65536 (rank-lt (t .0) (e .stamp .0)) in
+    let top : ltb k 65536 ≡ true = lt-ltb k 65536 (rank-lt (t .0) (stampIn e)) in
     elim (split k 32769) [
       | inl l ↦ simp (lt-leb 32769 k l)
       | inr l ↦ simp (le-leb 32769 k l, top, le-leb 16385 k (omega arith))

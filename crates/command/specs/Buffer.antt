@@ -14,7 +14,7 @@ use Rattle.refusals.specs.Limits.{bufferRoom}
 use Rattle.tape.specs.Words.{commandWord}
 use Rattle.tape.specs.Tape.{written}
 use Rattle.command.specs.Lists.{filterB, pad}
-use Rattle.command.specs.declared.Entry.{Entry}
+use Rattle.command.specs.Entries.{Entry, stampIn, handleIn}
 use Rattle.command.specs.declared.CommandBuffer.{CommandBuffer}
 use Rattle.command.specs.declared.Insertion.{Insertion}
 use Rattle.command.specs.declared.Moved.{Moved}
@@ -29,7 +29,7 @@ held b = take (b .len) (b .entries)
 
 -- what an unused slot holds in a buffer that is laid out
 abbrev pub blank : Entry
-blank = record { stamp = record { 0 = 0 }; handle = 0 }
+blank = 0
 
 -- the buffer of given entries and midpoint, its unused slots blank
 unfoldable pub laid : List Entry → Timestamp → CommandBuffer
@@ -37,11 +37,11 @@ laid xs t = record { entries = pad bufferRoom blank xs; len = length xs; timesta
 
 -- the signed difference of an entry's stamp to a stamp
 abbrev pub signedTo : Timestamp → Entry → ℤ
-signedTo s e = signedOf (differenceOf (e .stamp .0) (s .0))
+signedTo s e = signedOf (differenceOf (stampIn e) (s .0))
 
 -- an entry is in the accepted range around the midpoint m
 unfoldable pub inRangeOf : Timestamp → Entry → Bool
-inRangeOf m e = inRange (m .0) (e .stamp .0)
+inRangeOf m e = inRange (m .0) (stampIn e)
 
 -- a drain up to s takes an entry: its signed difference to s is at most 0
 unfoldable pub dueOf : Timestamp → Entry → Bool
@@ -114,7 +114,7 @@ drainedAllOf b = record { buffer = emptiedOf b; count = length (held b) }
 
 -- the words of commands applied to a side, in their order
 unfoldable pub commandWords : ℕ → List Entry → List ℕ
-commandWords side xs = map (λ e. commandWord side (e .handle)) xs
+commandWords side xs = map (λ e. commandWord side (handleIn e)) xs
 
 -- a drain up to s to the tape `was`: what is left, the next place, and the command words of what is taken
 pub record Applies (b : CommandBuffer) (s : Timestamp) (side place : ℕ) (was : List ℕ) (r : Applied) (last : List ℕ) : Type 0 where

@@ -8,7 +8,7 @@ use lib.ListN.{length}
 use Rattle.refusals.specs.Limits.{bufferRoom}
 use Rattle.timestamp.specs.declared.Timestamp.{Timestamp}
 use Rattle.timestamp.specs.Timestamps.{differenceOf, sumOf}
-use Rattle.command.specs.declared.Entry.{Entry}
+use Rattle.command.specs.Entries.{Entry, stampIn, plainEntry}
 use Rattle.command.specs.declared.CommandBuffer.{CommandBuffer}
 use Rattle.command.specs.declared.Drained.{Drained}
 use Rattle.command.specs.Lists.{filterB}
@@ -24,7 +24,7 @@ spanned m lo hi s = leb lo (rankOf m s) && ltb (rankOf m s) hi
 
 -- the same of an entry's stamp
 abbrev pub rankWithin : Timestamp → ℕ → ℕ → Entry → Bool
-rankWithin m lo hi e = spanned (m .0) lo hi (e .stamp .0)
+rankWithin m lo hi e = spanned (m .0) lo hi (stampIn e)
 
 -- a buffer that is laid out has room for the entries of another that are of such a rank
 pub record HasRoom (a b : CommandBuffer) (m : Timestamp) (lo hi : ℕ) : Type 0 where
@@ -41,6 +41,6 @@ siftedOf b m lo hi =
 unfoldable pub waitsOf : CommandBuffer → Timestamp → Bool
 waitsOf b t = eqb (length (takenOf b t)) 0 && eqb (movedOf b t .dropped) 0
 
--- an entry of rank k is in range and not before rank lo, and its handle is within 24 bits
-unfoldable pub soundRank : ℕ → ℕ → ℕ → Bool
-soundRank k lo handle = leb lo k && leb 16385 k && leb k 49150 && leb handle 16777215
+-- an entry of rank k is in range and not before rank lo, and has no spare bit set
+unfoldable pub soundRank : ℕ → ℕ → Entry → Bool
+soundRank k lo e = leb lo k && leb 16385 k && leb k 49150 && plainEntry e

@@ -1,11 +1,12 @@
--- A sound buffer, by document 01's "Sound" under "Turned down by the session": counts within limits, entries in order and range, every handle within 24 bits.
+-- A sound buffer, by document 01's "Sound" under "Turned down by the session": counts within limits, entries in order and range, every handle within 24 bits. An
+-- entry is a word, so that its spare bits are 0 is part of it.
 -- Definitions only. Assumes nothing.
 use mathlib.Core.List.{List, [], _∷_}
 use mathlib.Core.Bool.{Bool, true, not, _&&_}
-use lib.Dec.{leb, ltb}
-use Rattle.refusals.specs.Limits.{handleRoom, bufferRoom}
+use lib.Dec.{leb}
+use Rattle.refusals.specs.Limits.{bufferRoom}
 use Rattle.timestamp.specs.declared.Timestamp.{Timestamp}
-use Rattle.command.specs.declared.Entry.{Entry}
+use Rattle.command.specs.Entries.{Entry, plainEntry}
 use Rattle.command.specs.declared.CommandBuffer.{CommandBuffer}
 use Rattle.command.specs.Lists.{allB}
 use Rattle.command.specs.Buffer.{held, inRangeOf, laterThan}
@@ -24,10 +25,6 @@ inOrder m (x ∷ xs) = inOrderAfter m x xs
 abbrev pub orderedIn : Timestamp → List Entry → Bool
 orderedIn m xs = inOrder m xs && allB (inRangeOf m) xs
 
--- a handle is within 24 bits
-abbrev pub smallHandle : Entry → Bool
-smallHandle e = ltb (e .handle) handleRoom
-
 -- a buffer is sound; what its unused slots hold does not matter
 unfoldable pub soundBuffer : CommandBuffer → Bool
-soundBuffer b = leb (b .len) bufferRoom && orderedIn (b .timestamp) (held b) && allB smallHandle (held b)
+soundBuffer b = leb (b .len) bufferRoom && orderedIn (b .timestamp) (held b) && allB plainEntry (held b)

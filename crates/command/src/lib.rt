@@ -1,7 +1,7 @@
 // Commands by stamp: received in any order, handed out oldest first. What src/command.rs of crystalorb holds, with an array and a count in
 // place of its `BTreeMap`. A buffer has room for 64 entries, and its meaning is the list of the first `len` of its slots; the other slots may
 // hold anything. An operation that takes nothing from a buffer leaves its slots as they are; one that changes it lays it out anew, its unused
-// slots blank. Every function is total: a count over 64 reads as 64.
+// slots blank. Every function is total: a count over 64 reads as 64. An entry is one word: the stamp of its frame, and the command's handle.
 use tape::command_word;
 use tape::put;
 use timestamp::Timestamp;
@@ -13,19 +13,14 @@ ghost use lib.ListN.{length};
 ghost use Rattle.refusals.specs.Limits.{bufferRoom};
 ghost use Rattle.tape.specs.Tape.{Puts};
 ghost use Rattle.command.specs.Lists.{filterB};
-ghost use Rattle.command.specs.Buffer.{held, laid, insertedOf, movedOf, drainedOf, drainedAllOf, commandWords, Applies, AppliesAll};
+ghost use Rattle.command.specs.Entries.{entryOf, stampIn, handleIn, plainEntry};
+ghost use Rattle.command.specs.Buffer.{held, laid, inRangeOf, insertedOf, movedOf, drainedOf, drainedAllOf, commandWords, Applies, AppliesAll};
 ghost use Rattle.command.specs.Soundness.{soundBuffer};
-ghost use Rattle.command.specs.Ranks.{rankOf, spanned, rankWithin, siftedOf, waitsOf, soundRank, HasRoom};
-
-// A command's handle, with the stamp of the frame that it is for.
-pub struct Entry {
-    pub stamp: Timestamp,
-    pub handle: u32,
-}
+ghost use Rattle.command.specs.Ranks.{rankOf, rankWithin, siftedOf, waitsOf, soundRank, HasRoom};
 
 // The entries with their count, and the midpoint of the range of stamps that are accepted, which the Rust calls the timestamp.
 pub struct CommandBuffer {
-    pub entries: [Entry; 64],
+    pub entries: [u64; 64],
     pub len: usize,
     pub timestamp: Timestamp,
 }
@@ -61,15 +56,43 @@ pub struct Applied {
     pub at: usize,
 }
 
+// The entry of a command: the stamp of the frame that it is for, times 2^32, and its handle.
+pub fn entry_of(stamp: Timestamp, handle: u32) -> u64
+    ensures { λ r. ⌜ r ≡ entryOf stamp handle ⌝ }
+{
+    (stamp.0 as u64) * 4294967296 + (handle as u64)
+}
+
+// The stamp of an entry.
+pub fn stamp_of(entry: u64) -> Timestamp
+    ensures { λ r. ⌜ r .0 ≡ stampIn entry ⌝ }
+{
+    Timestamp((entry / 4294967296 % 65536) as u16)
+}
+
+// The handle of an entry.
+pub fn handle_of(entry: u64) -> u32
+    ensures { λ r. ⌜ r ≡ handleIn entry ⌝ }
+{
+    (entry % 4294967296) as u32
+}
+
+// Whether an entry's handle is within 24 bits, and its bits above the stamp are 0.
+fn is_plain(entry: u64) -> bool
+    ensures { λ r. ⌜ r ≡ plainEntry entry ⌝ }
+{
+    if entry < 281474976710656 {
+        return handle_of(entry) < refusals::HANDLE_ROOM;
+    }
+    false
+}
+
 // A buffer that holds nothing.
 pub fn new(timestamp: Timestamp) -> CommandBuffer
     ensures { λ r. ⌜ r ≡ laid [] timestamp ⌝ }
 {
     CommandBuffer {
-        entries: [Entry {
-            stamp: Timestamp(0),
-            handle: 0,
-        }; 64],
+        entries: [0; 64],
         len: 0,
         timestamp,
     }
@@ -114,12 +137,11 @@ pub fn waits(buffer: CommandBuffer, t: Timestamp) -> bool
 }
 
 // Takes an entry that is in range, if there is room, after all entries that are not later than it.
-pub fn insert(buffer: CommandBuffer, entry: Entry) -> Insertion
+pub fn insert(buffer: CommandBuffer, entry: u64) -> Insertion
     ensures { λ r. ⌜ r ≡ insertedOf buffer entry ⌝ }
 {
     let m = buffer.timestamp;
-    let stamp = entry.stamp;
-    if !stamp.in_comparable_range(m) {
+    if !in_range(entry, m) {
         return Insertion {
             outcome: Outcome::OutOfRange,
             buffer,
@@ -131,7 +153,7 @@ pub fn insert(buffer: CommandBuffer, entry: Entry) -> Insertion
             buffer,
         };
     }
-    let next = rank_of(stamp, m) + 1;
+    let next = rank_in(entry, m) + 1;
     let before = extend(new(m), buffer, m, 0, next);
     let with = push(before, entry);
     let all = extend(with, buffer, m, next, 65536);
@@ -211,8 +233,8 @@ pub fn sound(buffer: CommandBuffer) -> bool
     let mut i: usize = 0;
     while i < n {
         let e = buffer.entries[i];
-        let k = rank_of(e.stamp, m);
-        if !entry_sound(k, lo, e.handle) {
+        let k = rank_in(e, m);
+        if !entry_sound(k, lo, e) {
             return false;
         }
         lo = k;
@@ -221,9 +243,9 @@ pub fn sound(buffer: CommandBuffer) -> bool
     true
 }
 
-// Whether an entry of rank k is in range and not before rank lo, and its handle within 24 bits.
-fn entry_sound(k: u32, lo: u32, handle: u32) -> bool
-    ensures { λ r. ⌜ r ≡ soundRank k lo handle ⌝ }
+// Whether an entry of rank k is in range and not before rank lo, and has no spare bit set.
+fn entry_sound(k: u32, lo: u32, entry: u64) -> bool
+    ensures { λ r. ⌜ r ≡ soundRank k lo entry ⌝ }
 {
     if k < lo {
         return false;
@@ -234,7 +256,7 @@ fn entry_sound(k: u32, lo: u32, handle: u32) -> bool
     if 49150 < k {
         return false;
     }
-    handle <= 16777215
+    is_plain(entry)
 }
 
 // The rank of a stamp around m: its signed difference to m, plus 32,768. Ranks stand in the order of the signed differences.
@@ -245,16 +267,30 @@ fn rank_of(s: Timestamp, m: Timestamp) -> u32
     d.add(32768).0 as u32
 }
 
-// Whether the rank of a stamp around m is lo or more, and below hi.
-fn ranks_between(s: Timestamp, m: Timestamp, lo: u32, hi: u32) -> bool
-    ensures { λ r. ⌜ r ≡ spanned (m .0) lo hi (s .0) ⌝ }
+// Whether an entry is in the accepted range around m.
+fn in_range(entry: u64, m: Timestamp) -> bool
+    ensures { λ r. ⌜ r ≡ inRangeOf m entry ⌝ }
 {
-    let k = rank_of(s, m);
+    stamp_of(entry).in_comparable_range(m)
+}
+
+// The rank of an entry's stamp around m.
+fn rank_in(entry: u64, m: Timestamp) -> u32
+    ensures { λ r. ⌜ r ≡ rankOf (m .0) (stampIn entry) ⌝ }
+{
+    rank_of(stamp_of(entry), m)
+}
+
+// Whether the rank of an entry around m is lo or more, and below hi.
+fn ranks_between(entry: u64, m: Timestamp, lo: u32, hi: u32) -> bool
+    ensures { λ r. ⌜ r ≡ rankWithin m lo hi entry ⌝ }
+{
+    let k = rank_in(entry, m);
     lo <= k && k < hi
 }
 
 // One entry more, at the end.
-fn push(b: CommandBuffer, e: Entry) -> CommandBuffer
+fn push(b: CommandBuffer, e: u64) -> CommandBuffer
     requires { ⌜ (b ≡ laid (held b) (b .timestamp)) × (length (held b) + 1 ≤ bufferRoom) ⌝ }
     ensures { λ r. ⌜ r ≡ laid (held b ++ (e ∷ [])) (b .timestamp) ⌝ }
 {
@@ -278,7 +314,7 @@ fn extend(a: CommandBuffer, b: CommandBuffer, m: Timestamp, lo: u32, hi: u32) ->
     while i < n {
         let e = b.entries[i];
         i += 1;
-        if ranks_between(e.stamp, m, lo, hi) {
+        if ranks_between(e, m, lo, hi) {
             out[k] = e;
             k += 1;
         }
@@ -300,7 +336,7 @@ fn count_outside(b: CommandBuffer, m: Timestamp, lo: u32, hi: u32) -> usize
     while i < n {
         let e = b.entries[i];
         i += 1;
-        if !ranks_between(e.stamp, m, lo, hi) {
+        if !ranks_between(e, m, lo, hi) {
             k += 1;
         }
     }
@@ -345,8 +381,8 @@ fn apply_between(
     while i < n {
         let e = b.entries[i];
         i += 1;
-        if ranks_between(e.stamp, m, lo, hi) {
-            p = put(tape, p, command_word(side, e.handle));
+        if ranks_between(e, m, lo, hi) {
+            p = put(tape, p, command_word(side, handle_of(e)));
         }
     }
     p

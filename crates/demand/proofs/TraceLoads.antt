@@ -10,7 +10,7 @@ use lib.Ieee.{Float}
 use Rattle.timestamp.specs.declared.Timestamp.{Timestamp}
 use Rattle.tape.specs.Words.{kindOf, stepWord, publishWord, noneWord, weightWords, mixWords, snapshotWords}
 use Rattle.tape.proofs.Reading.{kind-of-step, kind-of-command, kind-of-snapshot, kind-of-publish, kind-of-mix, kind-of-weight, kind-of-none}
-use Rattle.command.specs.declared.Entry.{Entry}
+use Rattle.command.specs.Entries.{Entry, handleIn}
 use Rattle.command.specs.Buffer.{held, takenOf, movedOf, commandWords}
 use Rattle.simulation.specs.declared.Simulation.{Simulation}
 use Rattle.simulation.specs.World.{nextStamp, stepOf, resetsBack, keptOf, flushedOf, resetOf}
@@ -53,7 +53,7 @@ loads-pass w k ws e h = rw (e, h) (omega arith)
 loads-commands : (side : ℕ) (es : List Entry) → snapshotWords (commandWords side es) ≡ 0
 unfolding commandWords snapshotWords
 loads-commands side [] = refl
-loads-commands side (e ∷ es) = rw (kind-of-command side (e .handle)) (omega (arith, loads-commands side es))
+loads-commands side (e ∷ es) = rw (kind-of-command side (handleIn e)) (omega (arith, loads-commands side es))
 
 loads-none : snapshotWords [] ≡ 0
 unfolding snapshotWords

@@ -8,6 +8,7 @@ use Rattle.inbox.specs.declared.Message.{Message}
 use Rattle.inbox.specs.declared.Message.the-variants.{Command, Snapshot, Clock, BadTime, WrongWord, CutShort}
 use Rattle.inbox.specs.Inbox.{messagesOf, some}
 use Rattle.inbox.specs.Passes.{over}
+use Rattle.command.specs.Entries.{entryOf}
 use Rattle.clocksync.specs.declared.Heard.{Heard}
 use Rattle.clocksync.specs.Clock.{heardOf}
 use Rattle.client.specs.declared.Received.{Received}
@@ -51,7 +52,7 @@ heardIn seconds words h = over (hearOne seconds) h (messagesOf words)
 
 -- a command is received
 abbrev pub receiveOne : Received → Message → Received
-receiveOne r (Command s h) = alsoFull (r .full) (receivedOf (r .scene) (record { stamp = s; handle = h }))
+receiveOne r (Command s h) = alsoFull (r .full) (receivedOf (r .scene) (entryOf s h))
 receiveOne r (Snapshot s h) = r
 receiveOne r (Clock i s t) = r
 receiveOne r BadTime = r

@@ -8,7 +8,6 @@ use client::Received;
 use client::Snapshots;
 use client::sides;
 use clocksync::Heard;
-use command::Entry;
 use inbox::Message;
 use inbox::reader;
 use timestamp::Timestamp;
@@ -120,7 +119,7 @@ pub(crate) fn receive_one(a: Received, m: Message) -> Received
     match m {
         Message::Command { stamp, handle } => {
             let was = a.scene;
-            let next = client_receive::receive_command(was, Entry { stamp, handle });
+            let next = client_receive::receive_command(was, command::entry_of(stamp, handle));
             if a.full {
                 let scene = next.scene;
                 return Received { scene, full: true };

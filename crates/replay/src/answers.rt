@@ -139,7 +139,7 @@ fn entries(out: &mut Out, at: usize, b: CommandBuffer) -> usize {
         }
         let e = all[i];
         n = comma(out, n, i);
-        n = entry(out, n, e.stamp, e.handle);
+        n = entry(out, n, command::stamp_of(e), command::handle_of(e));
         i += 1;
     }
     n

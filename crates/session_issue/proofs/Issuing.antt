@@ -17,20 +17,21 @@ use Rattle.session_state.specs.declared.Session.{Session}
 use Rattle.session_state.specs.Session.{hasWorlds, isReady}
 use Rattle.session_state.specs.Sound.{soundOf}
 use Rattle.session_issue.specs.declared.IssueAnswer.{IssueAnswer}
+use Rattle.command.specs.Entries.{Entry, entryOf}
 use Rattle.session_state.specs.Session.{sceneOf}
 use Rattle.session_issue.specs.Issue.{unissued, issuedOf}
-use Rattle.session_issue.specs.Issue.{entryOf, receivedNow, issueRefusalOf, issueOf}
+use Rattle.session_issue.specs.Issue.{issueStamp, receivedNow, issueRefusalOf, issueOf}
 
-module _ (s : Session) (h : ℕ) {scene : Scene} {old stamp : Timestamp} {got : Received} {b p w y : Bool} {n : ℕ}
+module _ (s : Session) (h : ℕ) {scene : Scene} {old stamp : Timestamp} {e : Entry} {got : Received} {b p w y : Bool} {n : ℕ}
     (ho : old ≡ oldStampOf (s .worlds)) (hst : stamp .0 ≡ sumOf (old .0) 1) (hs : scene ≡ sceneOf s)
-    (hg : got ≡ receivedOf scene (record { stamp = stamp; handle = h }))
+    (he : e ≡ entryOf stamp h) (hg : got ≡ receivedOf scene e)
     (hp : p ≡ soundOf s) (hb : b ≡ ltb h handleRoom) (hw : w ≡ hasWorlds (s .stage)) (hy : y ≡ isReady (s .stage))
     (hn : n ≡ issueRefusalBy b p w (got .full) y) where
-  stamp-is : stamp ≡ entryOf s h .stamp
+  stamp-is : stamp ≡ issueStamp s
   stamp-is = λ i. record { 0 = (hst ∙ ap (λ (t : Timestamp). sumOf (t .0) 1) ho) i }
 
   got-is : got ≡ receivedNow s h
-  got-is = hg ∙ (λ i. receivedOf (hs i) (record { stamp = stamp-is i; handle = h }))
+  got-is = hg ∙ (λ i. receivedOf (hs i) ((he ∙ ap (λ (t : Timestamp). entryOf t h) stamp-is) i))
 
   refusal-is : n ≡ issueRefusalOf s h
   refusal-is = hn ∙ (λ i. issueRefusalBy (hb i) (hp i) (hw i) (got-is i .full) (hy i))
@@ -39,10 +40,10 @@ module _ (s : Session) (h : ℕ) {scene : Scene} {old stamp : Timestamp} {got : 
   unfolding issueOf
   issue-refused k e =
       e ∙ (λ i. unissued (refusal-is i) s) ∙ (λ i. cond (sym (ne-eqb (issueRefusalOf s h) 0 (λ z. k (refusal-is ∙ z))) i)
-      (issuedOf s (entryOf s h .stamp) (receivedNow s h)) (unissued (issueRefusalOf s h) s))
+      (issuedOf s (issueStamp s) (receivedNow s h)) (unissued (issueRefusalOf s h) s))
 
   pub issue-accepted : {r : IssueAnswer} → n ≡ 0 → r ≡ issuedOf s stamp got → r ≡ issueOf s h
   unfolding issueOf
   issue-accepted k e =
       e ∙ (λ i. issuedOf s (stamp-is i) (got-is i)) ∙ (λ i. cond (sym (eq-eqb (issueRefusalOf s h) 0 (sym refusal-is ∙ k)) i)
-      (issuedOf s (entryOf s h .stamp) (receivedNow s h)) (unissued (issueRefusalOf s h) s))
+      (issuedOf s (issueStamp s) (receivedNow s h)) (unissued (issueRefusalOf s h) s))

@@ -6,7 +6,7 @@ use lib.Dec.{eqb, ltb}
 use Rattle.refusals.specs.Limits.{handleRoom}
 use Rattle.refusals.specs.Refusals.{accepted, issueRefusalBy}
 use Rattle.timestamp.specs.Timestamps.{sumOf}
-use Rattle.command.specs.declared.Entry.{Entry}
+use Rattle.command.specs.Entries.{Entry, entryOf}
 use Rattle.client.specs.declared.Received.{Received}
 use Rattle.timestamp.specs.declared.Timestamp.{Timestamp}
 use Rattle.client.specs.Ledgers.{emptyLedger, closedOf}
@@ -36,13 +36,17 @@ issuedOf s t r =
 
 -- ---- the call
 
--- the entry of a command issued now: its stamp is the one after the old stamp
-abbrev pub entryOf : Session → ℕ → Entry
-entryOf s h = record { stamp = record { 0 = sumOf (oldStampOf (s .worlds) .0) 1 }; handle = h }
+-- the stamp of a command issued now: the one after the old stamp
+abbrev pub issueStamp : Session → Timestamp
+issueStamp s = record { 0 = sumOf (oldStampOf (s .worlds) .0) 1 }
+
+-- its entry
+abbrev pub issuedEntry : Session → ℕ → Entry
+issuedEntry s h = entryOf (issueStamp s) h
 
 -- the worlds receive it
 abbrev pub receivedNow : Session → ℕ → Received
-receivedNow s h = receivedOf (sceneOf s) (entryOf s h)
+receivedNow s h = receivedOf (sceneOf s) (issuedEntry s h)
 
 -- the refusal of an issue
 abbrev pub issueRefusalOf : Session → ℕ → ℕ
@@ -50,4 +54,4 @@ issueRefusalOf s h = issueRefusalBy (ltb h handleRoom) (soundOf s) (hasWorlds (s
 
 -- issue
 unfoldable pub issueOf : Session → ℕ → IssueAnswer
-issueOf s h = cond (eqb (issueRefusalOf s h) accepted) (issuedOf s (entryOf s h .stamp) (receivedNow s h)) (unissued (issueRefusalOf s h) s)
+issueOf s h = cond (eqb (issueRefusalOf s h) accepted) (issuedOf s (issueStamp s) (receivedNow s h)) (unissued (issueRefusalOf s h) s)

@@ -5,7 +5,6 @@ use client::Ledger;
 use client::Received;
 use client::ledgers;
 use client::sides;
-use command::Entry;
 use session_state::Session;
 use timestamp::Timestamp;
 
@@ -58,7 +57,7 @@ pub fn issue(session: Session, handle: u32) -> IssueAnswer
     let stamp = sides::last_completed_timestamp(session.worlds).add(1);
     let r = client_receive::receive_command(
         session_state::scene_of(session),
-        Entry { stamp, handle },
+        command::entry_of(stamp, handle),
     );
     let sound = session_state::is_sound(session);
     let n = refusals::of_issue(

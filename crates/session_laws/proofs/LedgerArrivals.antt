@@ -5,7 +5,7 @@ use native.Mathlib.Omega.{arith}
 use lib.ListN.{length}
 use Rattle.timestamp.specs.declared.Timestamp.{Timestamp}
 use Rattle.command.specs.declared.CommandBuffer.{CommandBuffer}
-use Rattle.command.specs.declared.Entry.{Entry}
+use Rattle.command.specs.Entries.{Entry}
 use Rattle.command.specs.declared.Outcome.{Outcome}
 use Rattle.command.specs.declared.Outcome.the-variants.{Taken, OutOfRange, Full}
 use Rattle.command.specs.Buffer.{held, insertedOf, takenBy}

@@ -19,6 +19,7 @@ use Rattle.inbox.specs.Passes.{over}
 use Rattle.inbox_refusal.proofs.Refusals.{accepted-few}
 use Rattle.command.specs.Buffer.{held}
 use Rattle.command.proofs.Soundness.{sound-few}
+use Rattle.command.specs.Entries.{entryOf}
 use Rattle.client.specs.declared.ClientWorldSimulations.{ClientWorldSimulations}
 use Rattle.client.specs.declared.DisplayTime.{DisplayTime}
 use Rattle.client.specs.declared.DisplayTime.the-variants.{NotDisplayed, DisplayedAt}
@@ -49,7 +50,7 @@ use Rattle.session_state.specs.Session.{sceneOf}
 use Rattle.client.specs.Ledgers.{closedOf}
 use Rattle.session_stage.specs.Stage.{stageAfter}
 use Rattle.session_issue.specs.Issue.{unissued}
-use Rattle.session_issue.specs.Issue.{receivedNow, entryOf, issueOf}
+use Rattle.session_issue.specs.Issue.{receivedNow, issuedEntry, issueOf}
 
 -- ---- what a sound session holds
 
@@ -89,7 +90,7 @@ messages-few zero (w ∷ ws) = omega (arith, messages-few (frontOf w ws .size - 
 messages-few (suc k) (w ∷ ws) = omega (arith, messages-few k ws)
 
 one-kept : {h n k : ℕ} (x : ℕ) (r : Received) (m : Message) → x < 2 → n + 2 < 2 ^ 64 → Kept x h n k (r .scene) → Kept x h (n + 2) k (receiveOne r m .scene)
-one-kept x r (Command t i) p z c = received-kept x (r .scene) (record { stamp = t; handle = i }) p z c
+one-kept x r (Command t i) p z c = received-kept x (r .scene) (entryOf t i) p z c
 one-kept x r (Snapshot t i) p z c = kept-more (omega arith) c
 one-kept x r (Timed i t u) p z c = kept-more (omega arith) c
 one-kept x r BadTime p z c = kept-more (omega arith) c
@@ -216,4 +217,4 @@ pub issue-settles : (x : ℕ) (s : Session) (i : ℕ) → x < 2 → hasWorlds (s
 issue-settles x s i p w =
     issue-by-ways (Issued x s) s i (λ n k. unissued-settles n x s w)
     (λ h f. closed-settles x s (withWorldsOf s (receivedNow s i .scene .worlds)) (receivedNow s i .scene) 0 p refl w refl
-    (received-kept x (sceneOf s) (entryOf s i) p (omega arith) (start-kept x s (sound-filled s f))))
+    (received-kept x (sceneOf s) (issuedEntry s i) p (omega arith) (start-kept x s (sound-filled s f))))

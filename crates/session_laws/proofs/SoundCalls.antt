@@ -17,6 +17,7 @@ use Rattle.settings.specs.Settings.{passesOf}
 use Rattle.settings.proofs.Limits.{timestep-within}
 use Rattle.refusals.specs.Limits.{handleRoom}
 use Rattle.refusals.proofs.Accepted.{open-accepted, open-refused}
+use Rattle.command.proofs.Entries.{entry-plain}
 use Rattle.client_publish.specs.Ending.{weightOk}
 use Rattle.clocksync.specs.declared.Clock.{Clock}
 use Rattle.clocksync.specs.declared.Offset.{Offset}
@@ -43,7 +44,7 @@ use Rattle.session.specs.Calls.{startOf, openOf, timesOk, clockAfter, requestOf
 use Rattle.session_answers.specs.Answers.{Reply, refusedWith, acceptedOf}
 use Rattle.session_stage.specs.Stage.{startedAt, syncedOf, stageAfter}
 use Rattle.session_state.specs.Session.{sceneOf}
-use Rattle.session_issue.specs.Issue.{entryOf, issueOf}
+use Rattle.session_issue.specs.Issue.{issueStamp, issuedEntry, issueOf}
 use Rattle.session_laws.proofs.SoundParts.{sound-facts, facts-sound, times-within, clock-after-sound, clock-after-timer, clock-after-slots}
 use Rattle.session_laws.proofs.SoundParts.{clock-after-ready, clock-after-first, server-within, scene-after-kept, scene-after-weighed}
 
@@ -290,17 +291,17 @@ update-stays-sound s delta seconds inbox len f h = go (update-back s delta secon
 -- ---- issue
 
 received-good : (s : Session) (h : ℕ) → h < handleRoom → soundOf s ≡ true
-    → soundOf (withWorldsOf s (receivedOf (sceneOf s) (entryOf s h) .scene .worlds)) ≡ true
+    → soundOf (withWorldsOf s (receivedOf (sceneOf s) (issuedEntry s h) .scene .worlds)) ≡ true
 received-good s h i k =
     let f = sound-facts s k in
-    let w = receivedOf (sceneOf s) (entryOf s h) .scene .worlds in
+    let w = receivedOf (sceneOf s) (issuedEntry s h) .scene .worlds in
     facts-sound (withWorldsOf s w)
     (record {
       settings = f .settings;
       clock = f .clock;
       connected = f .connected;
-      kept = received-kept (sceneOf s) (entryOf s h) i (f .kept);
-      weighed = received-weighed (sceneOf s) (entryOf s h) (f .weighed);
+      kept = received-kept (sceneOf s) (issuedEntry s h) (entry-plain (issueStamp s) h (omega arith) i) (f .kept);
+      weighed = received-weighed (sceneOf s) (issuedEntry s h) (f .weighed);
       overshoot = f .overshoot;
     })
 

@@ -37,6 +37,8 @@ use Rattle.clocksync.specs.Clock.{laidOut, heldOf, timedOf, tickedOf, listenOf,
 use Rattle.clocksync.specs.Clock.{serverSecondsOf, readyOf, offsetOk, soundClock}
 use Rattle.clocksync.proofs.Sound.{sample-within, measured-ok, clock-sound, clock-timer-fits}
 use Rattle.clocksync.proofs.Ready.{hasOffset, hasId, ready-id, heard-id, ready-stays, first-offset-ready}
+use Rattle.command.specs.Entries.{entryOf}
+use Rattle.command.proofs.Entries.{entry-plain}
 use Rattle.client.specs.declared.Queued.{Queued}
 use Rattle.client.specs.declared.Queued.the-variants.{Nothing, Held}
 use Rattle.client.specs.declared.ClientWorldSimulations.{ClientWorldSimulations}
@@ -337,7 +339,7 @@ server-within c o seconds pass w ok = go o ok
 -- ---- what arrives
 
 receive-kept : (r : Received) (m : Message) → Bounded m → Kept (r .scene .worlds) → Kept (receiveOne r m .scene .worlds)
-receive-kept r (Command s h) b k = received-kept (r .scene) (record { stamp = s; handle = h }) (b .1) k
+receive-kept r (Command s h) b k = received-kept (r .scene) (entryOf s h) (entry-plain s h (b .0) (b .1)) k
 receive-kept r (Snapshot s h) b k = k
 receive-kept r (Clock i s t) b k = k
 receive-kept r BadTime b k = k
@@ -345,7 +347,7 @@ receive-kept r WrongWord b k = k
 receive-kept r CutShort b k = k
 
 receive-weighed : (r : Received) (m : Message) → Bounded m → Weighed (r .scene .worlds) → Weighed (receiveOne r m .scene .worlds)
-receive-weighed r (Command s h) b k = received-weighed (r .scene) (record { stamp = s; handle = h }) k
+receive-weighed r (Command s h) b k = received-weighed (r .scene) (entryOf s h) k
 receive-weighed r (Snapshot s h) b k = k
 receive-weighed r (Clock i s t) b k = k
 receive-weighed r BadTime b k = k

@@ -8,7 +8,7 @@ use lib.Ieee.{Float, eq, le}
 use Rattle.timestamp.specs.Floats.{zero64, one64}
 use Rattle.timestamp.specs.declared.Timestamp.{Timestamp}
 use Rattle.command.specs.declared.CommandBuffer.{CommandBuffer}
-use Rattle.command.specs.declared.Entry.{Entry}
+use Rattle.command.specs.Entries.{Entry, plainEntry}
 use Rattle.command.specs.Buffer.{insertedOf, movedOf, restOf}
 use Rattle.command.specs.Soundness.{soundBuffer}
 use Rattle.command.proofs.Soundness.{new-sound, inserted-sound, moved-sound, rest-sound, emptied-sound}
@@ -282,7 +282,7 @@ pub scheduled-init : (w : Simulation) (e : Entry) → scheduledOf w e .world .in
 unfolding scheduledOf
 scheduled-init w e = refl
 
-pub scheduled-sound : (w : Simulation) (e : Entry) → e .handle < 2 ^ 24 → soundBuffer (w .commands) ≡ true
+pub scheduled-sound : (w : Simulation) (e : Entry) → plainEntry e ≡ true → soundBuffer (w .commands) ≡ true
     → soundBuffer (scheduledOf w e .world .commands) ≡ true
 unfolding scheduledOf
 scheduled-sound w e h k = inserted-sound (w .commands) e h k
@@ -293,7 +293,7 @@ scheduled-stamp w e = inserted-stamp (w .commands) e
 
 -- ---- arrivals
 
-offered-base-kept : (s : Scene) (e : Entry) → e .handle < 2 ^ 24 → Kept (s .worlds) → Kept (offeredBase s e .scene .worlds)
+offered-base-kept : (s : Scene) (e : Entry) → plainEntry e ≡ true → Kept (s .worlds) → Kept (offeredBase s e .scene .worlds)
 unfolding offeredBase
 offered-base-kept s e h k = base-kept (s .worlds) (insertedOf (s .worlds .base) e .buffer) (inserted-sound (s .worlds .base) e h (k .base)) k
 
@@ -306,7 +306,7 @@ offered-worlds : (s : Scene) (side : ℕ) (e : Entry) → offeredSide s side e .
 unfolding offeredSide
 offered-worlds s side e = ledger-worlds (withWorlds s (withWorld (s .worlds) side (scheduledOf (worldOf (s .worlds) side) e .world))) side _
 
-offered-side-kept : (s : Scene) (side : ℕ) (e : Entry) → e .handle < 2 ^ 24 → Kept (s .worlds) → Kept (offeredSide s side e .scene .worlds)
+offered-side-kept : (s : Scene) (side : ℕ) (e : Entry) → plainEntry e ≡ true → Kept (s .worlds) → Kept (offeredSide s side e .scene .worlds)
 offered-side-kept s side e h k =
     let x = worldOf (s .worlds) side in
     subst Kept (sym (offered-worlds s side e)) (put-kept (s .worlds) side (scheduledOf x e .world)
@@ -320,7 +320,7 @@ offered-side-weighed s side e k =
     subst Weighed (sym (offered-worlds s side e)) (weighed-as (withWorld w side x) w (put-weight w side x) (same-old w side x i) (same-new w side x i) k)
 
 -- a command arrives
-pub received-kept : (s : Scene) (e : Entry) → e .handle < 2 ^ 24 → Kept (s .worlds) → Kept (receivedOf s e .scene .worlds)
+pub received-kept : (s : Scene) (e : Entry) → plainEntry e ≡ true → Kept (s .worlds) → Kept (receivedOf s e .scene .worlds)
 unfolding receivedOf
 received-kept s e h k =
     let a = offeredBase s e .scene in

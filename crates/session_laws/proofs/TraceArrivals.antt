@@ -7,7 +7,7 @@ use lib.Dec.{eqb}
 use lib.Ieee.{Float}
 use Rattle.timestamp.specs.declared.Timestamp.{Timestamp}
 use Rattle.tape.specs.Words.{stepsOn}
-use Rattle.command.specs.declared.Entry.{Entry}
+use Rattle.command.specs.Entries.{Entry}
 use Rattle.command.specs.Buffer.{takenBy}
 use Rattle.command.proofs.Ledger.{inserted-stamp}
 use Rattle.simulation.specs.declared.Simulation.{Simulation}

@@ -11,6 +11,7 @@ use Rattle.inbox.specs.Passes.{over}
 use Rattle.inbox.proofs.Passes.{Each}
 use Rattle.inbox.proofs.Bounds.{Bounded, messages-bounded}
 use Rattle.settings.proofs.Limits.{steps-few}
+use Rattle.command.specs.Entries.{entryOf}
 use Rattle.client.specs.declared.ClientWorldSimulations.{ClientWorldSimulations}
 use Rattle.client.specs.declared.Scene.{Scene}
 use Rattle.client.specs.declared.Received.{Received}
@@ -22,7 +23,7 @@ use Rattle.session_state.specs.Sound.{soundOf}
 use Rattle.inbox_passes.specs.Passes.{receiveOne, receivedIn, noteOne, notedIn}
 use Rattle.session.specs.Calls.{sceneAfter, unreceived}
 use Rattle.session_state.specs.Session.{sceneOf}
-use Rattle.session_issue.specs.Issue.{entryOf, receivedNow, issueOf}
+use Rattle.session_issue.specs.Issue.{issuedEntry, receivedNow, issueOf}
 use Rattle.session_laws.proofs.SoundParts.{sound-facts}
 use Rattle.session_laws.proofs.Ways.{issue-by-ways}
 
@@ -35,7 +36,7 @@ sound-m s h = steps-few (s .settings) (sound-facts s h .settings)
 -- ---- commands
 
 received-one : (r : Received) (m : Message) → Offers (r .scene) (receiveOne r m .scene)
-received-one r (Command s h) = offers (r .scene) (record { stamp = s; handle = h })
+received-one r (Command s h) = offers (r .scene) (entryOf s h)
 received-one r (Snapshot s h) = offers-self (r .scene)
 received-one r (Clock i s t) = offers-self (r .scene)
 received-one r BadTime = offers-self (r .scene)
@@ -121,5 +122,5 @@ keeps-self s = record { settings = refl; stage = refl; alike = alike-self (s .wo
 pub issue-keeps : (s : Session) (h : ℕ) → Keeps s (issueOf s h .session)
 issue-keeps s h =
     issue-by-ways (λ a. Keeps s (a .session)) s h (λ n k. keeps-self s)
-    (λ i k. let o : Offers (sceneOf s) (receivedNow s h .scene) = offers (sceneOf s) (entryOf s h) in
+    (λ i k. let o : Offers (sceneOf s) (receivedNow s h .scene) = offers (sceneOf s) (issuedEntry s h) in
     record { settings = refl; stage = refl; alike = o .alike; queued = rw (o .snapshots) refl })

@@ -29,7 +29,7 @@ use Rattle.session_answers.specs.Answers.{Reply, refusedWith, unlessRefused, ac
 use Rattle.session_issue.specs.Issue.{unissued, issuedOf}
 use Rattle.session.specs.Calls.{timesOk, refusedAtOnce, heardOther, clockAfter, requestOf, clockMovedOf, clockUpdateOf, concludedOf, unreceived, playedOf}
 use Rattle.session.specs.Calls.{worldsUpdateOf, updateBy, updateOf}
-use Rattle.session_issue.specs.Issue.{entryOf, receivedNow, issueRefusalOf, issueOf}
+use Rattle.session_issue.specs.Issue.{issueStamp, receivedNow, issueRefusalOf, issueOf}
 
 -- the stage without worlds
 pub without-worlds : (x : Stage) → hasWorlds x ≡ false → x ≡ SyncingClock
@@ -91,14 +91,14 @@ module _ {P : Reply → Type 0} (s : Session) (delta seconds : Float) (inbox : L
 
 -- an issue: refused, or received by the worlds of a sound session
 pub issue-by-ways : (P : IssueAnswer → Type 0) (s : Session) (h : ℕ) → ((n : ℕ) → (n ≡ 0 → ⊥) → P (unissued n s))
-    → (h < handleRoom → soundOf s ≡ true → P (issuedOf s (entryOf s h .stamp) (receivedNow s h))) → P (issueOf s h)
+    → (h < handleRoom → soundOf s ≡ true → P (issuedOf s (issueStamp s) (receivedNow s h))) → P (issueOf s h)
 unfolding issueOf
 issue-by-ways P s h f g = go (eqb n accepted) (eqb-true n 0) (eqb-false n 0)
   where
     n : ℕ
     n = issueRefusalOf s h
 
-    go : (b : Bool) → (b ≡ true → n ≡ 0) → (b ≡ false → n ≡ 0 → ⊥) → P (cond b (issuedOf s (entryOf s h .stamp) (receivedNow s h)) (unissued n s))
+    go : (b : Bool) → (b ≡ true → n ≡ 0) → (b ≡ false → n ≡ 0 → ⊥) → P (cond b (issuedOf s (issueStamp s) (receivedNow s h)) (unissued n s))
     go true t e =
         let a = issue-accepted (ltb h handleRoom) (soundOf s) (hasWorlds (s .stage)) (receivedNow s h .full) (isReady (s .stage)) (t refl) in
         g (ltb-true h handleRoom (a .0)) (a .1)

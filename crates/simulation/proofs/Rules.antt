@@ -12,7 +12,7 @@ use Rattle.tape.specs.Tape.{Puts}
 use Rattle.tape.specs.Words.{stepWord, snapshotWord}
 use Rattle.tape.proofs.Writing.{puts-none, puts-then, puts-as}
 use Rattle.command.specs.declared.CommandBuffer.{CommandBuffer}
-use Rattle.command.specs.declared.Entry.{Entry}
+use Rattle.command.specs.Entries.{Entry}
 use Rattle.command.specs.declared.Applied.{Applied}
 use Rattle.command.specs.declared.Moved.{Moved}
 use Rattle.command.specs.declared.Insertion.{Insertion}

@@ -12,7 +12,7 @@ use Rattle.timestamp.specs.Timestamps.{sumOf, orderOf}
 use Rattle.tape.specs.Tape.{Puts}
 use Rattle.tape.specs.Words.{stepWord, snapshotWord}
 use Rattle.command.specs.declared.CommandBuffer.{CommandBuffer}
-use Rattle.command.specs.declared.Entry.{Entry}
+use Rattle.command.specs.Entries.{Entry}
 use Rattle.command.specs.Buffer.{held, laid, insertedOf, movedOf, takenOf, restOf, emptiedOf, commandWords}
 use Rattle.simulation.specs.declared.Simulation.{Simulation}
 use Rattle.simulation.specs.declared.Stepped.{Stepped}

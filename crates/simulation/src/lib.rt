@@ -5,7 +5,6 @@ ghost use mathlib.Core.Path.{_≡_};
 ghost use Prim.Native.Nat.{_<_};
 ghost use Rattle.simulation.specs.World.{newWorld, scheduledOf, stepOf, resetsBack, resetOf, loadOf, Does, Loads};
 use command::CommandBuffer;
-use command::Entry;
 use timestamp::Ordering;
 use timestamp::Timestamp;
 
@@ -50,7 +49,7 @@ pub fn new(stamp: Timestamp) -> Simulation
 }
 
 // Offers a command to the world's buffer.
-pub fn schedule_command(world: Simulation, entry: Entry) -> Scheduled
+pub fn schedule_command(world: Simulation, entry: u64) -> Scheduled
     ensures { λ r. ⌜ r ≡ scheduledOf world entry ⌝ }
 {
     let buffer = world.commands;

@@ -1,12 +1,12 @@
 -- `apply_between` meets its contract. The loop's invariant: of the entries passed, the words of those in the span are on the tape. Assumes nothing.
-use mathlib.Core.Path.{_≡_}
+use mathlib.Core.Path.{_≡_, ap, _∙_}
 use Prim.Native.Nat.{_-_}
 use native.Mathlib.Omega.{arith}
 use borrow.Author.Needs.{needs}
 use lib.ListN.{length}
+use Rattle.tape.specs.Words.{commandWord}
 use Rattle.command.specs.Buffer.{blank}
 use Rattle.command.specs.Ranks.{rankWithin}
-use Rattle.command.proofs.Lists.{mapped-length}
 use Rattle.command.proofs.Holding.{held-long}
 use Rattle.command.proofs.Applying.{Applying, apply-none, apply-few, apply-length, apply-one, apply-skip, apply-held}
 use Rattle.command.proofs.apply_between.Statement.{statement}
@@ -19,7 +19,7 @@ abbrev μ-loop : tie.MeasureT-loop
 μ-loop m lo hi side tape₀ at b n p₀ i₀ tape p i = n - i
 
 slots : (c : tie.Start Inv-loop μ-loop) → length (c .args .t1 .entries) ≡ 64
-slots c = search mapped-length
+slots c = search needs
 
 held-count-requires : tie.Need-held-count-requires Inv-loop μ-loop
 held-count-requires c κs = search needs
@@ -41,12 +41,15 @@ add-i c = search needs
 ranks-between-requires : tie.Need-ranks-between-requires Inv-loop μ-loop
 ranks-between-requires c κs = search needs
 
+handle-of-requires : tie.Need-handle-of-requires Inv-loop μ-loop
+handle-of-requires c κs = search needs
+
 command-word-requires : tie.Need-command-word-requires Inv-loop μ-loop
 command-word-requires c κs = search needs
 
 put-requires : tie.Need-put-requires Inv-loop μ-loop
 put-requires c κs =
-    let l = c .before .before .before .before .before .before in
+    let l = c .before .before .before .before .before .before .before in
     omega (arith, apply-few (l .loop .inv .1))
 
 loop-less : tie.Need-loop-less Inv-loop μ-loop
@@ -55,8 +58,8 @@ loop-less c = search needs
 loop-again : tie.Need-loop-again Inv-loop μ-loop
 loop-again c =
     let w = c .before .before .before in
-    let l = w .before .before .before .before .before .before in
-    (l .loop .inv .0, apply-one (l .loop .inv .1) blank (search needs) (cc) (w .command-word .ensures) (c .before .before .put .ensures))
+    let l = w .before .before .before .before .before .before .before in
+    (l .loop .inv .0, apply-one (l .loop .inv .1) blank (search needs) (cc) (w .command-word .ensures ∙ ap (commandWord _) (w .before .handle-of .ensures)) (c .before .before .put .ensures))
 
 loop-less-2 : tie.Need-loop-less-2 Inv-loop μ-loop
 loop-less-2 c = search needs
@@ -84,6 +87,7 @@ apply-between-spec =
     element-copy-out-e
     add-i
     ranks-between-requires
+    handle-of-requires
     command-word-requires
     put-requires
     loop-less

@@ -7,7 +7,7 @@ use borrow.Author.Needs.{needs}
 use lib.ListN.{length}
 use Rattle.command.specs.Buffer.{blank}
 use Rattle.command.specs.Ranks.{rankWithin}
-use Rattle.command.proofs.Lists.{Counted, count-none, count-few, count-one, count-skip, mapped-length}
+use Rattle.command.proofs.Lists.{Counted, count-none, count-few, count-one, count-skip}
 use Rattle.command.proofs.Holding.{held-long, held-counted}
 use Rattle.command.proofs.count_outside.Statement.{statement}
 use Rattle.command.proofs.count_outside.Tie as tie
@@ -19,7 +19,7 @@ abbrev μ-loop : tie.MeasureT-loop
 μ-loop m lo hi b n k₀ i₀ k i = n - i
 
 slots : (c : tie.Start Inv-loop μ-loop) → length (c .args .t1 .entries) ≡ 64
-slots c = search mapped-length
+slots c = search needs
 
 held-count-requires : tie.Need-held-count-requires Inv-loop μ-loop
 held-count-requires c κs = search needs

@@ -6,7 +6,7 @@ use borrow.Author.Needs.{needs}
 use lib.ListN.{length, take}
 use Rattle.command.specs.Buffer.{blank}
 use Rattle.command.specs.Ranks.{rankWithin}
-use Rattle.command.proofs.Lists.{Sifted, sift-none, sift-push, sift-skip, sift-room, mapped-length}
+use Rattle.command.proofs.Lists.{Sifted, sift-none, sift-push, sift-skip, sift-room}
 use Rattle.command.proofs.Holding.{held-take, held-long, as-laid, is-laid}
 use Rattle.command.proofs.extend.Statement.{statement}
 use Rattle.command.proofs.extend.Tie as tie
@@ -18,7 +18,7 @@ abbrev μ-loop : tie.MeasureT-loop
 μ-loop m lo hi b n t out₀ k₀ i₀ out k i = n - i
 
 slots : (c : tie.Start Inv-loop μ-loop) → length (c .args .t2 .entries) ≡ 64
-slots c = search mapped-length
+slots c = search needs
 
 held-count-requires : tie.Need-held-count-requires Inv-loop μ-loop
 held-count-requires c κs = search needs
@@ -47,8 +47,8 @@ room c = sift-room (c .before .before .before .before .loop .inv .1) blank (sear
 mul-out : tie.Need-mul-out Inv-loop μ-loop
 mul-out c = omega (arith, room c)
 
-array-set-from-out : tie.Need-array-set-from-out Inv-loop μ-loop
-array-set-from-out c = omega (arith, room c)
+array-write-out : tie.Need-array-write-out Inv-loop μ-loop
+array-write-out c = omega (arith, room c)
 
 add-k : tie.Need-add-k Inv-loop μ-loop
 add-k c = omega (arith, room c)
@@ -85,7 +85,7 @@ extend-spec =
     add-i
     ranks-between-requires
     mul-out
-    array-set-from-out
+    array-write-out
     add-k
     loop-less
     loop-again

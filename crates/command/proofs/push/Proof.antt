@@ -9,11 +9,11 @@ use Rattle.command.proofs.push.Tie as tie
 start : (c : tie.Start) → InSlots 64 blank (held (c .args .b)) (c .args .b .entries) (c .args .b .len)
 start c = as-laid (c .args .b) (c .pre .0)
 
-mul-e : tie.Need-mul-e
-mul-e c = omega (arith, start c)
+mul-out : tie.Need-mul-out
+mul-out c = omega (arith, start c)
 
-element-set-from-e : tie.Need-element-set-from-e
-element-set-from-e c = omega (arith, start c)
+element-write-out : tie.Need-element-write-out
+element-write-out c = omega (arith, start c)
 
 add-out : tie.Need-add-out
 add-out c = omega (arith, start c)
@@ -22,4 +22,4 @@ returns : tie.Need-returns
 returns c = is-laid _ (laid-push (start c) _ (omega (arith, start c)))
 
 pub push-spec : {M : Type 1} → statement M
-push-spec = tie.close (tie.spec mul-e element-set-from-e add-out returns)
+push-spec = tie.close (tie.spec mul-out element-write-out add-out returns)

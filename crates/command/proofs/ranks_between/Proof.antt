@@ -5,16 +5,16 @@ use Rattle.command.specs.Ranks.{spanned}
 use Rattle.command.proofs.ranks_between.Statement.{statement}
 use Rattle.command.proofs.ranks_between.Tie as tie
 
-rank-of-requires : tie.Need-rank-of-requires
-rank-of-requires c κs = search needs
+rank-in-requires : tie.Need-rank-in-requires
+rank-in-requires c κs = search needs
 
 returns : tie.Need-returns
 unfolding spanned
-returns c = simp (← c .before .rank-of .ensures, le-leb _ _ (c .if1 .taken))
+returns c = simp (← c .before .rank-in .ensures, le-leb _ _ (c .if1 .taken))
 
 returns-2 : tie.Need-returns-2
 unfolding spanned
-returns-2 c = simp (← c .before .rank-of .ensures, lt-leb _ _ (c .if1 .left))
+returns-2 c = simp (← c .before .rank-in .ensures, lt-leb _ _ (c .if1 .left))
 
 pub ranks-between-spec : {M : Type 1} → statement M
-ranks-between-spec = tie.close (tie.spec rank-of-requires returns returns-2)
+ranks-between-spec = tie.close (tie.spec rank-in-requires returns returns-2)

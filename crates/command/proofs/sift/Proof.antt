@@ -3,14 +3,13 @@ use borrow.Author.Needs.{needs}
 use mathlib.Core.Path.{_≡_}
 use mathlib.Core.List.{[]}
 use lib.ListN.{length}
-use Rattle.command.proofs.Lists.{mapped-length}
 use Rattle.command.proofs.Holding.{laid-then}
 use Rattle.command.proofs.Calls.{room-kept, sifted-none, sifted-some}
 use Rattle.command.proofs.sift.Statement.{statement}
 use Rattle.command.proofs.sift.Tie as tie
 
 slots : (c : tie.Start) → length (c .args .b .entries) ≡ 64
-slots c = search mapped-length
+slots c = search needs
 
 count-outside-requires : tie.Need-count-outside-requires
 count-outside-requires c κs = search needs

@@ -14,6 +14,9 @@ add-requires c κs = search needs
 scene-of-requires : tie.Need-scene-of-requires
 scene-of-requires c κs = search needs
 
+entry-of-requires : tie.Need-entry-of-requires
+entry-of-requires c κs = search needs
+
 receive-command-requires : tie.Need-receive-command-requires
 receive-command-requires c κs = search needs
 
@@ -34,9 +37,10 @@ refuse-issue-requires c κs = search needs
 
 returns : tie.Need-returns
 returns c =
-    issue-refused _ _ (c .before .before .before .before .before .before .before .before .before .last-completed-timestamp .ensures)
-    (c .before .before .before .before .before .before .before .before .add .ensures)
-    (c .before .before .before .before .before .before .before .scene-of .ensures)
+    issue-refused _ _ (c .before .before .before .before .before .before .before .before .before .before .last-completed-timestamp .ensures)
+    (c .before .before .before .before .before .before .before .before .before .add .ensures)
+    (c .before .before .before .before .before .before .before .before .scene-of .ensures)
+    (c .before .before .before .before .before .before .before .entry-of .ensures)
     (c .before .before .before .before .before .before .receive-command .ensures)
     (c .before .before .before .before .before .is-sound .ensures) refl (c .before .before .before .before .has-worlds .ensures)
     (c .before .before .before .is-ready .ensures) (c .before .before .of-issue .ensures)
@@ -47,9 +51,10 @@ accept-issue-requires c κs = search needs
 
 returns-2 : tie.Need-returns-2
 returns-2 c =
-    issue-accepted _ _ (c .before .before .before .before .before .before .before .before .before .last-completed-timestamp .ensures)
-    (c .before .before .before .before .before .before .before .before .add .ensures)
-    (c .before .before .before .before .before .before .before .scene-of .ensures)
+    issue-accepted _ _ (c .before .before .before .before .before .before .before .before .before .before .last-completed-timestamp .ensures)
+    (c .before .before .before .before .before .before .before .before .before .add .ensures)
+    (c .before .before .before .before .before .before .before .before .scene-of .ensures)
+    (c .before .before .before .before .before .before .before .entry-of .ensures)
     (c .before .before .before .before .before .before .receive-command .ensures)
     (c .before .before .before .before .before .is-sound .ensures) refl (c .before .before .before .before .has-worlds .ensures)
     (c .before .before .before .is-ready .ensures) (c .before .before .of-issue .ensures)
@@ -62,6 +67,7 @@ issue-spec =
     last-completed-timestamp-requires
     add-requires
     scene-of-requires
+    entry-of-requires
     receive-command-requires
     is-sound-requires
     has-worlds-requires
