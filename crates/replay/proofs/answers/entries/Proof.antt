@@ -22,11 +22,17 @@ returns c = tt
 mul-e : tie.Need-mul-e Inv-loop μ-loop
 mul-e c = omega arith
 
-array-copy-out-e : tie.Need-array-copy-out-e Inv-loop μ-loop
-array-copy-out-e c = omega arith
+element-copy-out-e : tie.Need-element-copy-out-e Inv-loop μ-loop
+element-copy-out-e c = omega arith
 
 comma-requires : tie.Need-comma-requires Inv-loop μ-loop
 comma-requires c κs = tt
+
+stamp-of-requires : tie.Need-stamp-of-requires Inv-loop μ-loop
+stamp-of-requires c κs = tt
+
+handle-of-requires : tie.Need-handle-of-requires Inv-loop μ-loop
+handle-of-requires c κs = tt
 
 entry-requires : tie.Need-entry-requires Inv-loop μ-loop
 entry-requires c κs = tt
@@ -53,8 +59,10 @@ entries-spec =
     loop-holds
     returns
     mul-e
-    array-copy-out-e
+    element-copy-out-e
     comma-requires
+    stamp-of-requires
+    handle-of-requires
     entry-requires
     add-i
     loop-less
