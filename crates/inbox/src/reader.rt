@@ -3,6 +3,7 @@
 ghost use mathlib.Core.Path.{_≡_};
 ghost use Prim.Native.Nat.{_<_};
 ghost use lib.ListN.{length};
+ghost use Rattle.inbox.specs.Inbox.{readAt};
 ghost use Rattle.inbox.specs.Reader.{readerAt, moreOf, nextOf, movedTo};
 use super::Step;
 use super::message_at;
@@ -40,4 +41,12 @@ pub fn moved<'a>(r: Reader<'a>, at: usize) -> Reader<'a>
     ensures { λ q. ⌜ q ≡ movedTo (r .entry) at ⌝ }
 {
     Reader { words: r.words, at }
+}
+
+// The message at a place of the words, and the place after it. Its parameters are plain, so that a loop over it needs no walk by hand.
+pub fn message_from(words: &[u32], at: usize) -> Step
+    requires { ⌜ at < length (now words) ⌝ }
+    ensures { λ r. ⌜ r ≡ readAt (now (words .entry)) at ⌝ }
+{
+    next(Reader { words, at })
 }
