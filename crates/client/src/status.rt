@@ -21,14 +21,14 @@ pub fn is_later(a: Timestamp, b: Timestamp) -> bool
 }
 
 // Whether the new world is ahead of the old one.
-pub(crate) fn is_overshot(new: Timestamp, old: Timestamp) -> bool
+pub fn is_overshot(new: Timestamp, old: Timestamp) -> bool
     ensures { λ r. ⌜ r ≡ overshotOf new old ⌝ }
 {
     is_later(new, old)
 }
 
 // Whether a queued snapshot is later than the new world.
-pub(crate) fn is_snapshot_newer(q: Queued, new: Timestamp) -> bool
+pub fn is_snapshot_newer(q: Queued, new: Timestamp) -> bool
     ensures { λ r. ⌜ r ≡ newerOf q new ⌝ }
 {
     match q {

@@ -263,7 +263,7 @@ pub(crate) fn simulate_next_frame(s: Scene, m: u32, tape: &mut [u32], at: usize)
 }
 
 // Whether a frame of this status, that loads q, publishes by the weight and not the old world.
-pub(crate) fn is_blended(t: ReconciliationStatus, q: Queued) -> bool
+pub fn is_blended(t: ReconciliationStatus, q: Queued) -> bool
     ensures { λ r. ⌜ r ≡ blendedBy t q ⌝ }
 {
     match t {
@@ -308,7 +308,7 @@ pub(crate) fn publish(s: Scene, blended: bool, tape: &mut [u32], at: usize) -> S
 }
 
 // Whether a status is Fastforwarding with Obsolete.
-pub(crate) fn is_obsolete(t: ReconciliationStatus) -> bool
+pub fn is_obsolete(t: ReconciliationStatus) -> bool
     ensures { λ r. ⌜ r ≡ isObsolete t ⌝ }
 {
     match t {
@@ -323,7 +323,7 @@ pub(crate) fn is_obsolete(t: ReconciliationStatus) -> bool
 }
 
 // Whether an obsolete world loads a snapshot 2 or more frames ahead of the old world, or half the space away.
-pub(crate) fn loads_too_far(q: Queued, old: Timestamp) -> bool
+pub fn loads_too_far(q: Queued, old: Timestamp) -> bool
     ensures { λ r. ⌜ r ≡ tooFarOf q old ⌝ }
 {
     match q {

@@ -90,7 +90,7 @@ pub fn publish_old_state(s: Scene, tape: &mut [u32], at: usize) -> Stated
 }
 
 // Whether a weight is so near to 1 that the new world is published as it is: less than 2^-52 away.
-pub(crate) fn is_near_one(weight: f64) -> bool
+pub fn is_near_one(weight: f64) -> bool
     ensures { λ r. ⌜ r ≡ nearOne weight ⌝ }
 {
     let d = weight - 1.0;
