@@ -105,7 +105,8 @@ module _ {A : Type 0} where
   pub filter-short : (p : A → Bool) (xs : List A) → length (filterB p xs) ≤ length xs
   filter-short p xs = omega (arith, filter-ledger p xs)
 
-  filter-grows : (p : A → Bool) (xs : List A) (i j : ℕ) → i ≤ j → length (filterB p (take i xs)) ≤ length (filterB p (take j xs))
+  -- no fewer pass of more elements
+  pub filter-grows : (p : A → Bool) (xs : List A) (i j : ℕ) → i ≤ j → length (filterB p (take i xs)) ≤ length (filterB p (take j xs))
   filter-grows p xs i j h =
       let e : take i xs ++ drop i (take j xs) ≡ take j xs = rw (← take-take i j xs h) (take-append-drop i (take j xs)) in
       let f : length (filterB p (take j xs)) ≡ length (filterB p (take i xs)) + length (filterB p (drop i (take j xs))) =

@@ -117,7 +117,7 @@ ordered-moved m t lo low (x ∷ xs) f s =
 
 -- ---- one more: among entries in order it goes before the first that ranks higher
 
-abbrev insertBy : (Entry → ℕ) → Entry → List Entry → List Entry
+abbrev pub insertBy : (Entry → ℕ) → Entry → List Entry → List Entry
 insertBy k e [] = e ∷ []
 insertBy k e (x ∷ xs) = cond (leb (k x) (k e)) (x ∷ insertBy k e xs) (e ∷ (x ∷ xs))
 
@@ -135,7 +135,7 @@ all-beyond : (m : Timestamp) (e : Entry) (lo : ℕ) (xs : List Entry) → rankIn
 all-beyond m e lo [] h s = refl
 all-beyond m e lo (x ∷ xs) h s = rw (beyond m e x (omega arith)) (ap (λ (l : List Entry). x ∷ l) (all-beyond m e (rankIn m x) xs (omega arith) (s .3)))
 
-placed-is : (m : Timestamp) (e : Entry) (lo : ℕ) (xs : List Entry) → Ordered m lo xs → placedOf m e xs ≡ insertBy (rankIn m) e xs
+pub placed-is : (m : Timestamp) (e : Entry) (lo : ℕ) (xs : List Entry) → Ordered m lo xs → placedOf m e xs ≡ insertBy (rankIn m) e xs
 unfolding placedOf
 placed-is m e lo [] s = refl
 placed-is m e lo (x ∷ xs) s = step (decLe (rankIn m x) (rankIn m e)) (placed-is m e (rankIn m x) xs (s .3))

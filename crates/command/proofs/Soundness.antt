@@ -127,7 +127,7 @@ emptied-sound b h =
 -- ---- the loop
 
 -- the answer for the entries xs where the last one ranked lo
-pub soundFrom : Timestamp → ℕ → List Entry → Bool
+unfoldable pub soundFrom : Timestamp → ℕ → List Entry → Bool
 soundFrom m lo [] = true
 soundFrom m lo (x ∷ xs) = soundRank (rankIn m x) lo x && soundFrom m (rankIn m x) xs
 
@@ -163,7 +163,7 @@ lead : (t o s : Bool) → t && o && s ≡ t && (o && s)
 lead true o s = refl
 lead false o s = refl
 
-buffer-is : (b : CommandBuffer) → soundBuffer b ≡ leb (b .len) 64 && soundFrom (b .timestamp) 0 (held b)
+pub buffer-is : (b : CommandBuffer) → soundBuffer b ≡ leb (b .len) 64 && soundFrom (b .timestamp) 0 (held b)
 unfolding soundBuffer
 buffer-is b = lead (leb (b .len) 64) (orderedIn (b .timestamp) (held b)) (allB plainEntry (held b))
     ∙ ap (λ (t : Bool). leb (b .len) 64 && t) (entries-are (b .timestamp) (held b))

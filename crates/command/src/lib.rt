@@ -244,7 +244,7 @@ pub fn sound(buffer: CommandBuffer) -> bool
 }
 
 // Whether an entry of rank k is in range and not before rank lo, and has no spare bit set.
-fn entry_sound(k: u32, lo: u32, entry: u64) -> bool
+pub fn entry_sound(k: u32, lo: u32, entry: u64) -> bool
     ensures { λ r. ⌜ r ≡ soundRank k lo entry ⌝ }
 {
     if k < lo {
@@ -268,21 +268,21 @@ fn rank_of(s: Timestamp, m: Timestamp) -> u32
 }
 
 // Whether an entry is in the accepted range around m.
-fn in_range(entry: u64, m: Timestamp) -> bool
+pub fn in_range(entry: u64, m: Timestamp) -> bool
     ensures { λ r. ⌜ r ≡ inRangeOf m entry ⌝ }
 {
     stamp_of(entry).in_comparable_range(m)
 }
 
 // The rank of an entry's stamp around m.
-fn rank_in(entry: u64, m: Timestamp) -> u32
+pub fn rank_in(entry: u64, m: Timestamp) -> u32
     ensures { λ r. ⌜ r ≡ rankOf (m .0) (stampIn entry) ⌝ }
 {
     rank_of(stamp_of(entry), m)
 }
 
 // Whether the rank of an entry around m is lo or more, and below hi.
-fn ranks_between(entry: u64, m: Timestamp, lo: u32, hi: u32) -> bool
+pub fn ranks_between(entry: u64, m: Timestamp, lo: u32, hi: u32) -> bool
     ensures { λ r. ⌜ r ≡ rankWithin m lo hi entry ⌝ }
 {
     let k = rank_in(entry, m);

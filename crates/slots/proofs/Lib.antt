@@ -1,0 +1,4 @@
+pub mod Filling
+pub mod Between
+pub mod Leaving
+pub mod Stepping

@@ -1,0 +1,3 @@
+pub mod Blanking
+pub mod Shifting
+pub mod Offering
