@@ -1,17 +1,18 @@
--- What loops keep that write the slots of a buffer in place: blanks from a slot on, a copy, and the entries that pass a test moved to the front. Assumes nothing.
+-- What loops keep that write the slots of a buffer in place: blanks from a slot on, a copy, and the entries that pass a test moved to the front.
+-- Assumes nothing.
 use mathlib.Core.Path.{_≡_, refl, sym, ap, _∙_}
 use mathlib.Core.List.{List, [], _∷_, _++_, append-assoc, append-nil}
 use mathlib.Core.Bool.{Bool, true, false}
 use Prim.Native.Nat.{ℕ, suc, _+_, _-_, _≤_, _<_}
 use native.Mathlib.Numerals.{add-one}
 use native.Mathlib.Omega.{arith}
-use lib.ListN.{length, take, drop, getD, set, replicate, length-set, length-append, length-replicate}
+use lib.ListN.{length, take, drop, getD, set, replicate, length-set, length-append}
 use lib.Seq.{take-all, take-suc, take-suc-set, drop-set-lt, getD-drop, drop-drop, length-take-le}
 use Rattle.command.specs.Entries.{Entry}
 use Rattle.command.specs.Lists.{filterB, pad}
 use Rattle.command.specs.Buffer.{blank}
 use Rattle.command.proofs.Lists.{filter-took, filter-left}
-use Rattle.slots.specs.After.{Slots, InFront, Filled}
+use Rattle.slots.specs.After.{Slots, InFront, Filled, Copied}
 
 -- ---- blanks
 
@@ -26,9 +27,6 @@ pad-whole : (n : ℕ) (xs : List Entry) → length xs ≡ n → pad n blank xs �
 pad-whole n xs h =
     let k : n - length xs ≡ 0 = omega arith in
     ap (λ (j : ℕ). xs ++ replicate j blank) k ∙ append-nil xs
-
-pub pad-length : (n : ℕ) (xs : List Entry) → length xs ≤ n → length (pad n blank xs) ≡ n
-pad-length n xs h = simp (length-append, length-replicate) (omega arith)
 
 -- the slots e, blank from i on, are the slots `was`, blank from n on
 pub record Blanking (was : List Entry) (n : ℕ) (e : List Entry) (i : ℕ) : Type 0 where
@@ -49,10 +47,16 @@ blank-next {was} {e} {n} {i} s h =
       same = rw (add-one i, take-suc-set e i blank (omega arith)) (pad-more 64 (take i e) (omega arith)) ∙ s .same;
     }
 
-pub blank-end : {was e : List Entry} {n i : ℕ} → Blanking was n e i → 64 ≤ i → e ≡ pad 64 blank (take n was)
-blank-end {was} {e} {n} {i} s h =
+pub blank-end : {was e : List Entry} {n i : ℕ} → Slots was n → Blanking was n e i → 64 ≤ i → Filled (take n was) e n
+blank-end {was} {e} {n} {i} p s h =
     let w = s .slots in
-    sym (pad-whole 64 e w) ∙ ap (pad 64 blank) (sym (take-all i e (omega arith))) ∙ s .same
+    let l = p .slots in
+    let f = p .few in
+    record {
+      slots = w;
+      laid = sym (pad-whole 64 e w) ∙ ap (pad 64 blank) (sym (take-all i e (omega arith))) ∙ s .same;
+      count = sym (length-take-le n was (omega arith));
+    }
 
 -- ---- a copy
 
@@ -78,11 +82,11 @@ copy-next {from} {e} {i} s h =
           (ap (λ (xs : List Entry). xs ++ (getD from i blank ∷ [])) (s .same));
     }
 
-pub copy-end : {from e : List Entry} {i : ℕ} → Copying from e i → 64 ≤ i → e ≡ from
+pub copy-end : {from e : List Entry} {i : ℕ} → Copying from e i → 64 ≤ i → Copied from e
 copy-end {from} {e} {i} s h =
     let w = s .slots in
     let l = s .long in
-    sym (take-all i e (omega arith)) ∙ s .same ∙ take-all i from (omega arith)
+    record { slots = w; same = sym (take-all i e (omega arith)) ∙ s .same ∙ take-all i from (omega arith) }
 
 -- ---- to the front
 
@@ -151,13 +155,5 @@ module _ {p : Entry → Bool} {xs e : List Entry} {m k i : ℕ} (s : Kept p xs m
         }
 
 -- entries in front, and blanks from the next slot on
-pub front-filled : {xs e last : List Entry} {r : ℕ} → InFront xs e r → last ≡ pad 64 blank (take r e) → Filled xs last r
-front-filled {xs} {e} {last} {r} f h =
-    let w = f .slots in
-    let k = f .few in
-    let c : length (take r e) ≡ r = length-take-le r e (omega arith) in
-    record {
-      slots = ap length h ∙ pad-length 64 (take r e) (omega arith);
-      laid = h ∙ ap (pad 64 blank) (f .front);
-      count = sym c ∙ ap length (f .front);
-    }
+pub front-filled : {xs e last : List Entry} {r : ℕ} → InFront xs e r → Filled (take r e) last r → Filled xs last r
+front-filled f g = record { slots = g .slots; laid = g .laid ∙ ap (pad 64 blank) (f .front); count = g .count ∙ ap length (f .front) }

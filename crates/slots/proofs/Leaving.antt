@@ -2,7 +2,7 @@
 use mathlib.Core.Path.{_≡_, refl, sym, ap, _∙_}
 use mathlib.Core.List.{List, [], _∷_}
 use mathlib.Core.Bool.{Bool, true, false, not}
-use Prim.Native.Nat.{ℕ, _+_, _≤_, _<_}
+use Prim.Native.Nat.{ℕ}
 use native.Mathlib.Omega.{arith}
 use lib.Dec.{eqb}
 use lib.ListN.{length, take}
@@ -10,19 +10,19 @@ use lib.Seq.{length-take-le}
 use borrow.Author.Tests.{eqb-true, eqb-false}
 use Rattle.timestamp.specs.declared.Timestamp.{Timestamp}
 use Rattle.command.specs.Entries.{Entry}
-use Rattle.command.specs.Lists.{filterB, pad}
+use Rattle.command.specs.Lists.{filterB}
 use Rattle.command.specs.declared.CommandBuffer.{CommandBuffer}
 use Rattle.command.specs.declared.Drained.{Drained}
 use Rattle.command.specs.declared.Moved.{Moved}
-use Rattle.command.specs.Buffer.{held, blank, laid, leaving, around, movedOf, takenOf, restOf, emptiedOf}
+use Rattle.command.specs.Buffer.{held, laid, leaving, around, movedOf, takenOf, restOf, emptiedOf}
 use Rattle.command.specs.Ranks.{rankWithin, siftedOf}
 use Rattle.command.specs.Soundness.{soundBuffer}
 use Rattle.command.specs.Slots.{bufferAt, Lent}
 use Rattle.command.proofs.Lists.{filter-ledger}
 use Rattle.command.proofs.Holding.{is-laid, leaving-none, leaving-some}
+use Rattle.command.proofs.Soundness.{emptied-sound}
 use Rattle.command.proofs.Calls.{sifted-none, sifted-some, moved-is, drained-is}
 use Rattle.slots.specs.After.{Slots, Filled, Leaves, Empties}
-use Rattle.slots.proofs.Filling.{pad-length}
 use Rattle.slots.proofs.Between.{leavers, lent-few}
 
 pub lent-slots : {e : List Entry} {n : ℕ} {t : Timestamp} → Lent e n t → Slots e n
@@ -46,7 +46,8 @@ filled-laid t f = is-laid t (record { slots = f .laid; count = f .count })
 
 module _ {e : List Entry} {n : ℕ} {t : Timestamp} (m : Timestamp) (lo hi : ℕ) (lent : Lent e n t) where
   -- none go
-  pub sift-none : leavers e n m lo hi ≡ 0 → {r : ℕ} → r ≡ n → Leaves (siftedOf (bufferAt e n t) m lo hi .buffer) (siftedOf (bufferAt e n t) m lo hi .count) n e r t
+  pub sift-none : leavers e n m lo hi ≡ 0 → {r : ℕ} → r ≡ n
+      → Leaves (siftedOf (bufferAt e n t) m lo hi .buffer) (siftedOf (bufferAt e n t) m lo hi .count) n e r t
   sift-none z {r} h =
       let s = sifted-none (bufferAt e n t) m lo hi refl z in
       let c : 0 ≡ siftedOf (bufferAt e n t) m lo hi .count = ap (λ (d : Drained). d .count) s in
@@ -66,7 +67,8 @@ module _ {e : List Entry} {n : ℕ} {t : Timestamp} (m : Timestamp) (lo hi : ℕ
   sift-quiet h g = sift-none (eqb-true (leavers e n m lo hi) 0 (sym h ∙ g)) refl
 
   -- some go
-  pub sift-some : {q : Bool} → q ≡ eqb (leavers e n m lo hi) 0 → q ≡ false → {last : List Entry} {r : ℕ} → Filled (filterB (rankWithin m lo hi) (take n e)) last r
+  pub sift-some : {q : Bool} → q ≡ eqb (leavers e n m lo hi) 0 → q ≡ false → {last : List Entry} {r : ℕ}
+      → Filled (filterB (rankWithin m lo hi) (take n e)) last r
       → Leaves (siftedOf (bufferAt e n t) m lo hi .buffer) (siftedOf (bufferAt e n t) m lo hi .count) n last r t
   sift-some h g {last} {r} f =
       let s = sifted-some (bufferAt e n t) m lo hi refl (eqb-false (leavers e n m lo hi) 0 (sym h ∙ g)) (filled-laid t f) in
@@ -119,13 +121,14 @@ empty-none {e} {n} s z =
       buffer = λ t. ap (λ (k : ℕ). bufferAt e k t) (sym z) ∙ leaving-none (take n e) [] (bufferAt e n t) (ap (λ (k : ℕ). length (take k e)) z);
     }
 
-pub empty-some : {e last : List Entry} {n : ℕ} → Slots e n → (n ≡ 0 → ⊥) → last ≡ pad 64 blank [] → Empties e n last
+pub empty-some : {e last : List Entry} {n : ℕ} → Slots e n → (n ≡ 0 → ⊥) → Filled [] last 0 → Empties e n last
 unfolding emptiedOf
-empty-some {e} {last} {n} s z h =
+empty-some {e} {last} {n} s z g =
     let w = s .slots in
     let f = s .few in
     let c : length (take n e) ≡ n = length-take-le n e (omega arith) in
-    record {
-      slots = ap length h ∙ pad-length 64 [] (omega arith);
-      buffer = λ t. is-laid t (record { slots = h; count = refl }) ∙ leaving-some (take n e) [] (bufferAt e n t) (λ g. z (sym c ∙ g));
-    }
+    record { slots = g .slots; buffer = λ t. filled-laid t g ∙ leaving-some (take n e) [] (bufferAt e n t) (λ h. z (sym c ∙ h)) }
+
+-- slots that are emptied can be lent again
+pub lent-emptied : {e last : List Entry} {n : ℕ} (t : Timestamp) → Lent e n t → Empties e n last → Lent last 0 t
+lent-emptied {e} {last} {n} t l g = record { slots = g .slots; sound = ap soundBuffer (g .buffer t) ∙ emptied-sound (bufferAt e n t) (l .sound) }

@@ -1,10 +1,10 @@
--- A step of lent slots to a stamp: a drain, then a move of the midpoint, is one sift by both tests, and the slots are laid out anew exactly where something goes.
--- Assumes nothing.
+-- A step of lent slots to a stamp: a drain, then a move of the midpoint, is one sift by both tests, and the slots are laid out anew exactly where something
+-- goes. Assumes nothing.
 use mathlib.Core.Path.{_≡_, refl, sym, ap, _∙_}
 use mathlib.Core.Logic.{inl, inr}
 use mathlib.Core.List.{List, [], _∷_}
 use mathlib.Core.Bool.{Bool, true, false, not, cond, _&&_}
-use Prim.Native.Nat.{ℕ, _+_, _≤_, _<_}
+use Prim.Native.Nat.{ℕ, _+_, _≤_}
 use native.Mathlib.Omega.{arith}
 use lib.Dec.{eqb}
 use lib.ListN.{length, take}
@@ -17,7 +17,7 @@ use Rattle.tape.proofs.Writing.{puts-none, puts-as}
 use Rattle.command.specs.Entries.{Entry}
 use Rattle.command.specs.Lists.{filterB}
 use Rattle.command.specs.declared.CommandBuffer.{CommandBuffer}
-use Rattle.command.specs.Buffer.{held, laid, leaving, around, inRangeOf, dueOf, droppedOf, movedOf, takenOf, restOf, commandWords}
+use Rattle.command.specs.Buffer.{held, laid, around, inRangeOf, dueOf, droppedOf, movedOf, takenOf, restOf, commandWords}
 use Rattle.command.specs.Ranks.{rankWithin, waitsOf}
 use Rattle.command.specs.Soundness.{soundBuffer}
 use Rattle.command.specs.Slots.{bufferAt, Lent}
@@ -47,16 +47,20 @@ apply-end {side} {p} {xs} {m} {was} {place} {i} s h =
     let j : i ≡ m = omega arith in
     puts-as (ap (λ (n : ℕ). commandWords side (filterB p (take n xs))) j) (s .words)
 
-module _ (e : List Entry) (n : ℕ) (s : Timestamp) (side : ℕ) {place next : ℕ} {was last : List ℕ} where
-  pub apply-due-is : Puts was place (commandWords side (filterB (rankWithin s 0 32769) (take n e))) next last
-      → Puts was place (commandWords side (filterB (dueOf s) (take n e))) next last
-  apply-due-is p = puts-as (ap (commandWords side) (filter-ext (rankWithin s 0 32769) (dueOf s) (span-due s 0 32769 refl refl) (take n e))) p
+module _ (b : CommandBuffer) (s : Timestamp) (side : ℕ) {place next : ℕ} {was last : List ℕ} where
+  pub apply-due-is : Puts was place (commandWords side (filterB (rankWithin s 0 32769) (held b))) next last
+      → Puts was place (commandWords side (takenOf b s)) next last
+  unfolding takenOf
+  apply-due-is p = puts-as (ap (commandWords side) (filter-ext (rankWithin s 0 32769) (dueOf s) (span-due s 0 32769 refl refl) (held b))) p
 
-  pub apply-all-is : Puts was place (commandWords side (filterB (rankWithin s 0 65536) (take n e))) next last
-      → Puts was place (commandWords side (take n e)) next last
-  apply-all-is p = puts-as (ap (commandWords side) (filter-all (rankWithin s 0 65536) (span-all s 0 65536 refl refl) (take n e))) p
+  pub apply-all-is : Puts was place (commandWords side (filterB (rankWithin s 0 65536) (held b))) next last
+      → Puts was place (commandWords side (held b)) next last
+  apply-all-is p = puts-as (ap (commandWords side) (filter-all (rankWithin s 0 65536) (span-all s 0 65536 refl refl) (held b))) p
 
 -- ---- one sift for two
+
+never : (q : Bool) → q ≡ true → q ≡ false → ⊥
+never q h g = let z : _≡_ {A = ℕ} 0 1 = cc in omega arith
 
 filter-twice : (p q : Entry → Bool) (xs : List Entry) → filterB (λ x. p x && q x) xs ≡ filterB q (filterB p xs)
 filter-twice p q [] = refl
@@ -102,7 +106,7 @@ module _ (b : CommandBuffer) (to : Timestamp) where
   stepped-laid : waitsOf b to ≡ false → laid (filterB (inRangeOf to) (held (restOf b to))) to ≡ movedOf (restOf b to) to .buffer
   stepped-laid w = elim (split 0 (movedOf (restOf b to) to .dropped)) [
     | inl l ↦ laid-out (λ z. omega arith)
-    | inr l ↦ laid-due (omega arith) (λ h. let e : _≡_ {A = Bool} true false = sym (waits-so h (omega arith)) ∙ w in let z : _≡_ {A = ℕ} 0 1 = cc in omega arith)
+    | inr l ↦ laid-due (omega arith) (λ h. never (waitsOf b to) (waits-so h (omega arith)) w)
   ]
 
 -- ---- a step
@@ -136,10 +140,9 @@ module _ {e : List Entry} {n : ℕ} {t : Timestamp} (to : Timestamp) {side place
     step-quiet g = step-waits (sym (waits-counted (bufferAt e n t) to el eh refl) ∙ sym h ∙ g)
 
     -- some go: the words of those that are due, and one sift
-    pub step-some : q ≡ false → {next : ℕ} {tape : List ℕ} → Puts was place (commandWords side (filterB (dueOf to) (take n e))) next tape
+    pub step-some : q ≡ false → {next : ℕ} {tape : List ℕ} → Puts was place (commandWords side (takenOf (bufferAt e n t) to)) next tape
         → {last : List Entry} {r : ℕ} → Filled (filterB (rankWithin to lo hi) (take n e)) last r
         → Steps (bufferAt e n t) to side place was (record { len = r; at = next }) last tape
-    unfolding takenOf
     step-some g p {last} {r} f =
         let b : CommandBuffer = bufferAt e n t in
         let w : waitsOf b to ≡ false = sym (waits-counted b to el eh refl) ∙ sym h ∙ g in

@@ -1,5 +1,5 @@
--- What the slots of a buffer hold once entries have left it, for slots that are lent: document 01's operations under "src/command.rs", as crate `command` defines
--- them. Definitions only. Assumes nothing.
+-- What the slots of a buffer hold once entries have left it, for slots that are lent: document 01's operations under "src/command.rs", as crate `command`
+-- defines them. Definitions only. Assumes nothing.
 use Prim.Native.Nat.{ℕ, _+_, _≤_}
 use mathlib.Core.Path.{_≡_}
 use mathlib.Core.List.{List}
@@ -9,9 +9,8 @@ use Rattle.timestamp.specs.declared.Timestamp.{Timestamp}
 use Rattle.tape.specs.Tape.{Puts}
 use Rattle.command.specs.Entries.{Entry}
 use Rattle.command.specs.declared.CommandBuffer.{CommandBuffer}
-use Rattle.command.specs.Lists.{filterB, pad}
-use Rattle.command.specs.Buffer.{blank, dueOf, movedOf, takenOf, restOf, emptiedOf, commandWords}
-use Rattle.command.specs.Ranks.{rankWithin}
+use Rattle.command.specs.Lists.{pad}
+use Rattle.command.specs.Buffer.{blank, movedOf, takenOf, restOf, emptiedOf, commandWords}
 use Rattle.command.specs.Slots.{bufferAt}
 use Rattle.slots.specs.declared.Stepped.{Stepped}
 
@@ -21,16 +20,21 @@ pub record Slots (e : List Entry) (n : ℕ) : Type 0 where
   pub few : n ≤ bufferRoom
 
 -- the first r slots hold the entries xs
-pub record InFront (xs : List Entry) (last : List Entry) (r : ℕ) : Type 0 where
+pub record InFront (xs last : List Entry) (r : ℕ) : Type 0 where
   pub slots : length last ≡ bufferRoom
   pub front : take r last ≡ xs
   pub few : r ≤ bufferRoom
 
 -- the slots hold the entries xs, r in number, and blanks after them
-pub record Filled (xs : List Entry) (last : List Entry) (r : ℕ) : Type 0 where
+pub record Filled (xs last : List Entry) (r : ℕ) : Type 0 where
   pub slots : length last ≡ bufferRoom
   pub laid : last ≡ pad bufferRoom blank xs
   pub count : r ≡ length xs
+
+-- the slots are those of another array
+pub record Copied (from last : List Entry) : Type 0 where
+  pub slots : length last ≡ bufferRoom
+  pub same : last ≡ from
 
 -- the slots, with r entries and the midpoint t, are the buffer b, and of n entries so many are gone
 pub record Leaves (b : CommandBuffer) (gone n : ℕ) (last : List Entry) (r : ℕ) (t : Timestamp) : Type 0 where

@@ -13,11 +13,11 @@ ghost use lib.Dec.{eqb};
 ghost use lib.ListN.{length, take};
 ghost use Rattle.refusals.specs.Limits.{bufferRoom};
 ghost use Rattle.tape.specs.Tape.{Puts};
-ghost use Rattle.command.specs.Lists.{filterB, pad};
-ghost use Rattle.command.specs.Buffer.{blank, dueOf, movedOf, takenOf, restOf, commandWords};
+ghost use Rattle.command.specs.Lists.{filterB};
+ghost use Rattle.command.specs.Buffer.{held, movedOf, takenOf, restOf, commandWords};
 ghost use Rattle.command.specs.Ranks.{rankWithin, siftedOf};
 ghost use Rattle.command.specs.Slots.{bufferAt, Lent};
-ghost use Rattle.slots.specs.After.{Slots, InFront, Filled, Leaves, Empties, Steps};
+ghost use Rattle.slots.specs.After.{Slots, InFront, Filled, Copied, Leaves, Empties, Steps};
 
 // The answer of a step: how many entries are left, and the next place on the tape.
 pub struct Stepped {
@@ -28,7 +28,7 @@ pub struct Stepped {
 // Blanks the slots from n on.
 pub fn blank_from(e: &mut [u64], n: usize)
     requires { ⌜ Slots (now e) n ⌝ }
-    ensures { λ r. ⌜ now (e .exit) ≡ pad bufferRoom blank (take n (now (e .entry))) ⌝ }
+    ensures { λ r. ⌜ Filled (take n (now (e .entry))) (now (e .exit)) n ⌝ }
 {
     let mut i = n;
     while i < 64 {
@@ -40,7 +40,7 @@ pub fn blank_from(e: &mut [u64], n: usize)
 // Copies all slots.
 pub fn copy_from(e: &mut [u64], from: &[u64])
     requires { ⌜ (length (now e) ≡ bufferRoom) × (length (now from) ≡ bufferRoom) ⌝ }
-    ensures { λ r. ⌜ now (e .exit) ≡ now (from .entry) ⌝ }
+    ensures { λ r. ⌜ Copied (now (from .entry)) (now (e .exit)) ⌝ }
 {
     let mut i: usize = 0;
     while i < 64 {
@@ -53,7 +53,7 @@ pub fn copy_from(e: &mut [u64], from: &[u64])
 // them on the circle of stamps too, as both spans are shorter than half of it.
 pub fn stays(e: &[u64], n: usize, t: Timestamp, m: Timestamp, lo: u32, hi: u32) -> bool
     requires { ⌜ (Lent (now e) n t) × (0 < n) × (hi ≤ lo + 32767) ⌝ }
-    ensures { λ r. ⌜ r ≡ eqb (length (filterB (λ x. not (rankWithin m lo hi x)) (take n (now (e .entry))))) 0 ⌝ }
+    ensures { λ r. ⌜ r ≡ eqb (length (filterB (λ x. not (rankWithin m lo hi x)) (held (bufferAt (now (e .entry)) n t)))) 0 ⌝ }
 {
     let first = e[0];
     if !ranks_between(first, m, lo, hi) {
@@ -96,19 +96,27 @@ pub fn drain_to(e: &mut [u64], n: usize, t: Timestamp, s: Timestamp) -> usize
 }
 
 // Puts the command words of the entries whose signed difference to s is at most 0, for the left (0) or the right (1) world, oldest first.
-pub fn apply_due(e: &[u64], n: usize, s: Timestamp, side: u32, tape: &mut [u32], at: usize) -> usize
-    requires { ⌜ (Slots (now e) n) × (at < 4000000000) ⌝ }
-    ensures { λ r. ⌜ Puts (now (tape .entry)) at (commandWords side (filterB (dueOf s) (take n (now (e .entry))))) r (now (tape .exit)) ⌝ }
+pub fn apply_due(
+    e: &[u64],
+    n: usize,
+    t: Timestamp,
+    s: Timestamp,
+    side: u32,
+    tape: &mut [u32],
+    at: usize,
+) -> usize
+    requires { ⌜ (Lent (now e) n t) × (at < 4000000000) ⌝ }
+    ensures { λ r. ⌜ Puts (now (tape .entry)) at (commandWords side (takenOf (bufferAt (now (e .entry)) n t) s)) r (now (tape .exit)) ⌝ }
 {
     apply_between(e, n, s, 0, 32769, side, tape, at)
 }
 
 // Puts the command words of all entries, oldest first.
-pub fn apply_all(e: &[u64], n: usize, side: u32, tape: &mut [u32], at: usize) -> usize
-    requires { ⌜ (Slots (now e) n) × (at < 4000000000) ⌝ }
-    ensures { λ r. ⌜ Puts (now (tape .entry)) at (commandWords side (take n (now (e .entry)))) r (now (tape .exit)) ⌝ }
+pub fn apply_all(e: &[u64], n: usize, t: Timestamp, side: u32, tape: &mut [u32], at: usize) -> usize
+    requires { ⌜ (Lent (now e) n t) × (at < 4000000000) ⌝ }
+    ensures { λ r. ⌜ Puts (now (tape .entry)) at (commandWords side (held (bufferAt (now (e .entry)) n t))) r (now (tape .exit)) ⌝ }
 {
-    apply_between(e, n, Timestamp(0), 0, 65536, side, tape, at)
+    apply_between(e, n, t, 0, 65536, side, tape, at)
 }
 
 // A step to a stamp: the command words of the entries that are due, and the others stay, but for those out of the range around it.
@@ -130,7 +138,7 @@ pub fn step_to(
     if stays(e, n, t, to, 32769, 49151) {
         return Stepped { len: n, at };
     }
-    let next = apply_due(e, n, to, side, tape, at);
+    let next = apply_due(e, n, t, to, side, tape, at);
     let len = keep(e, n, to, 32769, 49151);
     Stepped { len, at: next }
 }

@@ -1,11 +1,9 @@
 -- `apply_between` meets its contract. The loop's invariant: of the entries passed, the words of those in the span are on the tape. Assumes nothing.
 use borrow.Author.Needs.{needs}
 use native.Mathlib.Omega.{arith}
-use Prim.Native.Nat.{_-_, _≤_}
-use mathlib.Core.Path.{_≡_, sym, ap, _∙_}
-use lib.ListN.{length}
+use Prim.Native.Nat.{_-_}
+use mathlib.Core.Path.{sym, ap, _∙_}
 use Rattle.tape.specs.Words.{commandWord}
-use Rattle.tape.proofs.Writing.{puts-as}
 use Rattle.command.specs.Buffer.{blank}
 use Rattle.command.specs.Ranks.{rankWithin}
 use Rattle.command.proofs.Applying.{Applying, apply-none, apply-few, apply-length, apply-one, apply-skip}

@@ -1,9 +1,7 @@
 -- `blank_from` meets its contract. The loop's invariant: the slots, blank from `i` on, are those that were, blank from `n` on. Assumes nothing.
 use borrow.Author.Needs.{needs}
-use native.Mathlib.Omega.{arith}
 use Prim.Native.Nat.{_-_}
-use mathlib.Core.Path.{_≡_, sym, _∙_}
-use lib.ListN.{length}
+use mathlib.Core.Path.{sym, _∙_}
 use Rattle.slots.proofs.Filling.{Blanking, blank-start, blank-next, blank-end}
 use Rattle.slots.proofs.blank_from.Statement.{statement}
 use Rattle.slots.proofs.blank_from.Tie as tie
@@ -36,7 +34,7 @@ same-length : tie.Need-same-length Inv-loop μ-loop
 same-length c = c .before .loop .inv .slots ∙ sym (c .before .before .pre .slots)
 
 returns : tie.Need-returns Inv-loop μ-loop
-returns c = blank-end (c .before .loop .inv) (c .loop-test .left)
+returns c = blank-end (c .before .before .pre) (c .before .loop .inv) (c .loop-test .left)
 
 pub blank-from-spec : {M : Type 1} → statement M
 blank-from-spec =

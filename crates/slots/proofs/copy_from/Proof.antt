@@ -1,9 +1,7 @@
 -- `copy_from` meets its contract. The loop's invariant: the first `i` slots are those of `from`. Assumes nothing.
 use borrow.Author.Needs.{needs}
-use native.Mathlib.Omega.{arith}
 use Prim.Native.Nat.{_-_}
-use mathlib.Core.Path.{_≡_, sym, _∙_}
-use lib.ListN.{length}
+use mathlib.Core.Path.{sym, _∙_}
 use Rattle.slots.proofs.Filling.{Copying, copy-start, copy-next, copy-end}
 use Rattle.slots.proofs.copy_from.Statement.{statement}
 use Rattle.slots.proofs.copy_from.Tie as tie

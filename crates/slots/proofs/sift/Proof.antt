@@ -1,7 +1,6 @@
 -- `sift` meets its contract: nothing is held, all stay, or those that stay are in front and the slots behind them blank. Assumes nothing.
 use borrow.Author.Needs.{needs}
-use native.Mathlib.Omega.{arith}
-use mathlib.Core.Path.{_≡_, refl}
+use mathlib.Core.Path.{refl}
 use Rattle.slots.proofs.Leaving.{lent-slots, sift-empty, sift-quiet, sift-some}
 use Rattle.slots.proofs.sift.Statement.{statement}
 use Rattle.slots.proofs.sift.Tie as tie

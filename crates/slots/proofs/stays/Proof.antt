@@ -2,7 +2,7 @@
 use borrow.Author.Needs.{needs}
 use borrow.Author.Tests.{not-true, not-false}
 use native.Mathlib.Omega.{arith}
-use mathlib.Core.Path.{_≡_, sym, _∙_}
+use mathlib.Core.Path.{sym, _∙_}
 use Rattle.slots.proofs.Between.{lent-few, stays-not, stays-by}
 use Rattle.slots.proofs.stays.Statement.{statement}
 use Rattle.slots.proofs.stays.Tie as tie

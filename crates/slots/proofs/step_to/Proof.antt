@@ -20,9 +20,7 @@ returns-2 c =
     step-quiet _ (c .before .before .before .before .before .before .pre .0) (omega arith) (omega arith) (c .before .stays .ensures) (c .if2 .taken)
 
 apply-due-requires : tie.Need-apply-due-requires
-apply-due-requires c κs =
-    let p = c .before .before .before .before .before .before .before .before .pre in
-    (lent-slots (p .0), p .1)
+apply-due-requires c κs = c .before .before .before .before .before .before .before .before .pre
 
 keep-requires : tie.Need-keep-requires
 keep-requires c κs = lent-slots (c .before .before .before .before .before .before .before .before .before .before .before .before .pre .0)

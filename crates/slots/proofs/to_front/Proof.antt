@@ -3,8 +3,7 @@
 use borrow.Author.Needs.{needs}
 use native.Mathlib.Omega.{arith}
 use Prim.Native.Nat.{_-_, _<_}
-use mathlib.Core.Path.{_≡_, sym, _∙_}
-use lib.ListN.{length}
+use mathlib.Core.Path.{sym, _∙_}
 use Rattle.command.specs.Ranks.{rankWithin}
 use Rattle.slots.proofs.Filling.{Kept, kept-none, kept-end, kept-room, kept-push, kept-skip}
 use Rattle.slots.proofs.to_front.Statement.{statement}

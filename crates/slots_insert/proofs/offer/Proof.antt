@@ -52,10 +52,13 @@ returns-4 : tie.Need-returns-4
 returns-4 c =
     let q = c .before .before .before .before .before .before .before .before .before in
     let l = q .before .before .before .before .pre .lent in
-    offered-taken l _ (within (q .before)) (room q) (blanked-placed l (room q) (c .before .before .before .before .before .before .blank-from .ensures) (c .before .before .insert2 .ensures))
+    offered-taken l _ (within (q .before)) (room q)
+    (blanked-placed l (room q) (c .before .before .before .before .before .before .blank-from .ensures) (c .before .before .insert2 .ensures))
 
 same-length-2 : tie.Need-same-length-2
-same-length-2 c = returns-4 c .slots ∙ sym (c .before .before .before .before .before .before .before .before .before .before .before .before .before .pre .lent .slots)
+same-length-2 c =
+    let s = c .before .before .before .before .before .before .before .before .before .before .before .before .before in
+    returns-4 c .slots ∙ sym (s .pre .lent .slots)
 
 pub offer-spec : {M : Type 1} → statement M
 offer-spec =
