@@ -286,7 +286,7 @@ fn deviates(mean: f64, offset: f64, deviation: f64) -> bool
 }
 
 // The offset after a mean was taken.
-fn synced(old: Offset, mean: f64, deviation: f64) -> Offset
+pub fn synced(old: Offset, mean: f64, deviation: f64) -> Offset
     ensures { λ r. ⌜ r ≡ offsetAfter old mean deviation ⌝ }
 {
     match old {
@@ -302,7 +302,7 @@ fn synced(old: Offset, mean: f64, deviation: f64) -> Offset
 }
 
 // Whether the timer is finite, which of a value up to 3,600 only minus infinity is not, and at most 3,600.
-fn timer_sound(timer: f64) -> bool
+pub fn timer_sound(timer: f64) -> bool
     ensures { λ r. ⌜ r ≡ timerOk timer ⌝ }
 {
     if timer <= refusals::HOUR {
