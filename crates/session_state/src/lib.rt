@@ -53,7 +53,7 @@ pub fn is_ready(stage: Stage) -> bool
 }
 
 // A queued snapshot's handle is within 24 bits.
-pub(crate) fn queued_sound(q: Queued) -> bool
+pub fn queued_sound(q: Queued) -> bool
     ensures { λ r. ⌜ r ≡ queuedSound q ⌝ }
 {
     match q {
@@ -135,7 +135,7 @@ pub(crate) fn worlds_sound(w: ClientWorldSimulations) -> bool
 }
 
 // The overshoot is 0 to the timestep.
-pub(crate) fn overshoot_sound(overshoot: f64, timestep: f64) -> bool
+pub fn overshoot_sound(overshoot: f64, timestep: f64) -> bool
     ensures { λ r. ⌜ r ≡ overshootSound overshoot timestep ⌝ }
 {
     if overshoot >= 0.0 {
