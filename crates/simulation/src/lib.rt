@@ -159,7 +159,7 @@ pub fn reset_last_completed_timestamp(
 }
 
 // Whether a reset from the stamp `now` goes back.
-pub(crate) fn resets_back(stamp: Timestamp, now: Timestamp) -> bool
+pub fn resets_back(stamp: Timestamp, now: Timestamp) -> bool
     ensures { λ r. ⌜ r ≡ resetsBack stamp now ⌝ }
 {
     match stamp.cmp(now) {
