@@ -12,6 +12,7 @@ use Rattle.clocksync.specs.Clock.{heldOf, newOf, tickedOf, heardOf, filledOf, s
 use Rattle.inbox.specs.Inbox.{floatBitsOf, inboxTimeOf, clockOf, frontOf, messagesAfter}
 use Rattle.inbox_refusal.specs.Refusal.{refusalIn, refusalOf}
 use Rattle.command.specs.Buffer.{laid, inRangeOf, dueOf, laterThan, placedOf, insertedOf, leaving, droppedOf, movedOf, takenOf, restOf, commandWords}
+use Rattle.command.specs.Entries.{entryOf, stampIn, handleIn, plainEntry}
 use Rattle.command.specs.Soundness.{inOrderAfter, inOrder, soundBuffer}
 use Rattle.tape.specs.Words.{stepWord, commandWord, snapshotWord, publishWord, noneWord, snapshotWords}
 use Rattle.simulation.specs.World.{scheduledOf, stepOf, loadOf}
@@ -40,7 +41,7 @@ use Rattle.cases.specs.Example.{unplayed, catching, playing, Counts, Exa
 
 -- what is computed, under the definitions of the calls
 counts : Counts
-unfolding fits refusedWith add sub mul div rem round lt le eq ofInt toSigned toUnsigned ofBits toBits signedOf orderOf inRange ceilOf roundOf
+unfolding entryOf stampIn handleIn plainEntry fits refusedWith add sub mul div rem round lt le eq ofInt toSigned toUnsigned ofBits toBits signedOf orderOf inRange ceilOf roundOf
     fromUnwrapped fromSeconds stampOf ceilStampOf lagFramesOf discardOf secondsPass thresholdsPass samplesPass countsPass passesOf offsetOf
     sampleInserted sortedOnto sortedOf sumFrom averageOf meanOf heldOf newOf tickedOf heardOf filledOf settledOf samplesOk timerOk soundClock
     floatBitsOf inboxTimeOf clockOf frontOf messagesAfter refusalIn refusalOf laid inRangeOf dueOf laterThan placedOf insertedOf leaving droppedOf

@@ -11,6 +11,7 @@ use Rattle.clocksync.specs.Clock.{heldOf, newOf, tickedOf, heardOf, filledOf, s
 use Rattle.inbox.specs.Inbox.{floatBitsOf, inboxTimeOf, clockOf, frontOf, messagesAfter}
 use Rattle.inbox_refusal.specs.Refusal.{refusalIn, refusalOf}
 use Rattle.command.specs.Buffer.{laid, inRangeOf, dueOf, laterThan, placedOf, insertedOf, leaving, droppedOf, movedOf, takenOf, restOf, commandWords}
+use Rattle.command.specs.Entries.{entryOf, stampIn, handleIn, plainEntry}
 use Rattle.command.specs.Soundness.{inOrderAfter, inOrder, soundBuffer}
 use Rattle.tape.specs.Words.{stepWord, commandWord, snapshotWord, publishWord, noneWord}
 use Rattle.simulation.specs.World.{scheduledOf, stepOf, loadOf}
@@ -37,7 +38,7 @@ use Rattle.cases.specs.Table.{frameThree, frameFour, traceOfFour}
 
 -- the cases that document 01 marks P. The line below the signature opens what the rows compute with: the definitions of the calls, and the two runs
 pub marked : Marked
-unfolding add sub mul div rem round lt le eq ofInt toSigned toUnsigned ofBits toBits signedOf orderOf inRange ceilOf roundOf fromUnwrapped fromSeconds
+unfolding entryOf stampIn handleIn plainEntry add sub mul div rem round lt le eq ofInt toSigned toUnsigned ofBits toBits signedOf orderOf inRange ceilOf roundOf fromUnwrapped fromSeconds
     stampOf ceilStampOf lagFramesOf discardOf secondsPass thresholdsPass samplesPass countsPass passesOf offsetOf sampleInserted sortedOnto sortedOf
     sumFrom averageOf meanOf heldOf newOf tickedOf heardOf filledOf settledOf samplesOk timerOk soundClock floatBitsOf inboxTimeOf clockOf frontOf
     messagesAfter refusalIn refusalOf laid inRangeOf dueOf laterThan placedOf insertedOf leaving droppedOf movedOf takenOf restOf commandWords
