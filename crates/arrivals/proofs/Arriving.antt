@@ -10,7 +10,7 @@ use Rattle.command.specs.Entries.{Entry, plainEntry}
 use Rattle.command.specs.declared.Outcome.{Outcome}
 use Rattle.command.specs.declared.Outcome.the-variants.{Taken, OutOfRange, Full}
 use Rattle.command.specs.Buffer.{takenBy}
-use Rattle.command.specs.Slots.{bufferAt}
+use Rattle.command.specs.Slots.{bufferAt, AllSlots}
 use Rattle.command.proofs.Soundness.{sound-tells}
 use Rattle.slots_insert.specs.Insertions.{Offers, Offered}
 use Rattle.slots_insert.proofs.Offering.{offered-lent, taken-clean, still-clean}
@@ -23,7 +23,7 @@ use Rattle.client_receive.specs.Receive.{alsoFull, receivedOf}
 use Rattle.client_receive.proofs.Arrivals.{received-is}
 use Rattle.arrivals.specs.declared.Arrived.{Arrived}
 use Rattle.arrivals.specs.declared.Midpoints.{Midpoints}
-use Rattle.arrivals.specs.Arrivals.{arrivedAt, receivedAt, Ready, Slots, Receives}
+use Rattle.arrivals.specs.Arrivals.{arrivedAt, receivedAt, Ready, Receives}
 use Rattle.arrivals.specs.Inner.{cleanedBy, holdsMore, fullAfter, arrivedBy, Few}
 
 -- ---- the numbers
@@ -57,7 +57,7 @@ module _ {a : Arrived} {t : Midpoints} {l r b : List Entry} (w : Ready a t l r b
         base = sound-tells (bufferAt b (a .base) (t .base)) (w .base .lent .sound) .few;
       }
 
-  pub ready-slots : Slots l r b
+  pub ready-slots : AllSlots l r b
   ready-slots = record { left = w .left .lent .slots; right = w .right .lent .slots; base = w .base .lent .slots }
 
 -- a buffer that was offered a plain entry can be offered one more

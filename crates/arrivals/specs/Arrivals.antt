@@ -4,10 +4,8 @@ use Prim.Native.Nat.{ℕ}
 use mathlib.Core.Bool.{true}
 use mathlib.Core.List.{List}
 use mathlib.Core.Path.{_≡_}
-use lib.ListN.{length}
-use Rattle.refusals.specs.Limits.{bufferRoom}
 use Rattle.command.specs.Entries.{Entry, plainEntry}
-use Rattle.command.specs.Slots.{bufferAt}
+use Rattle.command.specs.Slots.{bufferAt, AllSlots}
 use Rattle.slots_insert.specs.Insertions.{Offers}
 use Rattle.simulation.specs.World.{worldWith}
 use Rattle.client.specs.declared.Scene.{Scene}
@@ -40,20 +38,14 @@ pub record Ready (a : Arrived) (t : Midpoints) (l r b : List Entry) : Type 0 whe
   pub right : Offers r (a .right .held) (t .right) (a .rightclean)
   pub base : Offers b (a .base) (t .base) (a .baseclean)
 
--- each array has a buffer's 64 slots
-pub record Slots (l r b : List Entry) : Type 0 where
-  pub left : length l ≡ bufferRoom
-  pub right : length r ≡ bufferRoom
-  pub base : length b ≡ bufferRoom
-
 -- a command x was received, whatever the scene is beside the buffers and the ledgers; where x has no spare bit set, more can be
 pub record Receives (a : Arrived) (x : Entry) (t : Midpoints) (l r b : List Entry) (z : Arrived) (l₁ r₁ b₁ : List Entry) : Type 0 where
   pub received : (s : Scene) → receivedAt s z t l₁ r₁ b₁ ≡ alsoFull (a .full) (receivedOf (arrivedAt s a t l r b) x)
-  pub slots : Slots l₁ r₁ b₁
+  pub slots : AllSlots l₁ r₁ b₁
   pub ready : plainEntry x ≡ true → Ready z t l₁ r₁ b₁
 
 -- the commands of an inbox were received, whatever the scene is beside the buffers and the ledgers, and more can be
 pub record ReceivesAll (words : List ℕ) (a : Arrived) (t : Midpoints) (l r b : List Entry) (z : Arrived) (l₁ r₁ b₁ : List Entry) : Type 0 where
   pub received : (s : Scene) → receivedAt s z t l₁ r₁ b₁ ≡ receivedIn words (receivedAt s a t l r b)
-  pub slots : Slots l₁ r₁ b₁
+  pub slots : AllSlots l₁ r₁ b₁
   pub ready : Ready z t l₁ r₁ b₁

@@ -18,7 +18,8 @@ use Rattle.inbox.specs.declared.Message.the-variants.{Command, Snapshot, Clock,
 use Rattle.inbox_passes.specs.Passes.{receiveOne}
 use Rattle.arrivals.specs.declared.Arrived.{Arrived}
 use Rattle.arrivals.specs.declared.Midpoints.{Midpoints}
-use Rattle.arrivals.specs.Arrivals.{receivedAt, Ready, Slots}
+use Rattle.command.specs.Slots.{AllSlots}
+use Rattle.arrivals.specs.Arrivals.{receivedAt, Ready}
 
 -- the unused slots are blank after an insertion: where it put an entry in, and where they were before
 abbrev pub cleanedBy : Bool → Outcome → Bool
@@ -65,5 +66,5 @@ plainMessage CutShort = true
 -- a message was received, whatever the scene is beside the buffers and the ledgers; where it is plain, more can be
 pub record ReceivesOne (a : Arrived) (m : Message) (t : Midpoints) (l r b : List Entry) (z : Arrived) (l₁ r₁ b₁ : List Entry) : Type 0 where
   pub received : (s : Scene) → receivedAt s z t l₁ r₁ b₁ ≡ receiveOne (receivedAt s a t l r b) m
-  pub slots : Slots l₁ r₁ b₁
+  pub slots : AllSlots l₁ r₁ b₁
   pub ready : plainMessage m ≡ true → Ready z t l₁ r₁ b₁

@@ -10,7 +10,6 @@ ghost use mathlib.Core.Path.{_≡_};
 ghost use Prim.Native.Nat.{_≤_};
 ghost use Rattle.refusals.specs.Limits.{bufferRoom};
 ghost use Rattle.command.specs.Buffer.{takenBy};
-ghost use Rattle.client_receive.specs.Receive.{fullBy};
 ghost use Rattle.arrivals.specs.Arrivals.{Ready, Receives, ReceivesAll};
 ghost use Rattle.arrivals.specs.Inner.{cleanedBy, holdsMore, fullAfter, arrivedBy, Few, ReceivesOne};
 
@@ -33,28 +32,6 @@ pub struct Midpoints {
     pub base: Timestamp,
 }
 
-// How many entries an insertion put in.
-pub(crate) fn taken_by(o: Outcome) -> usize
-    ensures { λ r. ⌜ r ≡ takenBy o ⌝ }
-{
-    match o {
-        Outcome::Taken => 1,
-        Outcome::OutOfRange => 0,
-        Outcome::Full => 0,
-    }
-}
-
-// Whether an insertion found its buffer full.
-pub(crate) fn is_full(o: Outcome) -> bool
-    ensures { λ r. ⌜ r ≡ fullBy o ⌝ }
-{
-    match o {
-        Outcome::Taken => false,
-        Outcome::OutOfRange => false,
-        Outcome::Full => true,
-    }
-}
-
 // Whether the unused slots are blank after an insertion.
 pub(crate) fn cleaned(clean: bool, o: Outcome) -> bool
     ensures { λ r. ⌜ r ≡ cleanedBy clean o ⌝ }
@@ -71,7 +48,7 @@ pub(crate) fn take(l: Ledger, o: Outcome) -> Ledger
     requires { ⌜ l .held ≤ bufferRoom ⌝ }
     ensures { λ r. ⌜ r ≡ holdsMore l (takenBy o) ⌝ }
 {
-    let n = taken_by(o);
+    let n = client_receive::taken_by(o);
     let held = l.held + n;
     let mut t = ledgers::count_taken(l, n);
     t.held = held;
@@ -85,13 +62,13 @@ pub(crate) fn any_full(before: bool, b: Outcome, l: Outcome, r: Outcome) -> bool
     if before {
         return true;
     }
-    if is_full(b) {
+    if client_receive::is_full(b) {
         return true;
     }
-    if is_full(l) {
+    if client_receive::is_full(l) {
         return true;
     }
-    is_full(r)
+    client_receive::is_full(r)
 }
 
 // The numbers after the insertions into the base, the left and the right buffer.
@@ -102,7 +79,7 @@ pub(crate) fn arrived_by(a: Arrived, b: Outcome, l: Outcome, r: Outcome) -> Arri
     Arrived {
         left: take(a.left, l),
         right: take(a.right, r),
-        base: a.base + taken_by(b),
+        base: a.base + client_receive::taken_by(b),
         full: any_full(a.full, b, l, r),
         leftclean: cleaned(a.leftclean, l),
         rightclean: cleaned(a.rightclean, r),

@@ -41,7 +41,8 @@ use Rattle.cases.specs.Example.{unplayed, catching, playing, Counts, Exa
 
 -- what is computed, under the definitions of the calls
 counts : Counts
-unfolding entryOf stampIn handleIn plainEntry fits refusedWith add sub mul div rem round lt le eq ofInt toSigned toUnsigned ofBits toBits signedOf orderOf inRange ceilOf roundOf
+unfolding entryOf stampIn handleIn plainEntry
+    fits refusedWith add sub mul div rem round lt le eq ofInt toSigned toUnsigned ofBits toBits signedOf orderOf inRange ceilOf roundOf
     fromUnwrapped fromSeconds stampOf ceilStampOf lagFramesOf discardOf secondsPass thresholdsPass samplesPass countsPass passesOf offsetOf
     sampleInserted sortedOnto sortedOf sumFrom averageOf meanOf heldOf newOf tickedOf heardOf filledOf settledOf samplesOk timerOk soundClock
     floatBitsOf inboxTimeOf clockOf frontOf messagesAfter refusalIn refusalOf laid inRangeOf dueOf laterThan placedOf insertedOf leaving droppedOf

@@ -38,7 +38,8 @@ use Rattle.cases.specs.Table.{frameThree, frameFour, traceOfFour}
 
 -- the cases that document 01 marks P. The line below the signature opens what the rows compute with: the definitions of the calls, and the two runs
 pub marked : Marked
-unfolding entryOf stampIn handleIn plainEntry add sub mul div rem round lt le eq ofInt toSigned toUnsigned ofBits toBits signedOf orderOf inRange ceilOf roundOf fromUnwrapped fromSeconds
+unfolding entryOf stampIn handleIn plainEntry
+    add sub mul div rem round lt le eq ofInt toSigned toUnsigned ofBits toBits signedOf orderOf inRange ceilOf roundOf fromUnwrapped fromSeconds
     stampOf ceilStampOf lagFramesOf discardOf secondsPass thresholdsPass samplesPass countsPass passesOf offsetOf sampleInserted sortedOnto sortedOf
     sumFrom averageOf meanOf heldOf newOf tickedOf heardOf filledOf settledOf samplesOk timerOk soundClock floatBitsOf inboxTimeOf clockOf frontOf
     messagesAfter refusalIn refusalOf laid inRangeOf dueOf laterThan placedOf insertedOf leaving droppedOf movedOf takenOf restOf commandWords

@@ -24,7 +24,7 @@ use Rattle.client_numbers.specs.declared.Shows.{Shows}
 use Rattle.client_numbers.specs.declared.Shows.the-variants.{NoWorld, OldWorld, NewWorld, Mix}
 use Rattle.client_numbers.specs.Numbers.{newSideBy, oldSideBy, numbersWith, loadedInto, weightedWith, openedBy, countStep, times, oldStepBy, countedWith}
 use Rattle.client_numbers.specs.Numbers.{newStepsBy, steppedBy, shownBy, skippedNumbers}
-use Rattle.client_numbers.specs.Decided.{numbersOf, doneOpening, stepsNew, doneSteps, doneShowing}
+use Rattle.client_numbers.specs.Decided.{SkipsAll, numbersOf, doneOpening, stepsNew, doneSteps, doneShowing}
 
 -- ---- one world
 
@@ -232,3 +232,7 @@ emptied false s = refl
 pub skips : (s : Scene) (t : Timestamp) → numbersOf (skippedOf s t .scene) ≡ skippedNumbers (numbersOf s) t
 unfolding skippedOf
 skips s t = emptied (skipsBack t (oldStampOf (s .worlds))) (resetBoth s t .scene) ∙ both s t
+
+-- numbers after a skip, of every scene that has the numbers before it
+pub skips-all : {n r : Numbers} {t : Timestamp} → r ≡ skippedNumbers n t → SkipsAll n t r
+skips-all {n} {r} {t} e = record { skipped = e; skips = λ s h. e ∙ ap (λ (x : Numbers). skippedNumbers x t) (sym h) ∙ sym (skips s t) }

@@ -2,7 +2,9 @@
 -- that the scene then has. Definitions only. Assumes nothing.
 use Prim.Native.Nat.{ℕ, zero, suc}
 use mathlib.Core.Path.{_≡_}
+use Rattle.timestamp.specs.declared.Timestamp.{Timestamp}
 use Rattle.client.specs.declared.Scene.{Scene}
+use Rattle.client_skip.specs.Skip.{skippedOf}
 use Rattle.client.specs.Sides.{newSideOf, oldSideOf, worldOf, withWeight, withWorlds, oldStampOf, newStampOf, Played, still, andThen}
 use Rattle.client_publish.specs.Publish.{publishedNone, publishedSide, publishedMix}
 use Rattle.client_load.specs.Load.{loadedOf}
@@ -14,6 +16,7 @@ use Rattle.client_numbers.specs.declared.Opens.the-variants.{Unchanged, 
 use Rattle.client_numbers.specs.declared.Shows.{Shows}
 use Rattle.client_numbers.specs.declared.Shows.the-variants.{NoWorld, OldWorld, NewWorld, Mix}
 use Rattle.client_numbers.specs.declared.Frame.{Frame}
+use Rattle.client_numbers.specs.Numbers.{decidedOf, skippedNumbers}
 
 -- the numbers of a scene
 unfoldable pub numbersOf : Scene → Numbers
@@ -59,8 +62,18 @@ doneShowing (Mix t) s = publishedMix s t
 unfoldable pub doneBy : Frame → Scene → Played
 doneBy f s = andThen (doneOpening (f .opens) s) (λ t. andThen (doneSteps (f .steps) t) (doneShowing (f .shows)))
 
--- a frame is decided rightly for a scene
+-- a frame is decided rightly for a scene: done as decided it is the scene's frame, and its numbers and its stop are those that the scene then has
 pub record Decides (rules : Rules) (s : Scene) (f : Frame) : Type 0 where
   pub done : doneBy f s ≡ frameOf rules s
   pub next : f .next ≡ numbersOf (frameOf rules s .scene)
   pub stops : f .stops ≡ frameStops rules s
+
+-- a frame is decided from the numbers n, and rightly for every scene that has these numbers
+pub record DecidesAll (rules : Rules) (n : Numbers) (f : Frame) : Type 0 where
+  pub decided : f ≡ decidedOf rules n
+  pub decides : (s : Scene) → numbersOf s ≡ n → Decides rules s f
+
+-- the numbers r are those of every scene with the numbers n after a skip to the stamp t
+pub record SkipsAll (n : Numbers) (t : Timestamp) (r : Numbers) : Type 0 where
+  pub skipped : r ≡ skippedNumbers n t
+  pub skips : (s : Scene) → numbersOf s ≡ n → r ≡ numbersOf (skippedOf s t .scene)

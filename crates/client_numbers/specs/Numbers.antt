@@ -120,7 +120,7 @@ stepsTo o n m =
 abbrev pub countStep : ℕ → ℕ
 countStep n = (n + 1) % 2 ^ 32
 
--- the same so many times
+-- f applied k times
 unfoldable pub times : {A : Type 0} → ℕ → (A → A) → A → A
 times zero f x = x
 times (suc k) f x = times k f (f x)

@@ -2,7 +2,8 @@
 // done to buffers that are lent (`step` of src/client.rs of crystalorb).
 ghost use mathlib.Core.Path.{_≡_};
 ghost use Rattle.client_numbers.specs.Numbers.{statusIn, opensWith, newSideBy, oldSideBy, openedBy, stepsTo, steppedBy, showsBoth, showsBy, stateOf};
-ghost use Rattle.client_numbers.specs.Numbers.{shownBy, healthyStops, stopsIn, decidedOf, skippedNumbers};
+ghost use Rattle.client_numbers.specs.Numbers.{shownBy, healthyStops, stopsIn};
+ghost use Rattle.client_numbers.specs.Decided.{DecidesAll, SkipsAll};
 use client::FastforwardingHealth;
 use client::LastStamp;
 use client::Queued;
@@ -205,7 +206,7 @@ pub(crate) fn shows_both(weight: f64) -> Shows
     Shows::Mix(weight)
 }
 
-// What is published, by the weight or not; a world that is not initialised is not.
+// What is published, by the weight or not; a world that is not initialised is not published.
 pub(crate) fn shows_what(blended: bool, n: Numbers) -> Shows
     ensures { λ r. ⌜ r ≡ showsBy blended (n .oldinit) (n .newinit) (n .weight) ⌝ }
 {
@@ -235,7 +236,7 @@ pub(crate) fn state_of(shows: Shows, old: Timestamp, new: Timestamp) -> LastStam
     }
 }
 
-// The numbers after it is.
+// The numbers after that state is published.
 pub(crate) fn shown(n: Numbers, shows: Shows) -> Numbers
     ensures { λ r. ⌜ r ≡ shownBy shows n ⌝ }
 {
@@ -288,7 +289,7 @@ pub(crate) fn stops_in(t: ReconciliationStatus, n: Numbers, e: Numbers) -> bool
 
 // One frame.
 pub fn frame_of(n: Numbers, rules: Rules) -> Frame
-    ensures { λ r. ⌜ r ≡ decidedOf rules n ⌝ }
+    ensures { λ r. ⌜ DecidesAll rules n r ⌝ }
 {
     let q = n.queued;
     let t = status_of(n);
@@ -309,7 +310,7 @@ pub fn frame_of(n: Numbers, rules: Rules) -> Frame
 
 // A skip to a stamp: equal stamps move together.
 pub fn skipped(n: Numbers, stamp: Timestamp) -> Numbers
-    ensures { λ r. ⌜ r ≡ skippedNumbers n stamp ⌝ }
+    ensures { λ r. ⌜ SkipsAll n stamp r ⌝ }
 {
     let mut t = n;
     t.old = stamp;

@@ -18,7 +18,7 @@ use command::Outcome;
 use timestamp::Timestamp;
 
 // Whether an insertion found its buffer full.
-pub(crate) fn is_full(o: Outcome) -> bool
+pub fn is_full(o: Outcome) -> bool
     ensures { λ r. ⌜ r ≡ fullBy o ⌝ }
 {
     match o {
@@ -29,7 +29,7 @@ pub(crate) fn is_full(o: Outcome) -> bool
 }
 
 // How many entries an insertion put in.
-pub(crate) fn taken_by(o: Outcome) -> usize
+pub fn taken_by(o: Outcome) -> usize
     ensures { λ r. ⌜ r ≡ takenBy o ⌝ }
 {
     match o {

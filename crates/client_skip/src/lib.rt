@@ -48,7 +48,7 @@ pub(crate) fn reset_along(s: Scene, stamp: Timestamp, tape: &mut [u32], at: usiz
 }
 
 // Whether a skip goes to an earlier stamp.
-pub(crate) fn skips_back(stamp: Timestamp, old: Timestamp) -> bool
+pub fn skips_back(stamp: Timestamp, old: Timestamp) -> bool
     ensures { λ r. ⌜ r ≡ skipsBack stamp old ⌝ }
 {
     match stamp.cmp(old) {

@@ -1,5 +1,5 @@
--- An entry of a command buffer: document 01, "src/command.rs", has it as a stamp and a handle, and here it is one word of 64 bits, the stamp times 2 ^ 32 and
--- the handle. Definitions only. Assumes nothing.
+-- An entry of a command buffer. Document 01 orders entries by their stamps, "src/command.rs", and a command is a handle of 24 bits: an entry is one word of 64
+-- bits, the stamp times 2 ^ 32 and the handle. Definitions only. Assumes nothing.
 use Prim.Native.Nat.{ℕ, _+_, _*_, _/_, _%_, _^_}
 use mathlib.Core.Bool.{Bool, _&&_}
 use lib.Dec.{ltb}

@@ -1,4 +1,5 @@
--- A command buffer over an array that is lent: its slots stand in the array, and its count and its midpoint beside it. Definitions only. Assumes nothing.
+-- A command buffer over an array that is lent: its slots stand in the array, and its count and its midpoint beside it. A buffer is document 01's, "src/command.rs".
+-- Definitions only. Assumes nothing.
 use Prim.Native.Nat.{ℕ}
 use mathlib.Core.Bool.{true}
 use mathlib.Core.List.{List}
@@ -18,3 +19,9 @@ bufferAt e n t = record { entries = e; len = n; timestamp = t }
 pub record Lent (e : List Entry) (n : ℕ) (t : Timestamp) : Type 0 where
   pub slots : length e ≡ bufferRoom
   pub sound : soundBuffer (bufferAt e n t) ≡ true
+
+-- three arrays have a buffer's 64 slots each
+pub record AllSlots (l r b : List Entry) : Type 0 where
+  pub left : length l ≡ bufferRoom
+  pub right : length r ≡ bufferRoom
+  pub base : length b ≡ bufferRoom

@@ -1,5 +1,5 @@
--- A sound buffer, by document 01's "Sound" under "Turned down by the session": counts within limits, entries in order and range, every handle within 24 bits. An
--- entry is a word, so that its spare bits are 0 is part of it.
+-- A sound buffer, by document 01's "Sound" under "Turned down by the session": counts within limits, entries in order and range, every handle within 24
+-- bits. An entry is a word, so that its spare bits are 0 is part of it.
 -- Definitions only. Assumes nothing.
 use mathlib.Core.List.{List, [], _∷_}
 use mathlib.Core.Bool.{Bool, true, not, _&&_}

@@ -220,7 +220,7 @@ pub fn apply_all(buffer: CommandBuffer, side: u32, tape: &mut [u32], at: usize) 
     }
 }
 
-// Whether a buffer is sound: at most 64 entries, in order and in range, every handle within 24 bits.
+// Whether a buffer is sound: at most 64 entries, in order and in range, every handle within 24 bits, and no spare bit set.
 pub fn sound(buffer: CommandBuffer) -> bool
     ensures { λ r. ⌜ r ≡ soundBuffer buffer ⌝ }
 {

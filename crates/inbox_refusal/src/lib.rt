@@ -61,7 +61,7 @@ fn number_of(m: Message) -> u32
 }
 
 // The lower of two refusals, where 0 is none.
-fn lowest(a: u32, b: u32) -> u32
+pub fn lowest(a: u32, b: u32) -> u32
     ensures { λ r. ⌜ r ≡ lowestOf a b ⌝ }
 {
     if a == 0 {

@@ -1,5 +1,6 @@
 -- What an inbox holds, message by message: each case of a message, and what all messages leave, field by field. Assumes nothing.
 use mathlib.Core.Path.{_≡_, refl, sym, ap, _∙_}
+use borrow.Author.Tests.{lt-ltb, le-ltb}
 use mathlib.Core.Bool.{Bool, true, false, _||_}
 use mathlib.Core.List.{List, [], _∷_}
 use Prim.Native.Nat.{ℕ, zero, suc, _<_, _≤_}
@@ -13,7 +14,7 @@ use Rattle.inbox.specs.Inbox.{messagesOf, some}
 use Rattle.inbox.specs.Passes.{over}
 use Rattle.inbox.proofs.Passes.{Passes, pass-end}
 use Rattle.inbox_refusal.specs.Refusal.{messageNumberOf, lowestOf, refusalOf}
-use Rattle.inbox_refusal.proofs.Refusals.{lowest-only, lowest-folds, refusal-long, refusal-found, accepted-few}
+use Rattle.inbox_refusal.proofs.Refusals.{lowest-only, lowest-folds, refusal-long, refusal-found}
 use Rattle.inbox_passes.specs.Passes.{isForWorlds, hasForWorlds, hearOne, heardIn, noteOne, notedIn}
 use Rattle.clocksync.specs.declared.Heard.{Heard}
 use Rattle.clocksync.specs.Clock.{heardOf}
@@ -105,20 +106,20 @@ module _ (words : List ℕ) (seconds : Float) (known : Heard) (was : Snapshots) 
       let all = e ∙ scan-over seconds old (scanWith 0 false false known was) (messagesOf words) in
       record {
         refusal = refusal-found words few (ap (λ (x : Scan). x .refusal) all ∙ lowest-folds words 0);
-        worldly = λ _. ap (λ (x : Scan). x .worldly) all ∙ met-over isForWorlds false (messagesOf words);
-        commands = λ _. ap (λ (x : Scan). x .commands) all ∙ met-over isCommand false (messagesOf words);
-        heard = λ _. ap (λ (x : Scan). x .heard) all;
-        snapshots = λ _. ap (λ (x : Scan). x .snapshots) all;
+        worldly = rw (le-ltb 4096 (length words) few) (ap (λ (x : Scan). x .worldly) all ∙ met-over isForWorlds false (messagesOf words));
+        commands = rw (le-ltb 4096 (length words) few) (ap (λ (x : Scan). x .commands) all ∙ met-over isCommand false (messagesOf words));
+        heard = rw (le-ltb 4096 (length words) few) (ap (λ (x : Scan). x .heard) all);
+        snapshots = rw (le-ltb 4096 (length words) few) (ap (λ (x : Scan). x .snapshots) all);
       }
 
-  -- more: refused, so that nothing else is said
+  -- more: refused, and none is read
   pub scans-long : 4096 < length words → Scans words seconds known was old (scanWith 3 false false known was)
   scans-long long = record {
     refusal = refusal-long words long;
-    worldly = λ e. absurd (omega (arith, accepted-few words e));
-    commands = λ e. absurd (omega (arith, accepted-few words e));
-    heard = λ e. absurd (omega (arith, accepted-few words e));
-    snapshots = λ e. absurd (omega (arith, accepted-few words e));
+    worldly = rw (lt-ltb 4096 (length words) long) refl;
+    commands = rw (lt-ltb 4096 (length words) long) refl;
+    heard = rw (lt-ltb 4096 (length words) long) refl;
+    snapshots = rw (lt-ltb 4096 (length words) long) refl;
   }
 
 -- ---- the third pass over worlds changes their snapshots alone

@@ -1,10 +1,12 @@
 -- What an inbox holds: document 01, "Inbox and tape" and "Turned down by the input". Definitions only. Assumes nothing.
 use mathlib.Core.Path.{_≡_}
-use mathlib.Core.Bool.{Bool, true, false}
+use mathlib.Core.Bool.{Bool, true, false, cond}
 use mathlib.Core.List.{List}
 use Prim.Native.Nat.{ℕ}
+use lib.Dec.{ltb}
 use lib.Ieee.{Float}
-use Rattle.refusals.specs.Refusals.{accepted}
+use lib.ListN.{length}
+use Rattle.refusals.specs.Limits.{mostWords}
 use Rattle.timestamp.specs.declared.Timestamp.{Timestamp}
 use Rattle.inbox.specs.declared.Message.{Message}
 use Rattle.inbox.specs.declared.Message.the-variants.{Command, Snapshot, Clock, BadTime, WrongWord, CutShort}
@@ -43,10 +45,14 @@ keepOne old s CutShort = s
 unfoldable pub keptIn : Timestamp → List ℕ → Snapshots → Snapshots
 keptIn old words s = over (keepOne old) s (messagesOf words)
 
--- what is given of an inbox: its refusal, and, where it is accepted, all else
+-- what an inbox over 4,096 words gives, of which nothing is read, and what any other gives
+abbrev pub unlessLong : {A : Type 0} → List ℕ → A → A → A
+unlessLong words was all = cond (ltb mostWords (length words)) was all
+
+-- what is given of an inbox. Each field looks at messages of its own kind, and no message changes the stamp `old`: so one reading gives what 01's passes give
 pub record Scans (words : List ℕ) (seconds : Float) (known : Heard) (was : Snapshots) (old : Timestamp) (r : Scan) : Type 0 where
   pub refusal : r .refusal ≡ refusalOf words
-  pub worldly : refusalOf words ≡ accepted → r .worldly ≡ hasForWorlds words
-  pub commands : refusalOf words ≡ accepted → r .commands ≡ hasCommand words
-  pub heard : refusalOf words ≡ accepted → r .heard ≡ heardIn seconds words known
-  pub snapshots : refusalOf words ≡ accepted → r .snapshots ≡ keptIn old words was
+  pub worldly : r .worldly ≡ unlessLong words false (hasForWorlds words)
+  pub commands : r .commands ≡ unlessLong words false (hasCommand words)
+  pub heard : r .heard ≡ unlessLong words known (heardIn seconds words known)
+  pub snapshots : r .snapshots ≡ unlessLong words was (keptIn old words was)

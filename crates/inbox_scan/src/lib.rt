@@ -1,7 +1,6 @@
 // An inbox read once, each message once: its refusal, whether it has commands or snapshots, what its clock messages tell, and the
 // snapshots that it leaves.
 ghost use mathlib.Core.Path.{_≡_};
-ghost use Rattle.inbox_refusal.specs.Refusal.{lowestOf};
 ghost use Rattle.inbox_scan.specs.Scan.{Scans};
 ghost use Rattle.inbox_scan.specs.Inner.{scanOne, scanIn};
 use client::Snapshots;
@@ -10,7 +9,7 @@ use inbox::Message;
 use inbox::reader;
 use timestamp::Timestamp;
 
-// What an inbox holds. Where it is refused, all but the refusal says nothing.
+// What an inbox holds. Of one over 4,096 words nothing is read.
 pub struct Scan {
     pub refusal: u32,
     // whether there is a command or a snapshot
@@ -93,32 +92,16 @@ fn take(a: Scan, m: Message, seconds: f64, old: Timestamp) -> Scan
             r
         }
         Message::BadTime => {
-            r.refusal = lowest(a.refusal, refusals::CLOCK_TIME);
+            r.refusal = inbox_refusal::lowest(a.refusal, refusals::CLOCK_TIME);
             r
         }
         Message::WrongWord => {
-            r.refusal = lowest(a.refusal, refusals::WORD);
+            r.refusal = inbox_refusal::lowest(a.refusal, refusals::WORD);
             r
         }
         Message::CutShort => {
-            r.refusal = lowest(a.refusal, refusals::CUT);
+            r.refusal = inbox_refusal::lowest(a.refusal, refusals::CUT);
             r
         }
     }
-}
-
-// The lower of two refusals, where 0 is none.
-fn lowest(a: u32, b: u32) -> u32
-    ensures { λ r. ⌜ r ≡ lowestOf a b ⌝ }
-{
-    if a == 0 {
-        return b;
-    }
-    if b == 0 {
-        return a;
-    }
-    if b < a {
-        return b;
-    }
-    a
 }

@@ -1,12 +1,9 @@
 -- A session over arrays that are lent: its numbers go by value, and beside them stand the samples of its clock and the slots of its three buffers. What it
--- means is the session that document 01 describes. Definitions only. Assumes nothing.
+-- means is document 01's session, and whether it is sound is read as under "Turned down by the session". Definitions only. Assumes nothing.
 use mathlib.Core.Bool.{Bool, true, cond}
 use mathlib.Core.List.{List}
-use mathlib.Core.Path.{_≡_}
 use lib.Dec.{eqb}
 use lib.Ieee.{Float, eq}
-use lib.ListN.{length}
-use Rattle.refusals.specs.Limits.{bufferRoom}
 use Rattle.timestamp.specs.Floats.{zero64, one64, between}
 use Rattle.settings.specs.declared.Settings.{Settings}
 use Rattle.clocksync.specs.declared.Offset.{Offset}
@@ -47,12 +44,6 @@ worldsAt w l r b =
 abbrev pub sessionAt : Settings → State → List Float → List Entry → List Entry → List Entry → Session
 sessionAt c s ss l r b =
     record { settings = c; stage = s .stage; clock = clockAt ss (s .clock); worlds = worldsAt (s .worlds) l r b; overshoot = s .overshoot }
-
--- arrays of as many slots as buffers have
-pub record SlotRooms (l r b : List Entry) : Type 0 where
-  pub left : length l ≡ bufferRoom
-  pub right : length r ≡ bufferRoom
-  pub base : length b ≡ bufferRoom
 
 -- ---- by old and new world
 

@@ -4,8 +4,9 @@ ghost use mathlib.Core.Path.{_≡_};
 ghost use lib.ListN.{length};
 ghost use Rattle.refusals.specs.Limits.{sampleRoom};
 ghost use Rattle.clocksync.specs.Clock.{bothOf};
+ghost use Rattle.command.specs.Slots.{AllSlots};
 ghost use Rattle.session_state.specs.Sound.{noOffset, buffersSound, worldsSound, soundOf};
-ghost use Rattle.session_lent.specs.Lent.{worldsAt, sessionAt, SlotRooms, oldIn, newIn, weightIn, initIn, connectedIn};
+ghost use Rattle.session_lent.specs.Lent.{worldsAt, sessionAt, oldIn, newIn, weightIn, initIn, connectedIn};
 use client::Published;
 use client::Queued;
 use client::Snapshots;
@@ -127,7 +128,7 @@ pub(crate) fn connected(stage: Stage, offset: Offset, id: ClientId) -> bool
 
 // The three buffers are sound.
 pub(crate) fn buffers_sound(w: Worlds, left: &[u64], right: &[u64], base: &[u64]) -> bool
-    requires { ⌜ SlotRooms (now left) (now right) (now base) ⌝ }
+    requires { ⌜ AllSlots (now left) (now right) (now base) ⌝ }
     ensures { λ r. ⌜ r ≡ buffersSound (worldsAt w (now (left .entry)) (now (right .entry)) (now (base .entry))) ⌝ }
 {
     let l = w.left;
@@ -146,7 +147,7 @@ pub(crate) fn buffers_sound(w: Worlds, left: &[u64], right: &[u64], base: &[u64]
 
 // The worlds are sound.
 pub(crate) fn worlds_sound(w: Worlds, left: &[u64], right: &[u64], base: &[u64]) -> bool
-    requires { ⌜ SlotRooms (now left) (now right) (now base) ⌝ }
+    requires { ⌜ AllSlots (now left) (now right) (now base) ⌝ }
     ensures { λ r. ⌜ r ≡ worldsSound (worldsAt w (now (left .entry)) (now (right .entry)) (now (base .entry))) ⌝ }
 {
     if !buffers_sound(w, left, right, base) {
@@ -172,7 +173,7 @@ pub fn is_sound(
     right: &[u64],
     base: &[u64],
 ) -> bool
-    requires { ⌜ (length (now samples) ≡ sampleRoom) × SlotRooms (now left) (now right) (now base) ⌝ }
+    requires { ⌜ (length (now samples) ≡ sampleRoom) × AllSlots (now left) (now right) (now base) ⌝ }
     ensures { λ r. ⌜ r ≡ soundOf (sessionAt settings s (now (samples .entry)) (now (left .entry)) (now (right .entry)) (now (base .entry))) ⌝ }
 {
     if !settings.passes() {

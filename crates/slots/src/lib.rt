@@ -1,4 +1,4 @@
-// What leaves a command buffer whose 64 slots are lent: its count and its midpoint go by value beside them, and nothing is copied. The
+// What leaves a command buffer whose 64 slots are lent: its count and its midpoint go by value beside them. The
 // entries of a sound buffer are in order, so its first and its last one tell whether any leaves: where none does, no other slot is read and
 // none is written. Where some do, those that stay move to the front, and the slots behind them are blanked.
 use command::handle_of;

@@ -1,3 +1,2 @@
-pub mod Blanking
 pub mod Shifting
 pub mod Offering

@@ -1,15 +1,9 @@
 // What comes into a command buffer whose 64 slots are lent: the slots stand in the caller's array, and the count and the midpoint go by value.
-// Nothing is copied. The definitions are those of `command`.
+// The definitions are those of `command`.
 use command::Outcome;
 use command::in_range;
 use command::rank_in;
 use timestamp::Timestamp;
-ghost use mathlib.Core.Path.{_≡_};
-ghost use Prim.Native.Nat.{_≤_};
-ghost use lib.ListN.{length, take};
-ghost use Rattle.refusals.specs.Limits.{bufferRoom};
-ghost use Rattle.command.specs.Lists.{pad};
-ghost use Rattle.command.specs.Buffer.{blank};
 ghost use Rattle.slots_insert.specs.Insertions.{HasPlace, Placed, Offers, Offered};
 
 // Offers an entry to a buffer: one in range is taken where there is room. Where the unused slots are not known to be blank, they are blanked first.
@@ -27,7 +21,7 @@ pub fn offer(e: &mut [u64], n: usize, t: Timestamp, x: u64, clean: bool) -> Outc
         insert(e, n, t, x);
         return Outcome::Taken;
     }
-    blank_from(e, n);
+    slots::blank_from(e, n);
     insert(e, n, t, x);
     Outcome::Taken
 }
@@ -49,16 +43,4 @@ pub fn insert(e: &mut [u64], n: usize, t: Timestamp, x: u64)
         i -= 1;
     }
     e[0] = x;
-}
-
-// Blanks the slots from n on.
-fn blank_from(e: &mut [u64], n: usize)
-    requires { ⌜ (length (now e) ≡ bufferRoom) × (n ≤ bufferRoom) ⌝ }
-    ensures { λ r. ⌜ now (e .exit) ≡ pad bufferRoom blank (take n (now (e .entry))) ⌝ }
-{
-    let mut i = n;
-    while i < refusals::BUFFER_ROOM {
-        e[i] = 0;
-        i += 1;
-    }
 }

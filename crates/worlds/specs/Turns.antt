@@ -1,4 +1,5 @@
--- One world of the two and its ledger: a step, the steps of a catch-up, a reset and a load, by the definitions of simulation, and the words that tell them.
+-- One world of the two and its ledger, document 01, "src/world/simulation.rs" and "src/client.rs": a step, the steps of a catch-up and a reset, with the
+-- words that tell them, and a load, whose word its caller puts, the base being drained. They are the definitions of simulation.
 -- Definitions only. Assumes nothing.
 use Prim.Native.Nat.{ℕ, zero, suc}
 use mathlib.Core.Bool.{Bool, true}

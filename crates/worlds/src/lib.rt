@@ -122,7 +122,8 @@ pub fn reset(
     }
 }
 
-// The base's commands take the place of the world's own, moved to the snapshot's stamp.
+// The base's commands take the place of the world's own, moved to the snapshot's stamp. The caller has drained the base to that stamp, and puts the
+// snapshot's word on the tape.
 pub fn load(
     l: Ledger,
     e: &mut [u64],

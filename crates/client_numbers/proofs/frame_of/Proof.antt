@@ -1,6 +1,7 @@
 -- `frame_of` meets its contract: each part is decided from those before it. Assumes nothing.
 use borrow.Author.Needs.{needs}
 use Rattle.client_numbers.proofs.Coding.{frame-is}
+use Rattle.client_numbers.proofs.Deciding.{decides-as}
 use Rattle.client_numbers.proofs.frame_of.Statement.{statement}
 use Rattle.client_numbers.proofs.frame_of.Tie as tie
 
@@ -44,8 +45,10 @@ returns c =
     let u = k .before in
     let a = u .before in
     let o = a .before in
+    let all =
     frame-is _ _ (o .before .status-of .ensures) (o .opens-with .ensures) (a .opened .ensures) (u .add .ensures) (k .steps-to .ensures) (b .stepped .ensures)
-    (y .is-blended .ensures) (x .shows-what .ensures) (e .shown .ensures) (c .stops-in .ensures)
+    (y .is-blended .ensures) (x .shows-what .ensures) (e .shown .ensures) (c .stops-in .ensures) in
+    record { decided = all; decides = λ s h. decides-as _ s h all }
 
 pub frame-of-spec : {M : Type 1} → statement M
 frame-of-spec =

@@ -58,8 +58,11 @@ loop-less c = search needs
 loop-again : tie.Need-loop-again Inv-loop μ-loop
 loop-again c =
     let w = c .before .before .before in
-    let l = w .before .before .before .before .before .before .before in
-    (l .loop .inv .0, apply-one (l .loop .inv .1) blank (search needs) (cc) (w .command-word .ensures ∙ ap (commandWord _) (w .before .handle-of .ensures)) (c .before .before .put .ensures))
+    let l = w .before .before .before .before .before .before .before in (
+      l .loop .inv .0,
+      apply-one (l .loop .inv .1) blank (search needs) (cc)
+          (w .command-word .ensures ∙ ap (commandWord _) (w .before .handle-of .ensures)) (c .before .before .put .ensures),
+    )
 
 loop-less-2 : tie.Need-loop-less-2 Inv-loop μ-loop
 loop-less-2 c = search needs

@@ -21,12 +21,14 @@ returns : tie.Need-returns
 returns c =
     let t = c .before in
     let k = t .before .before .before .before in
-    also-true (t .if1 .taken) (t .before .receive-command .ensures ∙ ap (receivedOf _) (t .before .before .entry-of .ensures)) ∙ sym (ap (receiveOne (k .before .before .before .args .a)) (k .before .m .given .1))
+    also-true (t .if1 .taken) (t .before .receive-command .ensures ∙ ap (receivedOf _) (t .before .before .entry-of .ensures))
+    ∙ sym (ap (receiveOne (k .before .before .before .args .a)) (k .before .m .given .1))
 
 returns-2 : tie.Need-returns-2
 returns-2 c =
     let k = c .before .before .before .before in
-    also-false (c .if1 .left) (c .before .receive-command .ensures ∙ ap (receivedOf _) (c .before .before .entry-of .ensures)) ∙ sym (ap (receiveOne (k .before .before .before .args .a)) (k .before .m .given .1))
+    also-false (c .if1 .left) (c .before .receive-command .ensures ∙ ap (receivedOf _) (c .before .before .entry-of .ensures))
+    ∙ sym (ap (receiveOne (k .before .before .before .args .a)) (k .before .m .given .1))
 
 returns-3 : tie.Need-returns-3
 returns-3 c = receive-other (c .before .args .a) (c .before .args .m) (not-command (c .before .args .m) (c .match .keys2))

@@ -26,7 +26,8 @@ returns-3 : tie.Need-returns-3
 unfolding buffersSound
 returns-3 c =
     let t = c .before in
-    row-holds (t .before .before .before .sound .ensures) (t .before .before .if1 .left) (row-holds (t .before .sound2 .ensures) (t .if2 .left) (c .sound3 .ensures))
+    row-holds (t .before .before .before .sound .ensures) (t .before .before .if1 .left)
+    (row-holds (t .before .sound2 .ensures) (t .if2 .left) (c .sound3 .ensures))
 
 pub buffers-sound-spec : {M : Type 1} → statement M
 buffers-sound-spec =

@@ -6,6 +6,7 @@ use mathlib.Core.Path.{_≡_, sym, _∙_}
 use Prim.Native.Nat.{_<_}
 use native.Mathlib.Omega.{arith}
 use Rattle.command.specs.Buffer.{inRangeOf}
+use Rattle.slots.proofs.Leaving.{lent-slots}
 use Rattle.slots_insert.proofs.Offering.{blanked-place, blanked-placed, offered-out, offered-full, offered-taken}
 use Rattle.slots_insert.proofs.offer.Statement.{statement}
 use Rattle.slots_insert.proofs.offer.Tie as tie
@@ -41,19 +42,19 @@ same-length : tie.Need-same-length
 same-length c = returns-3 c .slots ∙ sym (c .before .before .before .before .before .before .before .before .before .pre .lent .slots)
 
 blank-from-requires : tie.Need-blank-from-requires
-blank-from-requires c κs = (c .before .before .before .before .before .before .pre .lent .slots, omega (arith, room (c .before .before)))
+blank-from-requires c κs = lent-slots (c .before .before .before .before .before .before .pre .lent)
 
 insert-requires-2 : tie.Need-insert-requires-2
 insert-requires-2 c κs =
     let q = c .before .before .before .before .before .before in
-    blanked-place (q .before .before .before .before .pre .lent) (room q) (c .before .before .before .blank-from .ensures)
+    blanked-place (q .before .before .before .before .pre .lent) (room q) (c .before .before .before .blank-from .ensures .laid)
 
 returns-4 : tie.Need-returns-4
 returns-4 c =
     let q = c .before .before .before .before .before .before .before .before .before in
     let l = q .before .before .before .before .pre .lent in
     offered-taken l _ (within (q .before)) (room q)
-    (blanked-placed l (room q) (c .before .before .before .before .before .before .blank-from .ensures) (c .before .before .insert2 .ensures))
+    (blanked-placed l (room q) (c .before .before .before .before .before .before .blank-from .ensures .laid) (c .before .before .insert2 .ensures))
 
 same-length-2 : tie.Need-same-length-2
 same-length-2 c =

@@ -1,0 +1,4 @@
+pub mod Parts
+pub mod Scenes
+pub mod Acting
+pub mod Sound
