@@ -83,7 +83,7 @@ pub(crate) fn beyond_deadband(drift: f64, timestep: f64) -> f64
 }
 
 // How many seconds an update plays: its delta less the drift before it, not negative and at most the maximum.
-pub(crate) fn compensated_delta(
+pub fn compensated_delta(
     stamp: Timestamp,
     overshoot: f64,
     delta: f64,
@@ -105,7 +105,7 @@ pub(crate) fn compensated_delta(
 }
 
 // What every frame under these settings goes by.
-pub(crate) fn frame_rules(settings: Settings) -> Rules
+pub fn frame_rules(settings: Settings) -> Rules
     ensures { λ r. ⌜ r ≡ rulesOf settings ⌝ }
 {
     let progress = settings.blend_progress_per_frame();
@@ -179,7 +179,7 @@ pub(crate) fn is_single(overshoot: f64, timestep: f64) -> bool
 }
 
 // Whether there is a skip: the drift is at or beyond the threshold.
-pub(crate) fn skips(stamp: Timestamp, overshoot: f64, server: f64, settings: Settings) -> bool
+pub fn skips(stamp: Timestamp, overshoot: f64, server: f64, settings: Settings) -> bool
     ensures { λ r. ⌜ r ≡ skipsOf stamp overshoot server settings ⌝ }
 {
     abs(timestamp_drift_seconds(stamp, overshoot, settings.timestep, server)) >= settings.skip
