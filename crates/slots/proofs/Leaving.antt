@@ -20,7 +20,6 @@ use Rattle.command.specs.Soundness.{soundBuffer}
 use Rattle.command.specs.Slots.{bufferAt, Lent}
 use Rattle.command.proofs.Lists.{filter-ledger}
 use Rattle.command.proofs.Holding.{is-laid, leaving-none, leaving-some}
-use Rattle.command.proofs.Soundness.{emptied-sound}
 use Rattle.command.proofs.Calls.{sifted-none, sifted-some, moved-is, drained-is}
 use Rattle.slots.specs.After.{Slots, Filled, Leaves, Empties}
 use Rattle.slots.proofs.Between.{leavers, lent-few}
@@ -128,7 +127,3 @@ empty-some {e} {last} {n} s z g =
     let f = s .few in
     let c : length (take n e) ≡ n = length-take-le n e (omega arith) in
     record { slots = g .slots; buffer = λ t. filled-laid t g ∙ leaving-some (take n e) [] (bufferAt e n t) (λ h. z (sym c ∙ h)) }
-
--- slots that are emptied can be lent again
-pub lent-emptied : {e last : List Entry} {n : ℕ} (t : Timestamp) → Lent e n t → Empties e n last → Lent last 0 t
-lent-emptied {e} {last} {n} t l g = record { slots = g .slots; sound = ap soundBuffer (g .buffer t) ∙ emptied-sound (bufferAt e n t) (l .sound) }

@@ -19,16 +19,13 @@ use Rattle.command.specs.Lists.{filterB}
 use Rattle.command.specs.declared.CommandBuffer.{CommandBuffer}
 use Rattle.command.specs.Buffer.{held, laid, around, inRangeOf, dueOf, droppedOf, movedOf, takenOf, restOf, commandWords}
 use Rattle.command.specs.Ranks.{rankWithin, waitsOf}
-use Rattle.command.specs.Soundness.{soundBuffer}
 use Rattle.command.specs.Slots.{bufferAt, Lent}
 use Rattle.command.proofs.Lists.{filter-ext, filter-all, filter-none-left}
 use Rattle.command.proofs.Holding.{leaving-some}
 use Rattle.command.proofs.Ranks.{span-due, span-all}
 use Rattle.command.proofs.Ledger.{moved-held, moved-ledger, moved-lossless, rest-held, drained-ledger, drained-lossless}
-use Rattle.command.proofs.Soundness.{moved-sound, rest-sound}
 use Rattle.command.proofs.Waiting.{waits-empty, waits-counted, span-waits}
 use Rattle.command.proofs.Applying.{words-length, Applying}
-use Rattle.slots.specs.declared.Stepped.{Stepped}
 use Rattle.slots.specs.After.{Filled, Steps}
 use Rattle.slots.proofs.Between.{leavers}
 use Rattle.slots.proofs.Leaving.{lent-held, filled-laid}
@@ -154,9 +151,3 @@ module _ {e : List Entry} {n : ℕ} {t : Timestamp} (to : Timestamp) {side place
           applied = omega (arith, p .at, words-length side (takenOf b to));
           count = sym (lent-held lent) ∙ step-ledger b to (f .count ∙ ap length (s ∙ sym (moved-held (restOf b to) to)));
         }
-
--- the slots that a step leaves can be lent again
-pub lent-stepped : {e : List Entry} {n : ℕ} {t to : Timestamp} {side place : ℕ} {was : List ℕ} {r : Stepped} {last : List Entry} {tape : List ℕ} → Lent e n t
-    → Steps (bufferAt e n t) to side place was r last tape → Lent last (r .len) to
-lent-stepped {e} {n} {t} {to} l s =
-    record { slots = s .slots; sound = ap soundBuffer (s .buffer) ∙ moved-sound (restOf (bufferAt e n t) to) to (rest-sound (bufferAt e n t) to (l .sound)) }

@@ -22,8 +22,8 @@ returns c = tt
 mul-e : tie.Need-mul-e Inv-loop μ-loop
 mul-e c = omega arith
 
-element-copy-out-e : tie.Need-element-copy-out-e Inv-loop μ-loop
-element-copy-out-e c = omega arith
+array-read-e : tie.Need-array-read-e Inv-loop μ-loop
+array-read-e c = omega arith
 
 comma-requires : tie.Need-comma-requires Inv-loop μ-loop
 comma-requires c κs = tt
@@ -59,7 +59,7 @@ entries-spec =
     loop-holds
     returns
     mul-e
-    element-copy-out-e
+    array-read-e
     comma-requires
     stamp-of-requires
     handle-of-requires
