@@ -1,4 +1,4 @@
--- A command buffer over an array that is lent: its slots stand in the array, and its count and its midpoint beside it. A buffer is document 01's, "src/command.rs".
+-- A command buffer, document 01's "src/command.rs", over an array that is lent: its slots stand in the array, and its count and its midpoint beside it.
 -- Definitions only. Assumes nothing.
 use Prim.Native.Nat.{ℕ}
 use mathlib.Core.Bool.{true}
