@@ -6,7 +6,6 @@ use mathlib.Core.Path.{_≡_, sym, _∙_}
 use Prim.Native.Nat.{_<_}
 use native.Mathlib.Omega.{arith}
 use Rattle.command.specs.Buffer.{inRangeOf}
-use Rattle.slots.proofs.Leaving.{lent-slots}
 use Rattle.slots_insert.proofs.Offering.{blanked-place, blanked-placed, offered-out, offered-full, offered-taken}
 use Rattle.slots_insert.proofs.offer.Statement.{statement}
 use Rattle.slots_insert.proofs.offer.Tie as tie
@@ -42,7 +41,7 @@ same-length : tie.Need-same-length
 same-length c = returns-3 c .slots ∙ sym (c .before .before .before .before .before .before .before .before .before .pre .lent .slots)
 
 blank-from-requires : tie.Need-blank-from-requires
-blank-from-requires c κs = lent-slots (c .before .before .before .before .before .before .pre .lent)
+blank-from-requires c κs = record { slots = c .before .before .before .before .before .before .pre .lent .slots; few = omega (arith, room (c .before .before)) }
 
 insert-requires-2 : tie.Need-insert-requires-2
 insert-requires-2 c κs =
