@@ -1,5 +1,7 @@
 // The commands of an inbox, or one that is issued, into the three buffers, whose slots are lent (`receive_command` of src/client.rs of
 // crystalorb). A message that no buffer takes changes no slot.
+#![tactic(auto)]
+
 ghost use Rattle.std.specs.Prelude.{◌≡◌, ◌≤◌};
 ghost use Rattle.refusals.specs.Limits.{buffer_room};
 ghost use Rattle.command.specs.Buffer.{taken_by};
@@ -13,7 +15,7 @@ use timestamp::Timestamp;
 
 // The worlds' ledgers, where `held` is the count of the world's buffer, and the base's count; whether a buffer that takes a command was
 // full; and of each buffer whether its unused slots are known to be blank.
-#[derive(Drop)]
+#[derive(Clone, Copy)]
 pub struct Arrived {
     pub left: Ledger,
     pub right: Ledger,
@@ -25,7 +27,7 @@ pub struct Arrived {
 }
 
 // The midpoints of the buffers.
-#[derive(Drop)]
+#[derive(Clone, Copy)]
 pub struct Midpoints {
     pub left: Timestamp,
     pub right: Timestamp,

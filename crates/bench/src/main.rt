@@ -1,5 +1,7 @@
 // Plays a script of calls many times over, for the bench: reads the script on standard input (bench/README.md has its layout), plays it
 // from a fresh session as often as it says, and writes a checksum of the answers.
+#![tactic(auto)]
+
 ghost use Rattle.std.specs.Prelude.{◌<◌};
 
 use client::{DisplayTime, ReconciliationStatus};
@@ -24,7 +26,7 @@ type Bytes = [u8; 1048576];
 const CALLS: usize = 20;
 
 // Two sums over numbers: of the numbers, and of the first sum after each of them, so that their order counts.
-#[derive(Drop)]
+#[derive(Clone, Copy)]
 struct Sums {
     first: u64,
     second: u64,

@@ -1,6 +1,8 @@
 // The two worlds of a client, their sides and ledgers, and the status of their reconciliation with the server's snapshots: what `ClientWorldSimulations` of
 // src/client.rs of crystalorb holds. What happens to them is in crates of its own: client_receive, client_load, client_frame, client_level, client_publish
 // and client_skip. Everything goes in by value and comes back.
+#![tactic(auto)]
+
 ghost use Rattle.std.specs.Prelude.{◌≡◌};
 ghost use Rattle.client.specs.Sides.{new_worlds_of};
 
@@ -13,28 +15,28 @@ use simulation::Simulation;
 use timestamp::Timestamp;
 
 // A snapshot that waits to be loaded.
-#[derive(Drop)]
+#[derive(Clone, Copy)]
 pub enum Queued {
     Nothing,
     Held { stamp: Timestamp, handle: u32 },
 }
 
 // A stamp that may not be there yet.
-#[derive(Drop)]
+#[derive(Clone, Copy)]
 pub enum LastStamp {
     Never,
     Last(Timestamp),
 }
 
 // The time that is displayed, in frames; none until two states are published.
-#[derive(Drop)]
+#[derive(Clone, Copy)]
 pub enum DisplayTime {
     NotDisplayed,
     DisplayedAt(f64),
 }
 
 // How the catching up of a loaded snapshot fares.
-#[derive(Drop)]
+#[derive(Clone, Copy)]
 pub enum FastforwardingHealth {
     Healthy,
     Obsolete,
@@ -42,7 +44,7 @@ pub enum FastforwardingHealth {
 }
 
 // Where the reconciliation with the server stands; Blending has the weight of the new world.
-#[derive(Drop)]
+#[derive(Clone, Copy)]
 pub enum ReconciliationStatus {
     AwaitingSnapshot,
     Fastforwarding(FastforwardingHealth),
@@ -50,7 +52,7 @@ pub enum ReconciliationStatus {
 }
 
 // The snapshot that is queued, the stamp of the last one that was, and that of the last one received.
-#[derive(Drop)]
+#[derive(Clone, Copy)]
 pub struct Snapshots {
     pub queued: Queued,
     pub lastqueued: LastStamp,
@@ -58,7 +60,7 @@ pub struct Snapshots {
 }
 
 // The stamps of the last two published states, and the time between them that is displayed.
-#[derive(Drop)]
+#[derive(Clone, Copy)]
 pub struct Published {
     pub before: LastStamp,
     pub after: LastStamp,
@@ -66,7 +68,7 @@ pub struct Published {
 }
 
 // Both worlds and all that reconciles them. `new` is the side of the new world, 0 for left; any other number is right.
-#[derive(Drop)]
+#[derive(Clone, Copy)]
 pub struct ClientWorldSimulations {
     pub left: Simulation,
     pub right: Simulation,
@@ -78,7 +80,7 @@ pub struct ClientWorldSimulations {
 }
 
 // The ledger of one side's command buffer: what it holds, and what became of its commands.
-#[derive(Drop)]
+#[derive(Clone, Copy)]
 pub struct Ledger {
     pub held: usize,
     pub taken: usize,
@@ -89,7 +91,7 @@ pub struct Ledger {
 }
 
 // The worlds while an update is played: their ledgers, and the steps of the world then new.
-#[derive(Drop)]
+#[derive(Clone, Copy)]
 pub struct Scene {
     pub worlds: ClientWorldSimulations,
     pub left: Ledger,
@@ -98,14 +100,14 @@ pub struct Scene {
 }
 
 // A scene and the next place on the tape.
-#[derive(Drop)]
+#[derive(Clone, Copy)]
 pub struct Shown {
     pub scene: Scene,
     pub at: usize,
 }
 
 // A scene after a frame, and whether the Rust would have stopped in it.
-#[derive(Drop)]
+#[derive(Clone, Copy)]
 pub struct Framed {
     pub scene: Scene,
     pub at: usize,
@@ -113,7 +115,7 @@ pub struct Framed {
 }
 
 // A scene after a command was received, and whether a buffer that takes it was full.
-#[derive(Drop)]
+#[derive(Clone, Copy)]
 pub struct Received {
     pub scene: Scene,
     pub full: bool,

@@ -1,5 +1,7 @@
 // One frame (`step` of src/client.rs of crystalorb): what its status opens it with, a step of the old world, the catching up of the new one, and what is
 // published.
+#![tactic(auto)]
+
 ghost use Rattle.std.specs.Prelude.{◌≡◌, ◌<◌, ◌≤◌, true};
 ghost use Rattle.refusals.specs.Limits.{most_steps};
 ghost use Rattle.client.specs.Sides.{Plays, old_stamp_of};
@@ -18,7 +20,7 @@ use simulation::Simulation;
 use timestamp::{Ordering, Timestamp};
 
 // What a frame goes by: the most steps of the new world to catch up, and how far a blend's weight moves on.
-#[derive(Drop)]
+#[derive(Clone, Copy)]
 pub struct Rules {
     pub m: u32,
     pub progress: f64,

@@ -1,7 +1,7 @@
 -- A level frame: both worlds make one step that moves their stamps only. Assumes nothing.
 use Rattle.std.proofs.Common.{◌≡◌, ℕ, zero, suc, ◌+◌, ◌%◌, ◌^◌, Bool, true, false, cond, not, ◌&&◌, eqb, List, [], ◌∷◌, sym, refl, ap, ◌∙◌, arith, eq-eqb, ne_eqb, eqb-true}
 use lib.Ieee.{Float, binary64, add, eq}
-use borrow.Author.Tests.{eqb-false, not_true}
+use borrow.Author.Tests.{eqb-false, not-true}
 use Rattle.timestamp.specs.declared.Timestamp.{Timestamp}
 use Rattle.timestamp.specs.declared.Ordering.{Ordering}
 use Rattle.timestamp.specs.declared.Ordering.TheVariants.{Less, Equal}
@@ -80,7 +80,7 @@ level_parts w m h =
     let b = apart (level_by (status_of w) w.snapshots.queued) _ a.1 in
     let c = apart (world_waits w.left) _ b.1 in
     record {
-      some = eqb-false _ _ (not_true _ a.0);
+      some = eqb-false _ _ (not-true _ a.0);
       status = b.0;
       stamps = status_even w _ b.0;
       left = c.0;

@@ -1,5 +1,7 @@
 // A level frame: both worlds have the same stamp, nothing is loaded, and no command is due or leaves its buffer's range. Each world makes
 // one step that moves its stamp only, so the frame is played without building a buffer anew. Its answers are those of any frame.
+#![tactic(auto)]
+
 ghost use Rattle.std.specs.Prelude.{◌≡◌, ◌<◌, true};
 ghost use Rattle.tape.specs.Tape.{Puts};
 ghost use Rattle.client.specs.Sides.{Plays};

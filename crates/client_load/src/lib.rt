@@ -1,4 +1,6 @@
 // A snapshot is loaded into the worlds: `load_snapshot` of src/client.rs of crystalorb.
+#![tactic(auto)]
+
 ghost use Rattle.std.specs.Prelude.{◌≡◌, ◌<◌};
 ghost use Rattle.client.specs.Sides.{Plays};
 ghost use Rattle.client_load.specs.Load.{readied_with, loaded_of};

@@ -1,5 +1,7 @@
 // What one frame decides, from numbers alone: stamps, flags, the weight and the queued snapshot. No command buffer is looked at, so that the frame can then be
 // done to buffers that are lent (`step` of src/client.rs of crystalorb).
+#![tactic(auto)]
+
 ghost use Rattle.std.specs.Prelude.{◌≡◌};
 ghost use Rattle.client_numbers.specs.Numbers.{status_in, opens_with, new_side_by, old_side_by, opened_by, steps_to, stepped_by, shows_both, shows_by, state_of};
 ghost use Rattle.client_numbers.specs.Numbers.{shown_by, healthy_stops, stops_in};
@@ -11,7 +13,7 @@ use timestamp::Timestamp;
 
 // The stamps of the old and the new world, whether snapshots have initialised them, the side of the new one (0 for left; any other number is right), what is
 // queued, the weight, the last two published states, and the count of steps of the new world.
-#[derive(Drop)]
+#[derive(Clone, Copy)]
 pub struct Numbers {
     pub old: Timestamp,
     pub new: Timestamp,
@@ -26,7 +28,7 @@ pub struct Numbers {
 }
 
 // What a frame opens with: nothing, another weight, a load into the old side or into the new one, or a reset of the new world to the old one's stamp.
-#[derive(Drop)]
+#[derive(Clone, Copy)]
 pub enum Opens {
     Unchanged,
     Weight(f64),
@@ -36,7 +38,7 @@ pub enum Opens {
 }
 
 // What a frame publishes: no world, the old one, the new one, or a mix with the weight of the new one.
-#[derive(Drop)]
+#[derive(Clone, Copy)]
 pub enum Shows {
     NoWorld,
     OldWorld,
@@ -45,7 +47,7 @@ pub enum Shows {
 }
 
 // A frame: what it opens with, the steps of the new world, what it publishes, whether the Rust would have stopped in it, and the numbers after it.
-#[derive(Drop)]
+#[derive(Clone, Copy)]
 pub struct Frame {
     pub opens: Opens,
     pub steps: u32,

@@ -1,4 +1,6 @@
 // What a frame publishes: the old world, the new one, a mix of both, or nothing (src/world/display_state.rs of crystalorb).
+#![tactic(auto)]
+
 ghost use Rattle.std.specs.Prelude.{◌≡◌, ◌<◌};
 ghost use Rattle.client_publish.specs.Publish.{with_state, published_none, published_side, published_mix, published_old, near_one, published_both};
 ghost use Rattle.client_publish.specs.Publish.{published_blended};
@@ -29,7 +31,7 @@ pub fn with_state(s: Scene, state: LastStamp) -> Scene
 }
 
 // The state that is published, and the next place on the tape. A scene is built from it once, by `with_state`.
-#[derive(Drop)]
+#[derive(Clone, Copy)]
 pub struct Stated {
     pub state: LastStamp,
     pub at: usize,

@@ -1,4 +1,6 @@
 // Commands and snapshots that arrive: `receive_command` and what `receive_snapshot` decides, of src/client.rs of crystalorb.
+#![tactic(auto)]
+
 ghost use Rattle.std.specs.Prelude.{◌≡◌};
 ghost use Rattle.command.specs.Buffer.{taken_by};
 ghost use Rattle.client.specs.Ledgers.{takes};

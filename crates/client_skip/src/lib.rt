@@ -1,4 +1,6 @@
 // A skip to another stamp (`reset_last_completed_timestamp` of src/client.rs of crystalorb).
+#![tactic(auto)]
+
 ghost use Rattle.std.specs.Prelude.{◌≡◌, ◌<◌};
 ghost use Rattle.client.specs.Sides.{Plays};
 ghost use Rattle.client_skip.specs.Skip.{reset_side, reset_along, skips_back, emptied_base, skipped_of};

@@ -1,5 +1,7 @@
 // The clock of a session over samples that are lent: the 64 samples stay where the caller has them, all else of a clock goes by value, and
 // nothing is copied but where a mean is taken. What each function says is what the crate clocksync says of a clock by value.
+#![tactic(auto)]
+
 ghost use Rattle.std.specs.Prelude.{◌≡◌, List, ◌<◌, length, take, Float};
 ghost use Rattle.refusals.specs.Limits.{sample_room};
 ghost use Rattle.mean.specs.Mean.{samples_ok};
@@ -10,7 +12,7 @@ use clocksync::{ClientId, Heard, Offset};
 use settings::Settings;
 
 // All of a clock but its samples.
-#[derive(Drop)]
+#[derive(Clone, Copy)]
 pub struct ClockNumbers {
     // server_seconds_offset
     pub offset: Offset,
@@ -23,7 +25,7 @@ pub struct ClockNumbers {
 }
 
 // The numbers of a clock whose timer was moved on, and whether a request goes out.
-#[derive(Drop)]
+#[derive(Clone, Copy)]
 pub struct TickedNumbers {
     pub clock: ClockNumbers,
     pub request: bool,

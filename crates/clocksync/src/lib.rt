@@ -1,6 +1,8 @@
 // The clock of a session: the offset to the server's clock, measured from clock messages, and when the next request goes out: what
 // src/clocksync.rs of crystalorb holds, but for the mean, which is in the crate mean. Every function is total: it has its answer also for a
 // clock that is not sound.
+#![tactic(auto)]
+
 ghost use Rattle.std.specs.Prelude.{◌≡◌, ◌||◌, ◌≤◌, take, drop};
 ghost use Rattle.clocksync.specs.Offset.{offset_of};
 ghost use Rattle.clocksync.specs.Clock.{laid_out, new_of, ticked_of, listen_of, heard_of, first_of, other_of, deviates_of, offset_after, added_of, settled_of};
@@ -10,28 +12,28 @@ ghost use Rattle.refusals.specs.Limits.{sample_room};
 use settings::Settings;
 
 // The offset from the client's to the server's clock in seconds, or none yet.
-#[derive(Drop)]
+#[derive(Clone, Copy)]
 pub enum Offset {
     NoOffset,
     Seconds(f64),
 }
 
 // The number that the server gave this client, or none yet.
-#[derive(Drop)]
+#[derive(Clone, Copy)]
 pub enum ClientId {
     NoId,
     Id(u32),
 }
 
 // The server's time, or none before the clock is synced.
-#[derive(Drop)]
+#[derive(Clone, Copy)]
 pub enum ServerTime {
     NoTime,
     At(f64),
 }
 
 // The clock's state.
-#[derive(Drop)]
+#[derive(Clone, Copy)]
 pub struct Clock {
     // server_seconds_offset
     pub offset: Offset,
@@ -46,7 +48,7 @@ pub struct Clock {
 }
 
 // A clock whose timer was moved on, and whether a request goes out.
-#[derive(Drop)]
+#[derive(Clone, Copy)]
 pub struct Ticked {
     pub clock: Clock,
     pub request: bool,
@@ -54,7 +56,7 @@ pub struct Ticked {
 
 // What the clock messages of an inbox have told so far: the client's number, the offset by the last of them, and whether one named
 // another client.
-#[derive(Drop)]
+#[derive(Clone, Copy)]
 pub struct Heard {
     pub id: ClientId,
     pub offset: Offset,

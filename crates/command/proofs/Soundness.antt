@@ -1,7 +1,7 @@
 -- A sound buffer stays sound under every operation; and what the loop that tests it keeps. Assumes nothing.
 use mathlib.Core.Path.{◌≡◌, refl, sym, ap, ◌∙◌}
 use mathlib.Core.List.{List, [], ◌∷◌, ◌++◌}
-use mathlib.Core.Bool.{Bool, true, false, not, cond, ◌&&◌, and_false}
+use mathlib.Core.Bool.{Bool, true, false, not, cond, ◌&&◌, and-false}
 use Prim.Native.Nat.{ℕ, ◌+◌, ◌≤◌, ◌<◌}
 use native.Mathlib.Omega.{arith}
 use native.Mathlib.Numerals.{add-one}
@@ -134,9 +134,9 @@ sound_from m lo (x ∷ xs) = sound_rank (rank_in m x) lo x && sound_from m (rank
 -- the four tests of an entry, and the three answers for the rest, in either order
 shuffle : (a b c d o r s : Bool) → ((a && o) && ((b && c) && r)) && (d && s) ≡ (a && b && c && d) && (o && r && s)
 shuffle false b c d o r s = refl
-shuffle true false c d o r s = rw (and_false o)
-shuffle true true false d o r s = rw (and_false o)
-shuffle true true true false o r s = and_false (o && r)
+shuffle true false c d o r s = rw (and-false o)
+shuffle true true false d o r s = rw (and-false o)
+shuffle true true true false o r s = and-false (o && r)
 shuffle true true true true o r s = refl
 
 double : (t : Bool) → not (not t) ≡ t

@@ -2,6 +2,8 @@
 // place of its `BTreeMap`. A buffer has room for 64 entries, and its meaning is the list of the first `len` of its slots; the other slots may
 // hold anything. An operation that takes nothing from a buffer leaves its slots as they are; one that changes it lays it out anew, its unused
 // slots blank. Every function is total: a count over 64 reads as 64. An entry is one word: the stamp of its frame, and the command's handle.
+#![tactic(auto)]
+
 ghost use Rattle.std.specs.Prelude.{◌≡◌, [], ◌∷◌, ◌++◌, not, ◌+◌, ◌≤◌, ◌<◌, length};
 ghost use Rattle.refusals.specs.Limits.{buffer_room};
 ghost use Rattle.tape.specs.Tape.{Puts};
@@ -15,7 +17,7 @@ use tape::{command_word, put};
 use timestamp::Timestamp;
 
 // The entries with their count, and the midpoint of the range of stamps that are accepted, which the Rust calls the timestamp.
-#[derive(Drop)]
+#[derive(Clone, Copy)]
 pub struct CommandBuffer {
     pub entries: [u64; 64],
     pub len: usize,
@@ -23,7 +25,7 @@ pub struct CommandBuffer {
 }
 
 // What became of an entry handed to `insert`.
-#[derive(Drop)]
+#[derive(Clone, Copy)]
 pub enum Outcome {
     Taken,
     OutOfRange,
@@ -31,28 +33,28 @@ pub enum Outcome {
 }
 
 // The answer of `insert`.
-#[derive(Drop)]
+#[derive(Clone, Copy)]
 pub struct Insertion {
     pub outcome: Outcome,
     pub buffer: CommandBuffer,
 }
 
 // The answer of a move of the midpoint, with the number of entries that it drops.
-#[derive(Drop)]
+#[derive(Clone, Copy)]
 pub struct Moved {
     pub buffer: CommandBuffer,
     pub dropped: usize,
 }
 
 // The answer of a drain, with the number of entries that it takes.
-#[derive(Drop)]
+#[derive(Clone, Copy)]
 pub struct Drained {
     pub buffer: CommandBuffer,
     pub count: usize,
 }
 
 // The answer of a drain to the tape, with the next place on it.
-#[derive(Drop)]
+#[derive(Clone, Copy)]
 pub struct Applied {
     pub buffer: CommandBuffer,
     pub at: usize,

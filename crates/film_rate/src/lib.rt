@@ -1,5 +1,7 @@
 // The whole frames of a span of time at a rate of p over q frames a second, and what is left over, in whole numbers alone: nothing is rounded.
 // It is request 1 of document 02 and answers to no file of crystalorb.
+#![tactic(auto)]
+
 ghost use Rattle.std.specs.Prelude.{◌≡◌, true};
 ghost use Rattle.film_rate.specs.Spans.{rate_part_passes, span_passes, counted_of, uncounted, span_frames_of};
 
@@ -7,7 +9,7 @@ ghost use Rattle.film_rate.specs.Spans.{rate_part_passes, span_passes, counted_o
 const SECOND: u64 = 1000000;
 
 // The answer of `frames_of_span`.
-#[derive(Drop)]
+#[derive(Clone, Copy)]
 pub struct SpanFrames {
     pub refusal: u32,
     // whole frames

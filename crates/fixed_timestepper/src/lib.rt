@@ -1,5 +1,7 @@
 // The stepping of the worlds by the clock: `TimeKeeper` of src/fixed_timestepper.rs of crystalorb. Every float operation is the Rust's,
 // in its order.
+#![tactic(auto)]
+
 ghost use Rattle.std.specs.Prelude.{◌≡◌, true, ◌≤◌, ◌<◌};
 ghost use Rattle.fixed_timestepper.specs.TimeKeeper.{at_least_zero, logical_of, drift_of, beyond_deadband, compensated_of, rules_of, run_of, skips_of, Advances};
 ghost use Rattle.fixed_timestepper.specs.TimeKeeper.{ended_of, unended_of};
@@ -15,7 +17,7 @@ use settings::Settings;
 use timestamp::{FloatTimestamp, Timestamp};
 
 // Frames that were played: how many, the overshoot after them, the next place on the tape, and why they ended.
-#[derive(Drop)]
+#[derive(Clone, Copy)]
 pub struct Advanced {
     pub scene: Scene,
     pub overshoot: f64,

@@ -1,5 +1,7 @@
 // The frames of an update and the skip after them, over lent slots: each frame is decided on numbers and then done (`TimeKeeper::update` of
 // src/fixed_timestepper.rs of crystalorb).
+#![tactic(auto)]
+
 ghost use Rattle.std.specs.Prelude.{◌≡◌, ◌≤◌, ◌<◌};
 ghost use Rattle.refusals.specs.Limits.{most_frames, most_steps};
 ghost use Rattle.play.specs.Scenes.{AllLent};
@@ -13,7 +15,7 @@ use settings::Settings;
 use timestamp::{FloatTimestamp, Timestamp};
 
 // Frames that were played: the numbers and the books after them, the overshoot, how many they are, and why they ended.
-#[derive(Drop)]
+#[derive(Clone, Copy)]
 pub struct Advanced {
     pub numbers: Numbers,
     pub books: Books,

@@ -1,5 +1,7 @@
 // What hosts in C and Rust call directly: functions on numbers and bytes, exported under C names with the library's prefix.
 // The header include/kadwunge.h declares them. Every argument is answered; none is required to be anything.
+#![tactic(auto)]
+
 ghost use Rattle.std.specs.Prelude.{◌≡◌, ◌+◌, ◌*◌, ◌≤◌, length, take, replicate};
 ghost use Rattle.std.specs.Float.{binary64};
 ghost use Rattle.std.specs.Float.Ieee.{of_bits};
@@ -13,7 +15,7 @@ ghost use Rattle.host.specs.Spans.{host_span_of};
 use timestamp::{Ordering, Timestamp};
 
 // What a call for a mean finds.
-#[derive(Drop)]
+#[derive(Clone, Copy)]
 pub enum MeanAnswer {
     // the mean of the samples
     Mean(f64),
@@ -25,7 +27,7 @@ pub enum MeanAnswer {
 
 // The frames of a span as C lays them out. The spare word is 0 and fills the record, so that no byte of it is left undetermined.
 #[repr(C)]
-#[derive(Drop)]
+#[derive(Clone, Copy)]
 pub struct HostSpanFrames {
     pub frames: u64,
     pub remainder: u64,

@@ -1,5 +1,7 @@
 // The inbox: words that say commands, snapshots and clock messages. It stands for what a network would hand to the client of crystalorb.
 // `message_at` reads the message at a place, and a `Reader` goes from message to message; what an inbox is refused for is in inbox_refusal.
+#![tactic(auto)]
+
 ghost use Rattle.std.specs.Prelude.{◌≡◌, ◌+◌, ◌≤◌, ◌<◌, length, drop};
 ghost use Rattle.inbox.specs.Inbox.{due_word_of, head_of, joined_of, float_bits_of, inbox_time_of, clock_of, read_at};
 
@@ -8,7 +10,7 @@ use timestamp::Timestamp;
 pub mod reader;
 
 // What the words at a place say: a message, or the way in which they say none.
-#[derive(Drop)]
+#[derive(Clone, Copy)]
 pub enum Message {
     Command { stamp: Timestamp, handle: u32 },
     Snapshot { stamp: Timestamp, handle: u32 },
@@ -22,14 +24,14 @@ pub enum Message {
 }
 
 // A message and the place after it: the end of the words where no message can follow.
-#[derive(Drop)]
+#[derive(Clone, Copy)]
 pub struct Step {
     pub message: Message,
     pub next: usize,
 }
 
 // What stands where a word of one kind is due.
-#[derive(Drop)]
+#[derive(Clone, Copy)]
 pub enum Word {
     Value(u32),
     Wrong,
@@ -37,7 +39,7 @@ pub enum Word {
 }
 
 // The first word of a message.
-#[derive(Drop)]
+#[derive(Clone, Copy)]
 pub enum Head {
     ForCommand(Timestamp),
     ForSnapshot(Timestamp),
@@ -46,7 +48,7 @@ pub enum Head {
 }
 
 // What the three words of a float say.
-#[derive(Drop)]
+#[derive(Clone, Copy)]
 pub enum Bits {
     Are(u64),
     BitsWrong,
@@ -54,7 +56,7 @@ pub enum Bits {
 }
 
 // A clock's time, or that its pattern is none.
-#[derive(Drop)]
+#[derive(Clone, Copy)]
 pub enum Time {
     At(f64),
     OutOfRange,

@@ -7,7 +7,7 @@ ghost use Rattle.inbox.specs.Reader.{reader_at, more_of, next_of, moved_to};
 use super::{Step, message_at};
 
 // The caller's words and a position in them.
-#[derive(Drop)]
+#[derive(Clone, Copy)]
 pub struct Reader<'a> {
     pub words: &'a [u32],
     pub at: usize,

@@ -1,5 +1,7 @@
 // The three passes over an inbox: clock messages, commands, snapshots. Each goes from message to message by a reader that keeps the
 // inbox's words and a position.
+#![tactic(auto)]
+
 ghost use Rattle.std.specs.Prelude.{◌≡◌};
 ghost use Rattle.inbox_passes.specs.Passes.{met_one, has_for_worlds, heard_in, receive_one, received_in, noted_in};
 ghost use Rattle.inbox_passes.specs.Inner.{met_in, hear_next, hear_in, note_next, note_in};
@@ -10,14 +12,14 @@ use inbox::{Message, reader};
 use timestamp::Timestamp;
 
 // What the clock messages told so far, and the time at which this client hears them.
-#[derive(Drop)]
+#[derive(Clone, Copy)]
 pub struct Hearing {
     pub heard: Heard,
     pub seconds: f64,
 }
 
 // What the snapshots of the inbox left so far, and the stamp of the client that receives them.
-#[derive(Drop)]
+#[derive(Clone, Copy)]
 pub struct Noting {
     pub snapshots: Snapshots,
     pub old: Timestamp,

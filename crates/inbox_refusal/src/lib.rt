@@ -1,4 +1,6 @@
 // What an inbox is refused for, 3 to 6: its length is tested first, then all of its messages are read, and the lowest number is given.
+#![tactic(auto)]
+
 ghost use Rattle.std.specs.Prelude.{◌≡◌};
 ghost use Rattle.inbox_refusal.specs.Refusal.{message_number_of, lowest_of, refusal_of};
 ghost use Rattle.inbox_refusal.specs.Inner.{lowest_with, lowest_in};

@@ -1,5 +1,7 @@
 // An inbox read once, each message once: its refusal, whether it has commands or snapshots, what its clock messages tell, and the
 // snapshots that it leaves.
+#![tactic(auto)]
+
 ghost use Rattle.std.specs.Prelude.{◌≡◌};
 ghost use Rattle.inbox_scan.specs.Scan.{Scans};
 ghost use Rattle.inbox_scan.specs.Inner.{scan_one, scan_in};
@@ -10,7 +12,7 @@ use inbox::{Message, reader};
 use timestamp::Timestamp;
 
 // What an inbox holds. Of one over 4,096 words nothing is read.
-#[derive(Drop)]
+#[derive(Clone, Copy)]
 pub struct Scan {
     pub refusal: u32,
     // whether there is a command or a snapshot

@@ -1,5 +1,7 @@
 // The mean of samples, which src/clocksync.rs of crystalorb takes: sorted, cut at both ends, summed upward from +0.0; and which samples are
 // in range.
+#![tactic(auto)]
+
 ghost use Rattle.std.specs.Prelude.{◌≡◌, ◌+◌, ◌-◌, ◌<◌, ◌≤◌, min, take, drop};
 ghost use Rattle.mean.specs.Mean.{sample_inserted, place_of, sorted_of, sum_from, mean_of, samples_ok};
 ghost use Rattle.timestamp.specs.Floats.{zero64, sample_ok};

@@ -1,6 +1,8 @@
 // A frame and a skip done to the worlds' buffers, whose slots are lent, and to the tape: what `client_numbers` decides, done. A world's
 // ledger goes by value; what it holds is the count of the world's buffer. Nothing is copied but what a load copies. (`step` and
 // `reset_last_completed_timestamp` of src/client.rs of crystalorb.)
+#![tactic(auto)]
+
 ghost use Rattle.std.specs.Prelude.{◌≤◌, ◌<◌};
 ghost use Rattle.refusals.specs.Limits.{most_steps};
 ghost use Rattle.tape.specs.Tape.{Puts};
@@ -15,7 +17,7 @@ use client_numbers::{Frame, Numbers, Opens, Shows};
 use timestamp::Timestamp;
 
 // The worlds' ledgers, the base's count, and the next place on the tape.
-#[derive(Drop)]
+#[derive(Clone, Copy)]
 pub struct Books {
     pub left: Ledger,
     pub right: Ledger,
@@ -24,7 +26,7 @@ pub struct Books {
 }
 
 // The same by old and new world.
-#[derive(Drop)]
+#[derive(Clone, Copy)]
 pub struct Pair {
     pub old: Ledger,
     pub new: Ledger,
@@ -33,14 +35,14 @@ pub struct Pair {
 }
 
 // The sides of the old and the new world.
-#[derive(Drop)]
+#[derive(Clone, Copy)]
 pub struct Sides {
     pub old: u32,
     pub new: u32,
 }
 
 // The base's midpoint, and the stamps of the old and the new world.
-#[derive(Drop)]
+#[derive(Clone, Copy)]
 pub struct Stamps {
     pub base: Timestamp,
     pub old: Timestamp,
@@ -48,7 +50,7 @@ pub struct Stamps {
 }
 
 // A world's ledger after a load, the base's count, and the next place on the tape.
-#[derive(Drop)]
+#[derive(Clone, Copy)]
 pub struct Loaded {
     pub ledger: Ledger,
     pub base: usize,

@@ -1,5 +1,7 @@
 // The functions of `timestamp` under C names, so that a Rust program can compare them with Rust's own f64 and i16 operations.
 // For tests only: no host links it, and no header declares it.
+#![tactic(auto)]
+
 ghost use Rattle.std.specs.Prelude.{◌≡◌};
 ghost use Rattle.timestamp.specs.Timestamps.{sum_of, difference_of, bits_of, signed_of, in_range};
 ghost use Rattle.timestamp.specs.Whole.{trunc_of, ceil_of, floor_of, round_of};

@@ -1,5 +1,7 @@
 // The numbers under which calls are turned down, the order in which each call is judged, and the limits. A call hands
 // in what its tests found and gets the number that it answers, or 0. It answers to no file of crystalorb, which has no such numbers.
+#![tactic(auto)]
+
 ghost use Rattle.std.specs.Prelude.{◌≡◌};
 ghost use Rattle.refusals.specs.Refusals.{open_refusal_by, once_refusal_by, syncing_refusal_by, arrival_refusal_by, end_refusal_by, issue_refusal_by};
 ghost use Rattle.refusals.specs.Refusals.{report_refusal_by};
@@ -74,7 +76,7 @@ pub const LONGEST_TIME: f64 = 4294967296.0;
 pub const LARGEST_SAMPLE: f64 = 8589934592.0;
 
 // Why the frames of an update ended: all were played, a 66th was due, or the Rust stops in one.
-#[derive(Drop)]
+#[derive(Clone, Copy)]
 pub enum Stop {
     Done,
     TooManyFrames,

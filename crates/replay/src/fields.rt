@@ -2,7 +2,7 @@
 use super::input::{Cursor, In, next};
 
 // A field that was read. `end` is the byte after it: a space, a line end or 256, the end of the input.
-#[derive(Drop)]
+#[derive(Clone, Copy)]
 pub struct Field {
     pub end: u32,
     // the first byte, 0 where there is none
@@ -25,21 +25,21 @@ pub struct Field {
 }
 
 // A field and the cursor after it.
-#[derive(Drop)]
+#[derive(Clone, Copy)]
 pub struct Scanned {
     pub cursor: Cursor,
     pub field: Field,
 }
 
 // A field's value of some kind; `ok` says whether it has one.
-#[derive(Drop)]
+#[derive(Clone, Copy)]
 pub struct Value {
     pub ok: bool,
     pub value: u64,
 }
 
 // The values of some fields of a line, whether each has one, the byte that ended the last, and the cursor after it.
-#[derive(Drop)]
+#[derive(Clone, Copy)]
 pub struct Fields {
     pub cursor: Cursor,
     pub ok: bool,

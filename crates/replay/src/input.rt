@@ -5,14 +5,14 @@ use libc::STDIN_FILENO;
 pub type In = [u8; 65536];
 
 // The place of the next byte in the buffer, and the end of what was read into it.
-#[derive(Drop)]
+#[derive(Clone, Copy)]
 pub struct Cursor {
     pub at: usize,
     pub end: usize,
 }
 
 // A byte and the cursor after it. 256 is the end of the input.
-#[derive(Drop)]
+#[derive(Clone, Copy)]
 pub struct NextByte {
     pub cursor: Cursor,
     pub byte: u32,

@@ -3,7 +3,7 @@ use super::fields::Field;
 use super::input::Cursor;
 
 // The end of the input, a line that is passed over, one of the calls, or none of these.
-#[derive(Drop)]
+#[derive(Clone, Copy)]
 pub enum Line {
     End,
     Empty,
@@ -21,7 +21,7 @@ pub enum Line {
 }
 
 // The cursor in the input, the next place in the output, whether the run goes on, and whether it ended because a line is no call.
-#[derive(Drop)]
+#[derive(Clone, Copy)]
 pub struct Place {
     pub cursor: Cursor,
     pub at: usize,

@@ -1,4 +1,6 @@
 // Plays a text of calls: reads calls on standard input, a line each, and writes their answers on standard output.
+#![tactic(auto)]
+
 mod answers;
 mod fields;
 mod host_calls;

@@ -7,7 +7,7 @@ use super::input::{Cursor, In, next};
 pub type Room = [u8; 513];
 
 // The bytes that a field gives: how many, whether they are well written, the byte that ended the field, and the cursor after it.
-#[derive(Drop)]
+#[derive(Clone, Copy)]
 pub struct Bytes {
     pub cursor: Cursor,
     pub ok: bool,
@@ -17,7 +17,7 @@ pub struct Bytes {
 
 // A field of bytes while it is read: how many characters it has, the last digit, whether it begins with the sign for no bytes, and
 // whether a character is no digit.
-#[derive(Drop)]
+#[derive(Clone, Copy)]
 struct Reading {
     total: u64,
     last: u32,

@@ -17,14 +17,14 @@ pub type Words = [u32; 4097];
 pub type Tape = [u32; 65536];
 
 // The session that the next call is handed, and where the run stands.
-#[derive(Drop)]
+#[derive(Clone, Copy)]
 pub struct Player {
     pub session: Session,
     pub place: Place,
 }
 
 // The words of an update's inbox: how many were kept, whether each was well written, and the cursor after them.
-#[derive(Drop)]
+#[derive(Clone, Copy)]
 struct ReadWords {
     cursor: Cursor,
     ok: bool,

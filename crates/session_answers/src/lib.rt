@@ -1,4 +1,6 @@
 // The records of what open and update answer, and each way to fill that of update. It answers to `Client::update` of src/client.rs of crystalorb.
+#![tactic(auto)]
+
 ghost use Rattle.std.specs.Prelude.{length};
 ghost use Rattle.session_answers.specs.Answers.{unplayedOf, refusedWith, Updates};
 ghost use Rattle.session_answers.specs.Inner.{accepted_by};
@@ -9,14 +11,14 @@ use fixed_timestepper::Advanced;
 use session_state::Session;
 
 // The answer of `open`.
-#[derive(Drop)]
+#[derive(Clone, Copy)]
 pub struct OpenAnswer {
     pub refusal: u32,
     pub session: Session,
 }
 
 // The answer of `update`: frames are F, steps are C, and words are those played.
-#[derive(Drop)]
+#[derive(Clone, Copy)]
 pub struct UpdateAnswer {
     pub refusal: u32,
     pub session: Session,

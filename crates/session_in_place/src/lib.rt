@@ -1,5 +1,7 @@
 // The calls over lent arrays: `lent` has update over the samples of the clock and the slots of three buffers, `in_place` over arrays that a host lends, which a
 // refused call leaves as they were, `by_value`, `issuing` and `reporting` the calls by value over them. Each meets the contract of the call of session.
+#![tactic(auto)]
+
 pub mod answers;
 pub mod by_value;
 pub mod in_place;
@@ -12,7 +14,7 @@ use client::Ledger;
 use session_lent::State;
 
 // The same of an update over lent arrays: the session's numbers are in the place of the session.
-#[derive(Drop)]
+#[derive(Clone, Copy)]
 pub struct LentAnswer {
     pub refusal: u32,
     pub state: State,

@@ -1,4 +1,6 @@
 // The call `issue`: a command of this client, as `Ready::issue_command` of src/client/stage/ready.rs of crystalorb takes it.
+#![tactic(auto)]
+
 ghost use Rattle.std.specs.Prelude.{◌≡◌};
 ghost use Rattle.session_issue.specs.Issue.{unissued, issued_of, issue_of};
 
@@ -7,7 +9,7 @@ use session_state::Session;
 use timestamp::Timestamp;
 
 // The answer of `issue`: the stamp of the command.
-#[derive(Drop)]
+#[derive(Clone, Copy)]
 pub struct IssueAnswer {
     pub refusal: u32,
     pub session: Session,

@@ -1,5 +1,7 @@
 // A session over arrays that are lent: its numbers by value, and beside them the samples of its clock and the slots of its three buffers; and whether it is
 // sound, which copies nothing. A session by value is taken apart into these and put together again.
+#![tactic(auto)]
+
 ghost use Rattle.std.specs.Prelude.{◌≡◌, length};
 ghost use Rattle.refusals.specs.Limits.{sample_room};
 ghost use Rattle.clocksync.specs.Clock.{both_of};
@@ -18,7 +20,7 @@ use simulation::Simulation;
 use timestamp::Timestamp;
 
 // A world but for its slots: how many commands it holds, the stamp of its last completed frame, and whether a snapshot has initialised it.
-#[derive(Drop)]
+#[derive(Clone, Copy)]
 pub struct World {
     pub len: usize,
     pub stamp: Timestamp,
@@ -26,7 +28,7 @@ pub struct World {
 }
 
 // Both worlds and all that reconciles them, but for the slots: the base by its count and its midpoint.
-#[derive(Drop)]
+#[derive(Clone, Copy)]
 pub struct Worlds {
     pub left: World,
     pub right: World,
@@ -39,7 +41,7 @@ pub struct Worlds {
 }
 
 // All of a session but its settings, samples and slots.
-#[derive(Drop)]
+#[derive(Clone, Copy)]
 pub struct State {
     pub stage: Stage,
     pub clock: ClockNumbers,

@@ -1,5 +1,7 @@
 // The worlds of a session played over lent arrays: its commands arrive, its frames are played, and it ends with what is displayed. (`ActiveClient::update` of
 // src/client.rs of crystalorb.)
+#![tactic(auto)]
+
 ghost use Rattle.std.specs.Prelude.{◌≡◌, ◌≤◌};
 ghost use Rattle.refusals.specs.Limits.{most_steps};
 ghost use Rattle.command.specs.Slots.{Lent};

@@ -1,4 +1,6 @@
 // The call `report`: where a session stands, as the views `SyncingInitialState` and `Ready` of src/client/stage/ of crystalorb show it.
+#![tactic(auto)]
+
 ghost use Rattle.std.specs.Prelude.{◌≡◌};
 ghost use Rattle.session_report.specs.Report.{unreported, reported_of, report_of};
 
@@ -7,7 +9,7 @@ use session_state::{Session, Stage};
 use timestamp::Timestamp;
 
 // The answer of `report`.
-#[derive(Drop)]
+#[derive(Clone, Copy)]
 pub struct ReportAnswer {
     pub refusal: u32,
     pub stage: Stage,

@@ -1,5 +1,7 @@
 // The stages of a session: what `StageOwned::update` of src/client/stage.rs of crystalorb decides at an update's end, and the first stamp of
 // `ActiveClient::new` of src/client.rs.
+#![tactic(auto)]
+
 ghost use Rattle.std.specs.Prelude.{◌≡◌};
 ghost use Rattle.session_stage.specs.Stage.{synced_of, stage_after};
 

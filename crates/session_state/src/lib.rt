@@ -1,5 +1,7 @@
 // The session of a client, all of its state by value, and whether it is sound: what calls leave, as document 01 lists it. It answers to `Client` and the stages
 // of src/client/stage*.rs of crystalorb.
+#![tactic(auto)]
+
 ghost use Rattle.std.specs.Prelude.{◌≡◌};
 ghost use Rattle.command.specs.Soundness.{sound_buffer};
 ghost use Rattle.session_state.specs.Session.{has_worlds, is_ready, starting_of, session_with, scene_of};
@@ -11,7 +13,7 @@ use command::CommandBuffer;
 use settings::Settings;
 
 // How far the client is connected. Worlds exist in every stage but the first.
-#[derive(Drop)]
+#[derive(Clone, Copy)]
 pub enum Stage {
     SyncingClock,
     SyncingInitialState,
@@ -19,7 +21,7 @@ pub enum Stage {
 }
 
 // All state of a client.
-#[derive(Drop)]
+#[derive(Clone, Copy)]
 pub struct Session {
     pub settings: Settings,
     pub stage: Stage,

@@ -1,5 +1,7 @@
 // The settings of a session, the numbers derived from them, and the shaping of a tween weight: what `Config` and `TweeningMethod` of
 // src/lib.rs of crystalorb hold. Every function is total: it has its answer also for settings that do not pass.
+#![tactic(auto)]
+
 ghost use Rattle.std.specs.Prelude.{◌≡◌};
 ghost use Rattle.timestamp.specs.Timestamps.{bits_of};
 ghost use Rattle.settings.specs.Settings.{lag_frames_of, discard_of, store_of, seconds_pass, thresholds_pass, samples_pass, counts_pass, passes_of};
@@ -10,7 +12,7 @@ ghost use Rattle.settings.specs.Tweening.{method_of, known_of, shaped_of};
 use timestamp::{FloatTimestamp, Timestamp};
 
 // How the displayed state is chosen between the two frames next to the present time.
-#[derive(Drop)]
+#[derive(Clone, Copy)]
 pub enum TweeningMethod {
     // the frame before it
     MostRecentlyPassed,
@@ -65,7 +67,7 @@ impl TweeningMethod {
 }
 
 // The settings, in the order in which a call names them.
-#[derive(Drop)]
+#[derive(Clone, Copy)]
 pub struct Settings {
     // timestep_seconds
     pub timestep: f64,

@@ -1,13 +1,15 @@
 // One world of the client: its commands and whether a snapshot has initialised it. It answers to src/world/simulation.rs of crystalorb.
 // The world itself is the host's: what happens to it is told by the words of a tape. The stamp of the last completed frame is the
 // midpoint of the command buffer, as in the Rust. A side is 0 for the left world and 1 for the right one.
+#![tactic(auto)]
+
 ghost use Rattle.std.specs.Prelude.{◌≡◌, ◌<◌};
 ghost use Rattle.simulation.specs.World.{new_world, scheduled_of, step_of, resets_back, reset_of, load_of, Does, Loads};
 
 use command::CommandBuffer;
 use timestamp::{Ordering, Timestamp};
 
-#[derive(Drop)]
+#[derive(Clone, Copy)]
 pub struct Simulation {
     pub commands: CommandBuffer,
     pub init: bool,
@@ -15,7 +17,7 @@ pub struct Simulation {
 
 // A world after something was done to it, the next place on the tape, how many commands were applied to it, and how many the move of
 // its stamp left out.
-#[derive(Drop)]
+#[derive(Clone, Copy)]
 pub struct Stepped {
     pub world: Simulation,
     pub at: usize,
@@ -25,7 +27,7 @@ pub struct Stepped {
 
 // A world after a snapshot was loaded into it: how many commands it was given from the base, how many of its own they replaced, and
 // how many of them the move to the snapshot's stamp left out.
-#[derive(Drop)]
+#[derive(Clone, Copy)]
 pub struct Loaded {
     pub world: Simulation,
     pub at: usize,
@@ -35,7 +37,7 @@ pub struct Loaded {
 }
 
 // A world that was offered a command, and what its buffer did with it.
-#[derive(Drop)]
+#[derive(Clone, Copy)]
 pub struct Scheduled {
     pub world: Simulation,
     pub outcome: command::Outcome,

@@ -1,6 +1,8 @@
 // What leaves a command buffer whose 64 slots are lent: its count and its midpoint go by value beside them. The
 // entries of a sound buffer are in order, so its first and its last one tell whether any leaves: where none does, no other slot is read and
 // none is written. Where some do, those that stay move to the front, and the slots behind them are blanked.
+#![tactic(auto)]
+
 ghost use Rattle.std.specs.Prelude.{◌≡◌, not, ◌+◌, ◌≤◌, ◌<◌, eqb, length, take};
 ghost use Rattle.refusals.specs.Limits.{buffer_room};
 ghost use Rattle.tape.specs.Tape.{Puts};
@@ -15,7 +17,7 @@ use tape::{command_word, put};
 use timestamp::Timestamp;
 
 // The answer of a step: how many entries are left, and the next place on the tape.
-#[derive(Drop)]
+#[derive(Clone, Copy)]
 pub struct Stepped {
     pub len: usize,
     pub at: usize,

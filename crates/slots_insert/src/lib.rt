@@ -1,5 +1,7 @@
 // What comes into a command buffer whose 64 slots are lent: the slots stand in the caller's array, and the count and the midpoint go by value.
 // The definitions are those of `command`.
+#![tactic(auto)]
+
 ghost use Rattle.slots_insert.specs.Insertions.{HasPlace, Placed, Offers, Offered};
 
 use command::{Outcome, in_range, rank_in};

@@ -1,7 +1,7 @@
 -- What a loop keeps that counts the entries of a buffer that break a rule of soundness: none do exactly where the buffer is sound. Assumes nothing.
 use mathlib.Core.Path.{◌≡◌, sym, ap, ◌∙◌}
 use mathlib.Core.List.{List}
-use mathlib.Core.Bool.{Bool, true, false, ◌&&◌, and_false, and_true}
+use mathlib.Core.Bool.{Bool, true, false, ◌&&◌, and-false, and-true}
 use Prim.Native.Nat.{ℕ, ◌+◌, ◌≤◌, ◌<◌}
 use native.Mathlib.Omega.{arith}
 use native.Mathlib.Numerals.{add-one}
@@ -41,7 +41,7 @@ module _ {e : List Entry} {n : ℕ} {t : Timestamp} {i lo bad : ℕ} (s : Testin
   pub test_end : n ≤ i → eqb bad 0 ≡ sound_buffer (buffer_at e n t)
   unfolding sound_from
   test_end h = sym (s.same ∙ ap (λ (l : List Entry). eqb bad 0 && sound_from t lo l)
-      (drop_of_length-le (take n e) {i = i} (simp length-take (omega arith))) ∙ and_true (eqb bad 0))
+      (drop_of_length-le (take n e) {i = i} (simp length-take (omega arith))) ∙ and-true (eqb bad 0))
 
   module _ (h : i < n) {k : ℕ} (rank : k ≡ rank_in t (get_or e i blank)) where
     next : sound_buffer (buffer_at e n t) ≡ eqb bad 0 && (sound_rank k lo (get_or e i blank) && sound_from t k (drop (i + 1) (take n e)))
@@ -57,7 +57,7 @@ module _ {e : List Entry} {n : ℕ} {t : Timestamp} {i lo bad : ℕ} (s : Testin
           few = s.few;
           most = omega arith;
           less = omega (arith, s.less);
-          same = next ∙ rw (q, more) (and_false (eqb bad 0));
+          same = next ∙ rw (q, more) (and-false (eqb bad 0));
         }
 
     -- one that breaks none

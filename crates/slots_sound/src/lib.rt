@@ -1,4 +1,6 @@
 // Whether a command buffer whose 64 slots are lent is sound. The definition is that of `command`.
+#![tactic(auto)]
+
 ghost use Rattle.std.specs.Prelude.{◌≡◌, length};
 ghost use Rattle.refusals.specs.Limits.{buffer_room};
 ghost use Rattle.command.specs.Slots.{buffer_at};

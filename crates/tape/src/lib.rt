@@ -1,5 +1,7 @@
 // The tape: the words that a client leaves for its host, one after the other. A word past the tape's end is counted and not written,
 // so that the count says how long the tape should have been. The Rust has no such thing: the tape stands for the calls on its `World`.
+#![tactic(auto)]
+
 ghost use Rattle.std.specs.Prelude.{◌≡◌, [], ◌∷◌, ◌<◌};
 ghost use Rattle.std.specs.Float.{binary64};
 ghost use Rattle.std.specs.Float.Ieee.{to_bits};

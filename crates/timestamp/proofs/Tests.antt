@@ -2,15 +2,15 @@
 -- tests says of each. Assumes nothing.
 use Rattle.std.proofs.Common.{◌≡◌, Bool, true, false, not, ◌&&◌, sym, refl, ◌∙◌}
 use mathlib.Core.Bool.{false≢true}
-use borrow.Author.Tests.{not_true, not_false}
+use borrow.Author.Tests.{not-true, not-false}
 
 -- the answer was no
 pub fails : {r t : Bool} → not r ≡ true → r ≡ t → t ≡ false
-fails {r} h e = sym e ∙ not_true r h
+fails {r} h e = sym e ∙ not-true r h
 
 -- the answer was yes
 pub holds : {r t : Bool} → not r ≡ false → r ≡ t → t ≡ true
-holds {r} h e = sym e ∙ not_false r h
+holds {r} h e = sym e ∙ not-false r h
 
 -- both of two tests hold where the row does
 pub apart : (a b : Bool) → a && b ≡ true → (a ≡ true) × (b ≡ true)

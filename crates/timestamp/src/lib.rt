@@ -1,17 +1,19 @@
 // Stamps of simulation frames and frame counts, and the whole numbers next to a float: what src/timestamp.rs of crystalorb holds.
 // A stamp has 16 bits and wraps; a frame count is an f64 in the same space. The two are separate types, and a frame count becomes a
 // stamp only by `trunc` and `ceil`. Every function is total: a NaN and an infinity have their answers too.
+#![tactic(auto)]
+
 ghost use Rattle.std.specs.Prelude.{◌≡◌};
 ghost use Rattle.timestamp.specs.Timestamps.{sum_of, difference_of, signed_of, bits_of, order_of, in_range};
 ghost use Rattle.timestamp.specs.Whole.{trunc_of, ceil_of, floor_of, round_of};
 ghost use Rattle.timestamp.specs.FloatTimestamps.{from_unwrapped, from_seconds, float_difference_of, as_seconds, float_of, stamp_of, ceil_stamp_of};
 
 // The stamp of a frame: 16 bits, read as a signed number by `value` alone.
-#[derive(Drop)]
+#[derive(Clone, Copy)]
 pub struct Timestamp(pub u16);
 
 // How the first of two stamps stands to the second.
-#[derive(Drop)]
+#[derive(Clone, Copy)]
 pub enum Ordering {
     Less,
     Equal,
@@ -99,7 +101,7 @@ impl Timestamp {
 }
 
 // A frame count: a time in frames, wrapped into the stamps' space.
-#[derive(Drop)]
+#[derive(Clone, Copy)]
 pub struct FloatTimestamp(pub f64);
 
 impl FloatTimestamp {

@@ -1,6 +1,8 @@
 // One world of the two, over lent slots: a step, the steps of a catch-up, a reset and a load (src/world/simulation.rs of crystalorb). A
 // world is its slots, its ledger, whose `held` says how many of them count, and its stamp. Whether a snapshot has initialised it is the
 // caller's to know.
+#![tactic(auto)]
+
 ghost use Rattle.std.specs.Prelude.{◌≡◌, ◌≤◌, ◌<◌, length};
 ghost use Rattle.refusals.specs.Limits.{buffer_room, most_steps};
 ghost use Rattle.command.specs.Slots.{buffer_at, Lent};
@@ -11,7 +13,7 @@ use client::{Ledger, ledgers};
 use timestamp::Timestamp;
 
 // A world's ledger after something was done to the world, and the next place on the tape.
-#[derive(Drop)]
+#[derive(Clone, Copy)]
 pub struct Turned {
     pub ledger: Ledger,
     pub at: usize,

@@ -1,6 +1,6 @@
 -- `is_level` meets its contract: one test after another. Assumes nothing.
 use Rattle.std.proofs.Common.{rules}
-use borrow.Author.Tests.{not_true, not_false}
+use borrow.Author.Tests.{not-true, not-false}
 use Rattle.client_level.proofs.Levelling.{level_none, level_status, level_left, level_right}
 use Rattle.client_level.proofs.is_level.Statement.{statement}
 use Rattle.client_level.proofs.is_level.Tie as tie
@@ -19,7 +19,7 @@ returns-2 : tie.Need-returns-2
 returns-2 c =
     let l = c.before in
     let t = l.before.before in
-    level_status _ _ t.before.if1.false t.infer-current-reconciliation-status.ensures l.stays-level.ensures (not_true _ c.if2.true)
+    level_status _ _ t.before.if1.false t.infer-current-reconciliation-status.ensures l.stays-level.ensures (not-true _ c.if2.true)
 
 stamp-of-requires : tie.Need-stamp-of-requires
 stamp-of-requires c κs = search rules
@@ -38,8 +38,8 @@ returns-3 c =
     let f = a.before.before in
     let l = f.before in
     let t = l.before.before in
-    level_left _ _ t.before.if1.false t.infer-current-reconciliation-status.ensures l.stays-level.ensures (not_false _ f.if2.false)
-    a.stamp_of_lem.ensures n.add.ensures x.waits.ensures (not_true _ c.if3.true)
+    level_left _ _ t.before.if1.false t.infer-current-reconciliation-status.ensures l.stays-level.ensures (not-false _ f.if2.false)
+    a.stamp_of_lem.ensures n.add.ensures x.waits.ensures (not-true _ c.if3.true)
 
 stamp-of-requires-2 : tie.Need-stamp-of-requires-2
 stamp-of-requires-2 c κs = search rules
@@ -61,8 +61,8 @@ returns-4 c =
     let f = a.before.before in
     let l = f.before in
     let t = l.before.before in
-    level_right _ _ t.before.if1.false t.infer-current-reconciliation-status.ensures l.stays-level.ensures (not_false _ f.if2.false)
-    a.stamp_of_lem.ensures n.add.ensures x.waits.ensures (not_false _ g.if3.false)
+    level_right _ _ t.before.if1.false t.infer-current-reconciliation-status.ensures l.stays-level.ensures (not-false _ f.if2.false)
+    a.stamp_of_lem.ensures n.add.ensures x.waits.ensures (not-false _ g.if3.false)
     b.stamp-of2.ensures k.add2.ensures c.waits2.ensures
 
 pub is-level-spec : {M : Type 1} → statement M

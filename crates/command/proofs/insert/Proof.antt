@@ -1,6 +1,6 @@
 -- `insert` meets its contract: out of range, slots, or laid out anew with the entry after all that are not later. Assumes nothing.
 use borrow.Author.Rules.{rules}
-use borrow.Author.Tests.{not_true, not_false}
+use borrow.Author.Tests.{not-true, not-false}
 use mathlib.Core.Path.{◌≡◌, sym, ◌∙◌}
 use mathlib.Core.List.{[]}
 use Prim.Native.Nat.{◌<◌}
@@ -21,13 +21,13 @@ in-range-requires : tie.Need-in-range-requires
 in-range-requires c κs = search rules
 
 returns : tie.Need-returns
-returns c = inserted_out _ _ (sym c.before.in_range_lem.ensures ∙ not_true _ c.if1.true)
+returns c = inserted_out _ _ (sym c.before.in_range_lem.ensures ∙ not-true _ c.if1.true)
 
 returns-2 : tie.Need-returns-2
 returns-2 c =
     let w = c.before.before in
     let s = w.before.before.before in
-    inserted_full _ _ (sym w.before.in_range_lem.ensures ∙ not_false _ w.if1.false) (held_full s.args.buffer (slots s) (omega arith))
+    inserted_full _ _ (sym w.before.in_range_lem.ensures ∙ not-false _ w.if1.false) (held_full s.args.buffer (slots s) (omega arith))
 
 few : (c : tie.Else2) → length (held c.before.before.before.before.before.args.buffer) < 64
 few c = held_below c.before.before.before.before.before.args.buffer (omega arith)
@@ -64,7 +64,7 @@ returns-3 c =
     let k = c.before.before.before.before in
     let q = k.before in
     let w = q.before.before in
-    inserted_taken _ _ (sym w.before.in_range_lem.ensures ∙ not_false _ w.if1.false) (few q) (omega (arith, k.rank-in.ensures))
+    inserted_taken _ _ (sym w.before.in_range_lem.ensures ∙ not-false _ w.if1.false) (few q) (omega (arith, k.rank-in.ensures))
     (omega arith) (omega arith)
     (laid_then _ _ _ (laid_then _ _ _ (laid_then [] _ _ c.before.before.before.new.ensures c.before.before.extend.ensures)
     c.before.push.ensures) c.extend2.ensures)

@@ -1,6 +1,6 @@
 -- `sound` meets its contract. The loop's invariant: the answer for the buffer is the answer for what is left, the last entry's rank given. Assumes nothing.
 use borrow.Author.Rules.{rules}
-use borrow.Author.Tests.{not_true, not_false}
+use borrow.Author.Tests.{not-true, not-false}
 use mathlib.Core.Path.{◌≡◌, refl, sym, ◌∙◌}
 use Prim.Native.Nat.{◌-◌}
 use native.Mathlib.Omega.{arith}
@@ -39,7 +39,7 @@ entry-sound-requires c κs = search rules
 returns-2 : tie.Need-returns-2 invariant-loop decreases-loop
 returns-2 c =
     let l = c.before.before.before.before.before in
-    test_no l.loop.invariant (search rules) c.before.before.rank-in.ensures (sym c.before.entry-sound.ensures ∙ not_true _ c.if2.true)
+    test_no l.loop.invariant (search rules) c.before.before.rank-in.ensures (sym c.before.entry-sound.ensures ∙ not-true _ c.if2.true)
 
 add-i : tie.Need-overflow-add-i invariant-loop decreases-loop
 add-i c = search rules
@@ -50,7 +50,7 @@ loop-less c = search rules
 loop-again : tie.Need-loop-preserved invariant-loop decreases-loop
 loop-again c =
     let l = c.before.before.before.before.before in
-    test_next l.loop.invariant (search rules) c.before.before.rank-in.ensures (sym c.before.entry-sound.ensures ∙ not_false _ c.if2.false)
+    test_next l.loop.invariant (search rules) c.before.before.rank-in.ensures (sym c.before.entry-sound.ensures ∙ not-false _ c.if2.false)
 
 returns-3 : tie.Need-returns-3 invariant-loop decreases-loop
 returns-3 c = test_end c.before.loop.invariant (search rules)

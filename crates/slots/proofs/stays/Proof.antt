@@ -1,6 +1,6 @@
 -- `stays` meets its contract: where the first or the last entry leaves one does, and where both stay all do. Assumes nothing.
 use borrow.Author.Rules.{rules}
-use borrow.Author.Tests.{not_true, not_false}
+use borrow.Author.Tests.{not-true, not-false}
 use native.Mathlib.Omega.{arith}
 use mathlib.Core.Path.{sym, ◌∙◌}
 use Rattle.slots.proofs.Between.{lent_few, stays_not, stays_by}
@@ -16,7 +16,7 @@ ranks-between-requires c κs = search rules
 returns : tie.Need-returns
 returns c =
     let p = c.before.before.before.before.requires in
-    stays_not _ _ _ p.0 p.1 p.2 0 p.1 (sym c.before.ranks-between.ensures ∙ not_true _ c.if1.true)
+    stays_not _ _ _ p.0 p.1 p.2 0 p.1 (sym c.before.ranks-between.ensures ∙ not-true _ c.if1.true)
 
 sub-last : tie.Need-overflow-sub-last
 sub-last c = search rules
@@ -36,7 +36,7 @@ returns-2 : tie.Need-returns-2
 returns-2 c =
     let w = c.before.before in
     let p = w.before.before.before.before.requires in
-    stays_by _ _ _ p.0 p.1 p.2 (sym w.before.ranks-between.ensures ∙ not_false _ w.if1.false) c.ranks-between2.ensures
+    stays_by _ _ _ p.0 p.1 p.2 (sym w.before.ranks-between.ensures ∙ not-false _ w.if1.false) c.ranks-between2.ensures
 
 pub stays-spec : {M : Type 1} → statement M
 stays-spec =

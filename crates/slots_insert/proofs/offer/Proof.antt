@@ -1,6 +1,6 @@
 -- `offer` meets its contract: out of range, full, or taken, with the unused slots blanked before it where they are not known to be blank. Assumes nothing.
 use borrow.Author.Rules.{rules}
-use borrow.Author.Tests.{not_true, not_false}
+use borrow.Author.Tests.{not-true, not-false}
 use mathlib.Core.Bool.{true}
 use mathlib.Core.Path.{◌≡◌, sym, ◌∙◌}
 use Prim.Native.Nat.{◌<◌}
@@ -14,11 +14,11 @@ in-range-requires : tie.Need-in-range-requires
 in-range-requires c κs = search rules
 
 returns : tie.Need-returns
-returns c = offered_out c.before.before.before.requires.lent _ (sym c.before.in_range_lem.ensures ∙ not_true _ c.if1.true)
+returns c = offered_out c.before.before.before.requires.lent _ (sym c.before.in_range_lem.ensures ∙ not-true _ c.if1.true)
 
 -- the entry is in range
 within : (c : tie.Else1) → in_range_of c.before.before.before.args.t c.before.before.before.args.x ≡ true
-within c = sym c.before.in_range_lem.ensures ∙ not_false _ c.if1.false
+within c = sym c.before.in_range_lem.ensures ∙ not-false _ c.if1.false
 
 -- there is room
 room : (c : tie.Else2) → c.before.before.before.before.args.n < 64

@@ -1,6 +1,6 @@
 -- `sound` meets its contract. The loop's invariant: the answer is that no entry passed breaks a rule, and the answer for those that are left. Assumes nothing.
 use borrow.Author.Rules.{rules}
-use borrow.Author.Tests.{not_true, not_false}
+use borrow.Author.Tests.{not-true, not-false}
 use mathlib.Core.Path.{sym, ◌∙◌}
 use Prim.Native.Nat.{◌-◌}
 use native.Mathlib.Omega.{arith}
@@ -45,7 +45,7 @@ loop-less c = search rules
 loop-again : tie.Need-loop-preserved invariant-loop decreases-loop
 loop-again c =
     test_bad c.before.before.before.before.before.loop.invariant (search rules) c.before.before.rank-in.ensures
-    (sym c.before.entry-sound.ensures ∙ not_true _ c.if2.true)
+    (sym c.before.entry-sound.ensures ∙ not-true _ c.if2.true)
 
 loop-less-2 : tie.Need-loop-smaller-2 invariant-loop decreases-loop
 loop-less-2 c = search rules
@@ -53,7 +53,7 @@ loop-less-2 c = search rules
 loop-again-2 : tie.Need-loop-preserved-2 invariant-loop decreases-loop
 loop-again-2 c =
     test_good c.before.before.before.before.before.loop.invariant (search rules) c.before.before.rank-in.ensures
-    (sym c.before.entry-sound.ensures ∙ not_false _ c.if2.false)
+    (sym c.before.entry-sound.ensures ∙ not-false _ c.if2.false)
 
 returns-2 : tie.Need-returns-2 invariant-loop decreases-loop
 returns-2 c = test_end c.before.loop.invariant (search rules)

@@ -2,7 +2,7 @@
 use borrow.Author.Rules.{rules}
 use mathlib.Core.Path.{refl}
 use mathlib.Core.Bool.{true, false}
-use borrow.Author.Tests.{not_true, not_false}
+use borrow.Author.Tests.{not-true, not-false}
 use Rattle.session.proofs.Answering.{once_few, worlds_refused, worlds_stopped, worlds_accepted, update_refused, update_by_lem}
 use Rattle.session.proofs.calls.update.Statement.{statement}
 use Rattle.session.proofs.calls.update.Tie as tie
@@ -33,7 +33,7 @@ returns-2 : tie.Need-returns-2
 returns-2 c =
     let w = c.before.before.before.before in
     update_by_lem _ _ _ _ _ w.before.before.before.refused-at-once.ensures false w.before.before.if1.false w.before.has-worlds.ensures
-    (not_true _ w.if2.true) c.before.before.update-clock.ensures
+    (not-true _ w.if2.true) c.before.before.update-clock.ensures
 
 listen-requires : tie.Need-listen-requires
 listen-requires c κs = search rules
@@ -61,7 +61,7 @@ returns-3 c =
     let a = c.before.before.before.before.before in
     let w = a.before.before.before.before.before.before.before in
     update_by_lem _ _ _ _ _ w.before.before.before.refused-at-once.ensures true w.before.before.if1.false w.before.has-worlds.ensures
-    (not_false _ w.if2.false)
+    (not-false _ w.if2.false)
     (worlds_refused _ _ _ _ a.before.before.before.before.listen.ensures a.before.before.before.hear-all.ensures
     a.before.before.scene-of.ensures a.before.receive-commands.ensures a.by-arrivals.ensures _ c.before.before.before.before.if3.true
     c.before.before.refuse2.ensures)
@@ -93,7 +93,7 @@ returns-4 c =
     let a = t.before.before in
     let w = a.before.before.before.before.before.before.before in
     update_by_lem _ _ _ _ _ w.before.before.before.refused-at-once.ensures true w.before.before.if1.false w.before.has-worlds.ensures
-    (not_false _ w.if2.false)
+    (not-false _ w.if2.false)
     (worlds_stopped _ _ _ _ a.before.before.before.before.listen.ensures a.before.before.before.hear-all.ensures
     a.before.before.scene-of.ensures a.before.receive-commands.ensures a.by-arrivals.ensures t.before.if3.false
     t.tick.ensures k.settle.ensures p.play.ensures e.refused-at-end.ensures refl c.before.before.before.before.if4.true
@@ -114,7 +114,7 @@ returns-5 c =
     let a = t.before.before in
     let w = a.before.before.before.before.before.before.before in
     update_by_lem _ _ _ _ _ w.before.before.before.refused-at-once.ensures true w.before.before.if1.false w.before.has-worlds.ensures
-    (not_false _ w.if2.false)
+    (not-false _ w.if2.false)
     (worlds_accepted _ _ _ _ a.before.before.before.before.listen.ensures a.before.before.before.hear-all.ensures
     a.before.before.scene-of.ensures a.before.receive-commands.ensures a.by-arrivals.ensures t.before.if3.false
     t.tick.ensures k.settle.ensures p.play.ensures e.refused-at-end.ensures refl c.before.before.before.before.if4.false

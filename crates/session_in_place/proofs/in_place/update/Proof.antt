@@ -1,7 +1,7 @@
 -- `update` meets its contract: arrays that do not fit are refused, and else it is the update over them, with the slots put back where that is refused.
 -- Assumes nothing.
 use borrow.Author.Rules.{rules}
-use borrow.Author.Tests.{not_true, not_false}
+use borrow.Author.Tests.{not-true, not-false}
 use mathlib.Core.Path.{refl}
 use Rattle.session_in_place.proofs.Placing.{fit_arrays, place_unfit, place_fit}
 use Rattle.session_in_place.proofs.in_place.update.Statement.{statement}
@@ -26,7 +26,7 @@ same_length : tie.Need-same-length
 same_length c = search rules
 
 returns : tie.Need-returns
-returns c = place_unfit _ _ _ _ _ _ _ _ _ _ c.before.before.before.before.before.before.before.before.lengths-fit.ensures (not_true _
+returns c = place_unfit _ _ _ _ _ _ _ _ _ _ c.before.before.before.before.before.before.before.before.lengths-fit.ensures (not-true _
     c.before.before.before.before.before.before.before.if1.true) c.before.before.before.before.before.before.times-ok.ensures
     c.before.before.before.before.before.refusal.ensures c.before.before.before.before.at_once.ensures c.before.before.refuse.ensures
 
@@ -37,7 +37,7 @@ copy-from-requires : tie.Need-copy-from-requires
 copy-from-requires c κs = (
   refl,
   (fit_arrays c.before.before.before.before.before.before.before.before.before.before.args.samples.now c.before.before.before.before.before.before.before.before.before.before.args.left.now c.before.before.before.before.before.before.before.before.before.before.args.right.now c.before.before.before.before.before.before.before.before.before.before.args.base.now c.before.before.before.lengths-fit.ensures
-      (not_false _ c.before.before.if1.false)).slots.left,
+      (not-false _ c.before.before.if1.false)).slots.left,
 )
 
 slice-aggregate-copy-from-2 : tie.Need-slice-aggregate-copy-from-2
@@ -47,7 +47,7 @@ copy-from-requires-2 : tie.Need-copy-from-requires-2
 copy-from-requires-2 c κs = (
   refl,
   (fit_arrays c.before.before.before.before.before.before.before.before.before.before.before.before.before.before.args.samples.now c.before.before.before.before.before.before.before.before.before.before.before.before.before.before.args.left.now c.before.before.before.before.before.before.before.before.before.before.before.before.before.before.args.right.now c.before.before.before.before.before.before.before.before.before.before.before.before.before.before.args.base.now
-      c.before.before.before.before.before.before.before.lengths-fit.ensures (not_false _
+      c.before.before.before.before.before.before.before.lengths-fit.ensures (not-false _
       c.before.before.before.before.before.before.if1.false)).slots.right,
 )
 
@@ -57,13 +57,13 @@ slice-aggregate-copy-from-3 c = search rules
 copy-from-requires-3 : tie.Need-copy-from-requires-3
 copy-from-requires-3 c κs = (
   refl,
-  (fit_arrays c.before.before.before.before.before.before.before.before.before.before.before.before.before.before.before.before.before.before.args.samples.now c.before.before.before.before.before.before.before.before.before.before.before.before.before.before.before.before.before.before.args.left.now c.before.before.before.before.before.before.before.before.before.before.before.before.before.before.before.before.before.before.args.right.now c.before.before.before.before.before.before.before.before.before.before.before.before.before.before.before.before.before.before.args.base.now c.before.before.before.before.before.before.before.before.before.before.before.lengths-fit.ensures (not_false _
+  (fit_arrays c.before.before.before.before.before.before.before.before.before.before.before.before.before.before.before.before.before.before.args.samples.now c.before.before.before.before.before.before.before.before.before.before.before.before.before.before.before.before.before.before.args.left.now c.before.before.before.before.before.before.before.before.before.before.before.before.before.before.before.before.before.before.args.right.now c.before.before.before.before.before.before.before.before.before.before.before.before.before.before.before.before.before.before.args.base.now c.before.before.before.before.before.before.before.before.before.before.before.lengths-fit.ensures (not-false _
       c.before.before.before.before.before.before.before.before.before.before.if1.false)).slots.base,
 )
 
 update-requires : tie.Need-update-requires
 update-requires c κs = fit_arrays c.before.before.before.before.before.before.before.before.before.before.before.before.before.before.before.before.before.before.before.before.before.before.before.before.before.args.samples.now c.before.before.before.before.before.before.before.before.before.before.before.before.before.before.before.before.before.before.before.before.before.before.before.before.before.args.left.now c.before.before.before.before.before.before.before.before.before.before.before.before.before.before.before.before.before.before.before.before.before.before.before.before.before.args.right.now c.before.before.before.before.before.before.before.before.before.before.before.before.before.before.before.before.before.before.before.before.before.before.before.before.before.args.base.now
-    c.before.before.before.before.before.before.before.before.before.before.before.before.before.before.before.before.before.before.lengths-fit.ensures (not_false _
+    c.before.before.before.before.before.before.before.before.before.before.before.before.before.before.before.before.before.before.lengths-fit.ensures (not-false _
     c.before.before.before.before.before.before.before.before.before.before.before.before.before.before.before.before.before.if1.false)
 
 slice-aggregate-put-back : tie.Need-slice-aggregate-put-back
@@ -111,7 +111,7 @@ same-length-6 c = search rules
 
 returns-2 : tie.Need-returns-2
 returns-2 c = place_fit _ _ _ _ _ _ _ _ _ _
-    c.before.before.before.before.before.before.before.before.before.before.before.before.before.before.before.before.before.before.before.before.before.before.before.before.before.before.before.before.before.before.before.before.before.before.before.before.before.before.before.before.before.before.before.lengths-fit.ensures (not_false _
+    c.before.before.before.before.before.before.before.before.before.before.before.before.before.before.before.before.before.before.before.before.before.before.before.before.before.before.before.before.before.before.before.before.before.before.before.before.before.before.before.before.before.before.before.lengths-fit.ensures (not-false _
     c.before.before.before.before.before.before.before.before.before.before.before.before.before.before.before.before.before.before.before.before.before.before.before.before.before.before.before.before.before.before.before.before.before.before.before.before.before.before.before.before.before.before.if1.false)
     c.before.before.before.before.before.before.before.before.before.before.before.before.before.before.before.before.before.before.before.before.before.before.before.before.update.ensures
     c.before.before.before.before.before.before.before.before.before.before.before.before.before.before.before.before.before.before.before.before.before.before.before.before.before.before.before.before.before.before.before.before.before.before.before.before.before.before.before.copy-from.ensures

@@ -1,6 +1,6 @@
 -- `update` meets its contract: refused at once, or by whether worlds exist. Assumes nothing.
 use borrow.Author.Rules.{rules}
-use borrow.Author.Tests.{not_true}
+use borrow.Author.Tests.{not-true}
 use mathlib.Core.Bool.{true, false}
 use Rattle.session_in_place.proofs.Lending.{scanned, once_read, once_steps, once_lent, lent_refused, lent_by}
 use Rattle.session_in_place.proofs.lent.update.Statement.{statement}

@@ -1,6 +1,6 @@
 -- `synced` meets its contract: worlds where the clock is ready. Assumes nothing.
 use borrow.Author.Rules.{rules}
-use borrow.Author.Tests.{not_true, not_false}
+use borrow.Author.Tests.{not-true, not-false}
 use Rattle.session_in_place.proofs.Starting.{syncs_not, syncs_at, never_without}
 use Rattle.session_in_place.proofs.stage.synced.Statement.{statement}
 use Rattle.session_in_place.proofs.stage.synced.Tie as tie
@@ -12,7 +12,7 @@ with-clock-requires : tie.Need-with-clock-requires
 with-clock-requires c κs = search rules
 
 returns : tie.Need-returns
-returns c = syncs_not _ _ _ _ _ _ _ c.before.before.is-ready.ensures (not_true _ c.before.if1.true)
+returns c = syncs_not _ _ _ _ _ _ _ c.before.before.is-ready.ensures (not-true _ c.before.if1.true)
     c.before.before.before.before.before.before.requires c.with-clock.ensures
 
 enum-known-offset : tie.Need-enum-known-offset
@@ -25,7 +25,7 @@ with-clock-requires-2 : tie.Need-with-clock-requires-2
 with-clock-requires-2 c κs = search rules
 
 returns-2 : tie.Need-returns-2
-returns-2 c = never_without _ _ c.before.before.before.before.is-ready.ensures (not_false _ c.before.before.before.if1.false)
+returns-2 c = never_without _ _ c.before.before.before.before.is-ready.ensures (not-false _ c.before.before.before.if1.false)
     c.before.enum_told.given.1
 
 from-seconds-requires : tie.Need-from-seconds-requires
@@ -46,7 +46,7 @@ same-length-3 c = search rules
 returns-3 : tie.Need-returns-3
 returns-3 c = syncs_at _ _ _ _ _ _ _
     c.before.before.before.before.before.before.before.before.before.before.before.before.before.before.before.is-ready.ensures
-    (not_false _ c.before.before.before.before.before.before.before.before.before.before.before.before.before.before.if1.false)
+    (not-false _ c.before.before.before.before.before.before.before.before.before.before.before.before.before.before.if1.false)
     c.before.before.before.before.before.before.before.before.before.before.before.before.offset.given.1
     c.before.before.before.before.before.before.before.before.before.before.from-seconds.ensures
     c.before.before.before.before.before.before.start.ensures

@@ -1,12 +1,10 @@
 -- `bits_of` meets its contract: a NaN has no pattern of its own in the code, and the definition's is written for it. Assumes nothing.
-use borrow.Author.Rules.{rules}
 use mathlib.Core.Path.{◌≡◌, sym, ap, subst}
 use mathlib.Core.Bool.{true, false, not}
 use lib.Dec.{T}
 use lib.Ieee.{Float, nan, inf, fin, binary64, ne, is_nan, to_bits}
 use lib.Ieee.Compare.{differs_from_itself}
-use Rattle.tape.proofs.bits_of.Statement.{statement}
-use Rattle.tape.proofs.bits_of.Tie as tie
+use Rattle.tape.proofs.bits_of.Goals as goal
 
 -- the pattern of a value that differs from itself
 quiet : (x : Float) → ne x x ≡ true → 9221120237041090560 ≡ to_bits binary64 x
@@ -20,14 +18,8 @@ number nan h = subst T h tt
 number (inf s) h = tt
 number (fin s m e) h = tt
 
-returns : tie.Need-returns
-returns c = quiet c.before.args.x c.if1.true
+pub returns-then-x : goal.returns-then-x
+returns-then-x c = quiet c.args.x c.if-x.true
 
-float-to-bits-result : tie.Need-float-to-bits-result
-float-to-bits-result c = number c.before.args.x c.if1.false
-
-returns-2 : tie.Need-returns-2
-returns-2 c = search rules
-
-pub bits-of-spec : {M : Type 1} → statement M
-bits-of-spec = tie.close (tie.spec returns float-to-bits-result returns-2)
+pub float_to_bits-result : goal.float_to_bits-result
+float_to_bits-result c = number c.args.x c.if-x.false

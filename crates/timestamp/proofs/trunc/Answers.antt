@@ -1,0 +1,82 @@
+-- `trunc` meets its contract: the bits below the point are shifted out, and zeros in (proofs/Cleared.antt). Assumes nothing.
+use Rattle.std.proofs.Common.{◌≡◌, ℕ, ◌/◌, ◌^◌, ◌<◌, true, false, not, T, sym, ap, ◌∙◌, subst, inl, inr, arith}
+use lib.Bits.{and_mask, bit_and}
+use lib.Ieee.{Float, nan, inf, fin, binary64, ne, is_nan, fits, to_bits, of_bits}
+use lib.Ieee.Bits.{of_bits-to_bits, to_bits-lt}
+use lib.Ieee.Compare.{differs_from_itself}
+use Rattle.timestamp.specs.Whole.{trunc_of}
+use Rattle.timestamp.proofs.Cleared.{expo, Clears, clears_lt, shifted_whole, shifted_no_nan, large}
+use Rattle.timestamp.proofs.trunc.Goals as goal
+use Rattle.timestamp.proofs.trunc.Goals.{Joined-exponent-lt1023, Start, then-exponent-lt1023, else-exponent-lt1023}
+
+nan-stays : (x : Float) → ne x x ≡ true → x ≡ trunc_of x
+unfolding trunc_of
+nan-stays x h = let e = differs_from_itself x (subst T (sym h) tt) in e ∙ ap trunc_of (sym e)
+
+number : (x : Float) → ne x x ≡ false → T (not (is_nan x))
+unfolding is_nan ne
+number nan h = subst T h tt
+number (inf s) h = tt
+number (fin s m e) h = tt
+
+held : (c : Start) → T (fits binary64 c.args.x)
+held c = subst T (sym c.well_formed.0.1) tt
+
+-- the bits, and their exponent's field as the code has it
+bits : Start → ℕ
+bits c = to_bits binary64 c.args.x
+
+is : (c : Start) → of_bits binary64 (bits c) ≡ c.args.x
+unfolding bits
+is c = of_bits-to_bits binary64 c.args.x (held c)
+
+within : (c : Start) → bits c < 2 ^ 64
+unfolding bits
+within c = to_bits-lt binary64 c.args.x (held c)
+
+field : (c : Start) → bit_and (bits c / 2 ^ 52) 2047 ≡ expo (bits c)
+field c = and_mask (bits c / 2 ^ 52) 11
+
+pub returns-then-x : goal.returns-then-x
+returns-then-x c = nan-stays c.args.x c.if-x.true
+
+pub float_to_bits-bits : goal.float_to_bits-bits
+float_to_bits-bits c = number c.args.x c.if-x.false
+
+pub returns-then-exponent-gt1075 : goal.returns-then-exponent-gt1075
+unfolding bits
+returns-then-exponent-gt1075 c =
+    let s = c.before.before in
+    sym (is s) ∙ large (bits s) (omega (arith, field s, c.if-exponent-gt1075.true)) ∙ ap trunc_of (is s)
+
+-- ---- up to 2 ^ 53
+module _ (c : Joined-exponent-lt1023) where
+  s : Start
+  s = c.before.before.before
+
+  -- the number of bits that are shifted out is right
+  clears : Clears (bits s) c.if-exponent-lt1023.cleared
+  unfolding s bits
+  clears = elim c.if-exponent-lt1023.branch [
+    | then-exponent-lt1023 w ↦ inl (omega (arith, field s, w.if-exponent-lt1023.true), omega (arith, w.cleared-is))
+    | else-exponent-lt1023 w ↦ inr (omega (arith, field s, w.if-exponent-lt1023.false),
+      omega (arith, field s, w.if-exponent-lt1023.false, c.if-exponent-gt1075.false, w.cleared-is))
+  ]
+
+  few : c.if-exponent-lt1023.cleared < 64
+  few = clears_lt (bits s) c.if-exponent-lt1023.cleared clears
+
+pub overflow_shr-result : goal.overflow_shr-result
+overflow_shr-result c = few c.before
+
+pub overflow_shl-result : goal.overflow_shl-result
+overflow_shl-result c = few c.before
+
+pub float_from_bits-result : goal.float_from_bits-result
+unfolding bits s
+float_from_bits-result c = shifted_no_nan (bits (s c.before)) c.if-exponent-lt1023.cleared (within (s c.before)) (clears c.before)
+
+pub returns : goal.returns
+unfolding bits s
+returns c =
+    shifted_whole (bits (s c.before)) c.if-exponent-lt1023.cleared (within (s c.before)) (clears c.before) ∙ ap trunc_of (is (s c.before))
