@@ -36,6 +36,17 @@ def names_of(crate):
             return json.load(f)
 
 
+def params_of(crate, path):
+    """The parameters of a function, by its source."""
+    name = path.split(".")[-1]
+    src = os.path.join(TOP, "crates", crate, "src")
+    for n in sorted(os.listdir(src)):
+        with open(os.path.join(src, n), encoding="utf-8") as f:
+            for m in re.finditer(r"\bfn " + re.escape(name) + r"(?:<[^>]*>)?\(([^)]*)\)", f.read()):
+                return [p.split(":")[0].replace("mut ", "").strip(" &\n") for p in m[1].split(",") if p.strip()]
+    return []
+
+
 def blocks(text):
     """The top-level declarations: [(comment lines, name, lines)]."""
     out, comment, now = [], [], None
@@ -168,7 +179,8 @@ def convert(crate, path, fn_path, of, text):
             if not rest:
                 return m[0]
             words = rest[1:].split(".")
-            first = words[0]
+            # a step that respell.py took for a lemma of that name
+            first = re.sub(r"_lem$", "", words[0])
             arm = f.arms.get(p)
             step_old, step_new = f.step[p]
             if arm:
@@ -190,6 +202,7 @@ def convert(crate, path, fn_path, of, text):
     def body_of(lines, env):
         """The lines of a clause, with what `let` binds followed."""
         out = []
+        env0 = dict(env)
         env = dict(env)
         text = "\n".join(lines)
         # (c.before.before).f is c.before.before.f
@@ -216,6 +229,19 @@ def convert(crate, path, fn_path, of, text):
                         continue
                 out.append(it[0])
         text = "".join(out)
+        # a lemma of the file over a place is given that place, however far up it is
+        root, at = next(iter(env0.items())) if len(env0) == 1 else (None, None)
+        if root:
+
+            def far(m):
+                n, p = 0, at
+                while p and p != helpers[m[1]]:
+                    p, n = f.parent.get(p), n + 1
+                return f"{m[1]} {root}{'.before' * n}" if p else m[0]
+
+            bound = [root] + re.findall(r"\0LET (\S+) ", text)
+            if helpers:
+                text = re.sub(r"(?<![\w.'-])(" + "|".join(re.escape(h) for h in helpers) + r") ((?:" + "|".join(map(re.escape, bound)) + r")(?:\.before)*)(?![\w.'-])", far, text)
         # a name of a place whose fields alone are read is the whole record
         for m in list(re.finditer(r"\0LET (\S+) (\w+)((?:\.before)*)\0(\n[ ]*)?", text))[::-1]:
             v = m[1]
@@ -228,9 +254,16 @@ def convert(crate, path, fn_path, of, text):
                 root = m[2]
                 rest = re.sub(r"(?<![\w.'-])" + re.escape(v) + r"\.(?!before\b)", root + ".", rest)
                 text = text[: m.start()] + rest
+        # a test of !x says of x itself now
+        path = r"\w+(?:\.[^\s(){}\[\];,.]+)*?\.if-not-[^\s(){}\[\];,.]+\.(?:true|false)"
+        text = re.sub(r"\((?:not-true|not-false|not_true|not_false) _\s+(" + path + r")\)", r"\1", text)
+        text = re.sub(r"(?<![\w'.-])(?:not-true|not-false|not_true|not_false) _\s+(" + path + r")", r"\1", text)
+        # a parameter that had no name of its own
+        text = re.sub(r"\.args\.t(\d+)(?![\w'-])", lambda k: ".args." + params[int(k[1]) - 1] if int(k[1]) <= len(params) else k[0], text)
         return text.split("\n")
 
     named = set()
+    params = params_of(crate, path)
 
     def types_turned(text):
         text = re.sub(r"tie\.Need-\S+", "", text)
@@ -247,6 +280,12 @@ def convert(crate, path, fn_path, of, text):
         for l in loops:
             text = re.sub(r" (?:invariant|decreases)[-_]\w+(?=[ )\n]|$)", "", text)
         return text
+
+    helpers = {}
+    for comment, name, lines in decls:
+        m = re.match(r"(?:abbrev )?" + re.escape(name) + r" : (?:\(\w+ : )?tie\.(?!Need-)(" + IDENT + r")", "\n".join(lines))
+        if m and name not in loops and f.place(m[1]):
+            helpers[name] = f.place(m[1])
 
     answers, invariants = [], []
     for comment, name, lines in decls:

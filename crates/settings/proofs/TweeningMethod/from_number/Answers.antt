@@ -1,0 +1,20 @@
+-- `from_number` meets its contract: the three numbers are tested one by one. Assumes nothing.
+use Rattle.std.proofs.Common.{eq-eqb, ne_eqb}
+use Rattle.settings.specs.Tweening.{method_of}
+use Rattle.settings.proofs.TweeningMethod.from_number.Goals as goal
+
+pub returns-then-n-eq0 : goal.returns-then-n-eq0
+unfolding method_of
+returns-then-n-eq0 c = simp (eq-eqb _ _ c.if-n-eq0.true)
+
+pub returns-then-n-eq1 : goal.returns-then-n-eq1
+unfolding method_of
+returns-then-n-eq1 c = simp (ne_eqb _ _ c.if-n-eq0.false, eq-eqb _ _ c.if-n-eq1.true)
+
+pub returns-then-n-eq2 : goal.returns-then-n-eq2
+unfolding method_of
+returns-then-n-eq2 c = simp (ne_eqb _ _ c.if-n-eq0.false, ne_eqb _ _ c.if-n-eq1.false, eq-eqb _ _ c.if-n-eq2.true)
+
+pub returns : goal.returns
+unfolding method_of
+returns c = simp (ne_eqb _ _ c.if-n-eq0.false, ne_eqb _ _ c.if-n-eq1.false, ne_eqb _ _ c.if-n-eq2.false)
