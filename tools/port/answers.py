@@ -102,6 +102,13 @@ class Function:
             self.callee[p[0]] = p[3]
             self.arms[p[0]] = of["arms"][i] if i < len(of["arms"]) else None
 
+    def ups(self, p):
+        out = []
+        while p:
+            out.append(p)
+            p = self.parent.get(p)
+        return out
+
     def place(self, word):
         for p in self.parent:
             if norm(p) == norm(word):
@@ -163,6 +170,8 @@ def convert(crate, path, fn_path, of, text):
     for (old, new), variables in of["loops"]:
         loop_names[norm(old)] = (new, variables)
 
+    root_place = [None]
+
     def chain(text, env):
         """Steps of the code by their new names. env: variable -> place."""
 
@@ -170,30 +179,29 @@ def convert(crate, path, fn_path, of, text):
             var, befores, rest = m[1], m[2] or "", m[3] or ""
             if var not in env:
                 return m[0]
-            p = env[var]
-            for _ in range(befores.count(".before")):
-                p = f.parent.get(p)
-                if p is None:
-                    says.append(f"too many .before: {m[0]}")
-                    return m[0]
             if not rest:
                 return m[0]
+            p = env[var]
+            for _ in range(befores.count(".before")):
+                p = f.parent.get(p) or p
             words = rest[1:].split(".")
             # a step that respell.py took for a lemma of that name
             first = re.sub(r"_lem$", "", words[0])
-            arm = f.arms.get(p)
-            step_old, step_new = f.step[p]
-            if arm:
-                for field, step, where in arm[2]:
-                    if norm(step) == norm(first) and words[1 : 1 + len(where)] == where and not field.endswith("-own"):
-                        return ".".join([var, arm[0], field, *words[1 + len(where) :]])
-            if step_old and norm(first) == norm(step_old):
-                # std names the one clause of these
-                if words[1:] == ["ensures"] and "::wrapping_" in (f.callee[p] or ""):
-                    words.append("value")
-                return ".".join([var, step_new, *words[1:]])
             if norm(first) in {norm(b) for b in BASIC}:
                 return ".".join([var, first.replace("well-formed", "well_formed"), *words[1:]])
+            # steps have one name each, so the place is found by it: at the place that the old file counts to, or above or below it
+            for q in f.ups(p) + f.ups(root_place[0] or p):
+                arm = f.arms.get(q)
+                step_old, step_new = f.step[q]
+                if arm:
+                    for field, step, where in arm[2]:
+                        if norm(step) == norm(first) and words[1 : 1 + len(where)] == where and not field.endswith("-own"):
+                            return ".".join([var, arm[0], field, *words[1 + len(where) :]])
+                if step_old and norm(first) == norm(step_old):
+                    # std names the one clause of these
+                    if words[1:] == ["ensures"] and "::wrapping_" in (f.callee[q] or ""):
+                        words.append("value")
+                    return ".".join([var, step_new, *words[1:]])
             says.append(f"no step {first} at {p}: {m[0]}")
             return m[0]
 
@@ -203,6 +211,7 @@ def convert(crate, path, fn_path, of, text):
         """The lines of a clause, with what `let` binds followed."""
         out = []
         env0 = dict(env)
+        root_place[0] = next(iter(env.values())) if len(env) == 1 else None
         env = dict(env)
         text = "\n".join(lines)
         # (c.before.before).f is c.before.before.f
@@ -222,7 +231,7 @@ def convert(crate, path, fn_path, of, text):
                 if base in env:
                     p = env[base]
                     for _ in range(befores.count(".before")):
-                        p = f.parent.get(p) if p else None
+                        p = f.parent.get(p) or p
                     if p:
                         env[v] = p
                         out.append(f"\0LET {v} {base}{befores}\0" + (it[4] or ""))

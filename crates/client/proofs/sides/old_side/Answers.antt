@@ -1,0 +1,12 @@
+-- `old_side` meets its contract: the side decides. Assumes nothing.
+use Rattle.std.proofs.Common.{eq-eqb, ne_eqb}
+use Rattle.client.specs.Sides.{old_side_of}
+use Rattle.client.proofs.sides.old_side.Goals as goal
+
+pub returns-then-n-eq0 : goal.returns-then-n-eq0
+unfolding old_side_of
+returns-then-n-eq0 c = simp (eq-eqb c.args.w.new 0 c.if-n-eq0.true)
+
+pub returns : goal.returns
+unfolding old_side_of
+returns c = simp (ne_eqb c.args.w.new 0 c.if-n-eq0.false)

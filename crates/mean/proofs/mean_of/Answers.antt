@@ -1,0 +1,10 @@
+-- `mean_of` meets its contract: sorted, cut at both ends, summed and divided. Assumes nothing.
+use Rattle.std.proofs.Common.{rules}
+use Rattle.mean.proofs.Means.{mean_is}
+use Rattle.mean.proofs.mean_of.Goals as goal
+
+pub returns : goal.returns
+returns c =
+    let a = c.args in
+    mean_is a.samples c.sorted-ordered.result a.len a.discard (search rules) c.least-n.ensures c.sorted-ordered.ensures
+    c.less-end.ensures c.sum_between-sum.ensures c.less.ensures c.nearest_u64_to_f64.ensures
