@@ -296,7 +296,7 @@ def convert(crate, path, fn_path, of, text):
         if m and name not in loops and f.place(m[1]):
             helpers[name] = f.place(m[1])
 
-    answers, invariants = [], []
+    answers, invariants, lets = [], [], {}
     for comment, name, lines in decls:
         text = "\n".join(lines)
         if name in loops:
@@ -341,7 +341,7 @@ def convert(crate, path, fn_path, of, text):
                 at = "Start"
             var = m[1]
             body = body_of(rest.split("\n"), {var: at})
-            answers.append("\n".join(comment + [f"pub {new} : goal.{new}"] + unf + [f"{new} {var} =" + "\n".join(body)]))
+            answers.append((name, "\n".join(comment + [f"pub {new} : goal.{new}"] + unf + [f"{new} {var} =" + "\n".join(body)])))
             continue
         # a lemma of the file
         env = {}
@@ -354,10 +354,83 @@ def convert(crate, path, fn_path, of, text):
             v = re.search(r"\n" + re.escape(name) + r" (\w+)", text)
             if m and v and f.place(m[1]):
                 env[v[1]] = f.place(m[1])
+        if name in helpers and "unfolding" not in text and not text.startswith("abbrev"):
+            m = re.match(re.escape(name) + r" : \((\w+) : tie\.[^)]*\) →\s+(.*?)\n" + re.escape(name) + r" (\w+) =\s*(.*)$", text, re.S)
+            if m and m[1] == m[3]:
+                t = "\n".join(body_of(m[2].split("\n"), {m[1]: helpers[name]}))
+                b = "\n".join(body_of(m[4].split("\n"), {m[1]: helpers[name]}))
+                lets[name] = (m[1], comment, " ".join(t.split()), b.strip("\n"))
+                continue
         t = types_turned(text)
         if env:
             t = "\n".join(body_of(t.split("\n"), env))
-        answers.append("\n".join(comment + [t]))
+        answers.append((name, "\n".join(comment + [t])))
+
+    # a lemma over a place is a `let` of each answer that cites it
+    def with_lets(text):
+        m = re.match(r"(.*?\n?)(\S+ (\w+) =)(.*)$", text, re.S)
+        m = re.search(r"^(\S+) (\w+) =", text, re.M)
+        if not m:
+            return text
+        var, start = m[2], m.end()
+        head, body = text[:start], text[start:]
+        wanted = []
+
+        def cited(t):
+            for n in lets:
+                k = re.search(r"(?<![\w.'-])" + re.escape(n) + r" \w+(?:\.before)*(?![\w.'-])", t)
+                if k and n not in wanted:
+                    v, _, ty, bo = lets[n]
+                    cited(ty)
+                    cited(bo)
+                    wanted.append(n)
+
+        cited(body)
+        if not wanted:
+            return text
+
+        def bare(t):
+            for n in wanted:
+                t = re.sub(r"(?<![\w.'-])\(" + re.escape(n) + r" \w+(?:\.before)*\)", n, t)
+                t = re.sub(r"(?<![\w.'-])" + re.escape(n) + r" \w+(?:\.before)*(?![\w.'-])", n, t)
+            return t
+
+        out = []
+        for n in wanted:
+            v, _, ty, bo = lets[n]
+            own = lambda t: re.sub(r"(?<![\w.'-])" + re.escape(v) + r"(?=\.)", var, t)
+            out.append(f"    let {n} : {bare(own(ty))} = {bare(own(bo)).strip()} in")
+        return head + "\n" + "\n".join(out) + "\n    " + bare(body).strip()
+
+    answers = [(n, with_lets(t) if t.lstrip().startswith(("pub", "--")) or ": goal." in t else t) for n, t in answers]
+    # answers that cite others by their old names
+    local = {n: needs[i][1] for n, i in to.items()}
+    turned = []
+    for n, t in answers:
+        m = re.search(r"^(\S+) (\w+) =", t, re.M)
+        if m and n in to:
+            body = t[m.end() :]
+            body = re.sub(r"(?<![\w.'-])(" + "|".join(re.escape(k) for k in sorted(local, key=len, reverse=True)) + r")(?= " + re.escape(m[2]) + r"(?![\w'-]))", lambda k: local[k[1]], body)
+            t = t[: m.end()] + body
+        turned.append((n, t))
+    # what is cited stands first
+    order_of, placed, done = {local.get(n, n): (n, t) for n, t in turned}, [], set()
+
+    def put(key):
+        if key in done:
+            return
+        done.add(key)
+        n, t = order_of[key]
+        m = re.search(r"^(\S+) (\w+) =", t, re.M)
+        body = t[m.end() :] if m else ""
+        for other in order_of:
+            if other != key and other in local.values() and re.search(r"(?<![\w.'-])" + re.escape(other) + r" \w+(?![\w'-])", body):
+                put(other)
+        placed.append(t)
+
+    for n, t in turned:
+        put(local.get(n, n))
+    answers = placed
     head = "\n".join(heads + uses)
     body = "\n\n".join(answers)
     inv = "\n\n".join(invariants)

@@ -1,0 +1,7 @@
+-- `hear` meets its contract: each part by its own call. Assumes nothing.
+use Rattle.clocksync.specs.Clock.{heard_of}
+use Rattle.clocksync.proofs.Heard.hear.Goals as goal
+
+pub returns : goal.returns
+unfolding heard_of
+returns c = rw (c.first_id-first.ensures, c.met_other-other.ensures, c.measured_offset.ensures)

@@ -1,0 +1,29 @@
+-- `insert` meets its contract. The loop's invariant: the entries passed are later than the new one, and stand one slot up. Assumes nothing.
+use borrow.Author.Rules.{rules}
+use native.Mathlib.Omega.{arith}
+use mathlib.Core.Path.{sym, ◌∙◌}
+use Rattle.command.proofs.Ranks.{rank_in}
+use Rattle.slots_insert.proofs.Shifting.{shift_none, shift_end, shift_stop, shift_next}
+use Rattle.slots_insert.proofs.insert.Goals as goal
+
+pub loop-i-init : goal.loop-i-init
+loop-i-init c = (c.rank_in-k.ensures, shift_none _ _ _ _ c.requires)
+
+pub returns-then-rank_in-k : goal.returns-then-rank_in-k
+returns-then-rank_in-k c =
+    let l = c.loop-i.invariant in
+    shift_stop l.1 (search rules) (omega (arith, l.0, c.rank_in.ensures, c.if-rank_in-k.true))
+
+pub shape_of-e-then-rank_in-k : goal.shape_of-e-then-rank_in-k
+shape_of-e-then-rank_in-k c = (returns-then-rank_in-k c).slots ∙ sym c.requires.lent.slots
+
+pub loop-i-preserved : goal.loop-i-preserved
+loop-i-preserved c =
+    let l = c.loop-i.invariant in
+    (l.0, shift_next l.1 (search rules) (omega (arith, l.0, c.rank_in.ensures, c.if-rank_in-k.false)))
+
+pub returns : goal.returns
+returns c = shift_end c.loop-i.invariant.1 (search rules)
+
+pub shape_of-e : goal.shape_of-e
+shape_of-e c = (returns c).slots ∙ sym c.requires.lent.slots
