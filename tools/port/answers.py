@@ -21,7 +21,7 @@ BASIC = {"args", "requires", "well_formed", "ranges", "lifetimes", "type_inv", "
 
 
 def norm(w):
-    return re.sub(r"[-_]", "", w).lower()
+    return re.sub(r"[-_«»]", "", w).lower()
 
 
 def names_of(crate):
@@ -327,11 +327,12 @@ def convert(crate, path, fn_path, of, text):
                 continue
             i = to[name]
             new = needs[i][1]
-            m = re.search(r"(?:^|\n)" + re.escape(name) + r" (\S+)((?: κs)?) =(.*)$", text, re.S)
+            m = re.search(r"(?:^|\n)" + re.escape(name) + r" (\S+)((?: [^\s=()]+)*) =(.*)$", text, re.S)
             if not m:
                 says.append("no clause in " + text[:200])
                 continue
             rest = m[3]
+            more = m[2].replace(" κs", "")
             unf = re.findall(r"^unfolding .*$", text, re.M)
             if not unf and re.fullmatch(r"\s*(search rules|omega arith)\s*", rest):
                 continue
@@ -341,7 +342,7 @@ def convert(crate, path, fn_path, of, text):
                 at = "Start"
             var = m[1]
             body = body_of(rest.split("\n"), {var: at})
-            answers.append((name, "\n".join(comment + [f"pub {new} : goal.{new}"] + unf + [f"{new} {var} =" + "\n".join(body)])))
+            answers.append((name, "\n".join(comment + [f"pub {new} : goal.{new}"] + unf + [f"{new} {var}{more} =" + "\n".join(body)])))
             continue
         # a lemma of the file
         env = {}
@@ -354,9 +355,10 @@ def convert(crate, path, fn_path, of, text):
             v = re.search(r"\n" + re.escape(name) + r" (\w+)", text)
             if m and v and f.place(m[1]):
                 env[v[1]] = f.place(m[1])
-        if name in helpers and "unfolding" not in text and not text.startswith("abbrev"):
-            m = re.match(re.escape(name) + r" : \((\w+) : tie\.[^)]*\) →\s+(.*?)\n" + re.escape(name) + r" (\w+) =\s*(.*)$", text, re.S)
-            if m and m[1] == m[3]:
+        if name in helpers and "unfolding" not in text:
+            m = re.match(r"(?:abbrev )?" + re.escape(name) + r" : (?:\((\w+) : tie\.[^)]*\)|tie\.[^→]*?) →\s+(.*?)\n" + re.escape(name) + r" (\w+) =\s*(.*)$", text, re.S)
+            if m and m[1] in (None, m[3]):
+                m = [m[0], m[3], m[2], m[3], m[4]]
                 t = "\n".join(body_of(m[2].split("\n"), {m[1]: helpers[name]}))
                 b = "\n".join(body_of(m[4].split("\n"), {m[1]: helpers[name]}))
                 lets[name] = (m[1], comment, " ".join(t.split()), b.strip("\n"))

@@ -1,0 +1,6 @@
+-- `blend_on` meets its contract: the weight moves on, within 0 to 1. Assumes nothing.
+use Rattle.client_frame.proofs.Framing.{blended_is}
+use Rattle.client_frame.proofs.blend_on.Goals as goal
+
+pub returns : goal.returns
+returns c = blended_is _ _ c.clamp.ensures
