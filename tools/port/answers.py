@@ -59,7 +59,7 @@ def blocks(text):
         elif not line.strip():
             if now:
                 now[2].append(line)
-        elif line[0] in " \t":
+        elif line[0] in " \t)]}":
             now[2].append(line)
         else:
             word = line.split()[0]
@@ -380,7 +380,7 @@ def convert(crate, path, fn_path, of, text):
 
         def cited(t):
             for n in lets:
-                k = re.search(r"(?<![\w.'-])" + re.escape(n) + r" \w+(?:\.before)*(?![\w.'-])", t)
+                k = re.search(r"(?<![\w.'-])" + re.escape(n) + r"\s+\w+(?:\.before)*(?![\w.'-])", t)
                 if k and n not in wanted:
                     v, _, ty, bo = lets[n]
                     cited(ty)
@@ -393,8 +393,8 @@ def convert(crate, path, fn_path, of, text):
 
         def bare(t):
             for n in wanted:
-                t = re.sub(r"(?<![\w.'-])\(" + re.escape(n) + r" \w+(?:\.before)*\)", n, t)
-                t = re.sub(r"(?<![\w.'-])" + re.escape(n) + r" \w+(?:\.before)*(?![\w.'-])", n, t)
+                t = re.sub(r"(?<![\w.'-])\(" + re.escape(n) + r"\s+\w+(?:\.before)*\)", n, t)
+                t = re.sub(r"(?<![\w.'-])" + re.escape(n) + r"\s+\w+(?:\.before)*(?![\w.'-])", n, t)
             return t
 
         out = []

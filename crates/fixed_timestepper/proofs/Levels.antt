@@ -4,7 +4,6 @@ use mathlib.Core.Bool.{Bool, true, false, cond, not, false≢true}
 use mathlib.Core.List.{List, append-nil}
 use Prim.Native.Nat.{ℕ}
 use lib.Ieee.{Float, binary64, add, lt}
-use borrow.Author.Tests.{not-true, not-false}
 use Rattle.timestamp.specs.declared.Timestamp.{Timestamp}
 use Rattle.timestamp.specs.Timestamps.{sum_of}
 use Rattle.tape.proofs.Writing.{puts_as}
@@ -42,25 +41,25 @@ single_none o t h = λ i. cond (sym h i) (cond (lt (add binary64 o t) zero64) fa
 
 module _ (w : ClientWorldSimulations) (t : Timestamp) (o server : Float) (c : Settings) {p : Bool} (hp : p ≡ is_single o c.timestep) where
   -- not one frame
-  pub level_many : not p ≡ true → false ≡ level_run w t o server c
+  pub level_many : p ≡ false → false ≡ level_run w t o server c
   unfolding level_run
-  level_many e = λ i. cond (sym (sym hp ∙ not-true p e) i) (cond (is_level w c.m)
+  level_many e = λ i. cond (sym (sym hp ∙ e) i) (cond (is_level w c.m)
       (not (skips_of (next_stamp t) (add binary64 o c.timestep) server c)) false) false
 
-  module _ {q : Bool} (e : not p ≡ false) (hq : q ≡ is_level w c.m) where
+  module _ {q : Bool} (e : p ≡ true) (hq : q ≡ is_level w c.m) where
     -- not level
-    pub level_not : not q ≡ true → false ≡ level_run w t o server c
+    pub level_not : q ≡ false → false ≡ level_run w t o server c
     unfolding level_run
-    level_not f = λ i. cond (sym (sym hp ∙ not-false p e) i) (cond (sym (sym hq ∙ not-true q f) i)
+    level_not f = λ i. cond (sym (sym hp ∙ e) i) (cond (sym (sym hq ∙ f) i)
         (not (skips_of (next_stamp t) (add binary64 o c.timestep) server c)) false) false
 
     -- the skip decides
-    pub level_then : {n : Timestamp} {b : Bool} → not q ≡ false → n.0 ≡ sum_of t.0 1 → b ≡ skips_of n (add binary64 o c.timestep) server c
+    pub level_then : {n : Timestamp} {b : Bool} → q ≡ true → n.0 ≡ sum_of t.0 1 → b ≡ skips_of n (add binary64 o c.timestep) server c
         → not b ≡ level_run w t o server c
     unfolding level_run
     level_then f hn hb =
         ap not (hb ∙ (λ i. skips_of (record { 0 = hn i }) (add binary64 o c.timestep) server c))
-        ∙ (λ i. cond (sym (sym hp ∙ not-false p e) i) (cond (sym (sym hq ∙ not-false q f) i)
+        ∙ (λ i. cond (sym (sym hp ∙ e) i) (cond (sym (sym hq ∙ f) i)
         (not (skips_of (next_stamp t) (add binary64 o c.timestep) server c)) false) false)
 
 -- its parts

@@ -1,0 +1,5 @@
+-- `scene_of` meets its contract: the worlds with empty ledgers. Assumes nothing.
+use Rattle.session_state.proofs.scene_of.Goals as goal
+
+pub returns : goal.returns
+returns c = rw (c.empty_ledger.ensures, c.empty_ledger-2.ensures)
