@@ -2,6 +2,5 @@ pub mod Words
 pub mod Times
 pub mod Messages
 pub mod Passes
-pub mod Passing
 pub mod Bounds
 pub mod Others

@@ -1,6 +1,5 @@
 -- `time_of` meets its contract: a NaN's pattern is no time, and of any other the float is compared. Assumes nothing.
 use mathlib.Core.Path.{◌≡◌, sym, ap, ◌∙◌}
-use mathlib.Core.Logic.{⊎_elim}
 use mathlib.Core.Bool.{Bool, true, false, ◌&&◌}
 use lib.IntN.{pos}
 use lib.Ieee.{Float, fin, binary64, le, of_bits, neg}
@@ -9,6 +8,7 @@ use Rattle.timestamp.specs.Floats.{time_ok}
 use Rattle.timestamp.proofs.Patterns.{is_nan_lem, no_nan}
 use Rattle.inbox.proofs.Times.{nan_out}
 use Rattle.inbox.proofs.time_of.Goals as goal
+use Rattle.inbox.proofs.time_of.Goals.{else-x-via-then-x+else-x-2, else-x-via-else-x}
 
 -- which answer the range's test picks
 picked : (x : Float) (t : Bool) → time_ok x ≡ t → pick_time t x ≡ pick_time (time_ok x) x
@@ -43,5 +43,9 @@ pub returns-else-x : goal.returns-else-x
 unfolding inbox_time_of of_bits neg
 returns-else-x c =
     let x = of_bits binary64 c.args.bits in
-    picked x false (⊎_elim (λ w. both (le low x) (le x high) true false w.0.taken w.1.left) (λ w. first (le low x) (le x high) w.left)
-    c.else-x.branch)
+    let out : time_ok x ≡ false =
+    elim c.else-x.branch [
+      | else-x-via-then-x+else-x-2 w ↦ both (le low x) (le x high) true false w.if-x.true w.if-x-2.false
+      | else-x-via-else-x w ↦ first (le low x) (le x high) w.if-x.false
+    ] in
+    picked x false out
