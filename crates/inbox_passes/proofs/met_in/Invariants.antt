@@ -1,0 +1,11 @@
+-- `met_in` is a pass by a reader. Assumes nothing.
+use Rattle.std.proofs.Common.{◌-◌, length}
+use Rattle.inbox.proofs.Readers.{Reads}
+use Rattle.inbox_passes.specs.Passes.{met_one}
+use Rattle.inbox_passes.proofs.met_in.Given as goal
+
+abbrev pub invariant-loop-r : goal.invariant-loop-r
+invariant-loop-r l = Reads met_one l.fn.start l.words l.r l.found
+
+abbrev pub decreases-loop-r : goal.decreases-loop-r
+decreases-loop-r l = length l.words - l.r.at
