@@ -13,7 +13,7 @@ use Rattle.inbox.specs.declared.Message.TheVariants.{Command, Snapshot, Clock, B
 use Rattle.inbox.specs.Inbox.{messages_of, some}
 use Rattle.inbox.specs.Passes.{over}
 use Rattle.inbox.proofs.Passes.{Passes, pass_end}
-use Rattle.inbox_refusal.specs.Refusal.{message_number_of, lowest_of, refusal_of}
+use Rattle.inbox_refusal.specs.Refusal.{message_number_of, lowest_of}
 use Rattle.inbox_refusal.proofs.Refusals.{lowest_only, lowest_folds, refusal_long, refusal_found}
 use Rattle.inbox_passes.specs.Passes.{is_for_worlds, has_for_worlds, hear_one, heard_in, note_one, noted_in}
 use Rattle.clocksync.specs.declared.Heard.{Heard}
@@ -93,10 +93,10 @@ scan_over seconds old a [] = refl
 scan_over seconds old a (m ∷ ms) = scan_over seconds old (scan_one seconds old a m) ms
 
 -- a loop from message to message ends with all of them taken
-pub scan_end : {seconds : Float} {old : Timestamp} {words : List ℕ} {at : ℕ} {start a : Scan}
+pub scan_end : (seconds : Float) (old : Timestamp) {words : List ℕ} {at : ℕ} {start a : Scan}
     → length words ≤ at → Passes (scan_one seconds old) start words at a → a ≡ scan_in seconds old words start
 unfolding scan_in
-scan_end h p = pass_end h p
+scan_end seconds old h p = pass_end h p
 
 module _ (words : List ℕ) (seconds : Float) (known : Heard) (was : Snapshots) (old : Timestamp) where
   -- at most 4,096 words: what all messages leave

@@ -1,0 +1,10 @@
+-- `scan_inbox` meets its contract, by the count of the words. Assumes nothing.
+use Rattle.std.proofs.Common.{arith}
+use Rattle.inbox_scan.proofs.Scanning.{scans_long, scans_read}
+use Rattle.inbox_scan.proofs.scan_inbox.Goals as goal
+
+pub returns-then-words-gt-MOST_WORDS : goal.returns-then-words-gt-MOST_WORDS
+returns-then-words-gt-MOST_WORDS c = scans_long c.args.words.now c.args.seconds c.args.heard c.args.snapshots c.args.old (omega arith)
+
+pub returns : goal.returns
+returns c = scans_read c.args.words.now c.args.seconds c.args.heard c.args.snapshots c.args.old (omega arith) c.scan_from.ensures
