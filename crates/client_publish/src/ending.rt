@@ -34,7 +34,7 @@ pub(crate) fn time_between(before: Timestamp, after: Timestamp, t: f64) -> f64
 }
 
 // The displayed time: worked out anew where two states are published.
-pub(crate) fn displayed(p: Published, t: f64) -> Published
+pub fn displayed(p: Published, t: f64) -> Published
     ensures { result ≡ displayed_of p t }
 {
     let before = p.before;
@@ -54,7 +54,7 @@ pub(crate) fn displayed(p: Published, t: f64) -> Published
 }
 
 // The last queued stamp, set anew where it cannot be compared with the client's stamp or is later than it.
-pub(crate) fn revised(last: LastStamp, old: Timestamp, lag: u16) -> LastStamp
+pub fn revised(last: LastStamp, old: Timestamp, lag: u16) -> LastStamp
     ensures { result ≡ revised_of last old lag }
 {
     let LastStamp::Last(l) = last else {
