@@ -2,7 +2,6 @@
 -- update's parameters say, as the check reads them, is what `Typed` asks. Assumes nothing.
 use mathlib.Core.Path.{sym, ◌∙◌}
 use mathlib.Core.List.{List}
-use lib.ListN.{length-map}
 use mir.Val.{Val}
 use contract.Lifetimes.{Lfts}
 use borrow.Fn.World.{ArgsD, ResD}
@@ -55,7 +54,7 @@ update_typed κs a vss p =
       floats = record {
         timestep = passes _ s.0.1.1.0.1;
         timer = passes _ c.1.1.1.0.1;
-        slots = sym (length-map a.0.clock.samples (λ v. v)) ∙ c.1.0.1.0.1;
+        slots = c.1.0.1.0.1;
       };
       left = w.0.1.1.0.1.1.1.1.0.1.1.0.1;
       right = w.1.0.1.1.0.1.1.1.1.0.1.1.0.1;
