@@ -10,7 +10,7 @@ An edit has a line 'file: PATH' and pairs of lines 'old: TEXT' and 'new: TEXT'. 
 What is turned, in edits of .antt files whose old text no longer stands: names to snake case where crates/ has the name so today; `x .f` to `x.f`, `g x .f` to
 `(g x).f`, with no brackets round a projection; `eqb a b` to `a == b`, `leb` to `nat_le` and `ltb` to `nat_lt` where the file has these and not those. A text
 is turned only if its old text then stands exactly once; today's layout of that text is taken. Import lines, and what else is left, is said and done by hand.
-An edit that applies and has no name that crates/ lacks is left as it is, so a second run changes nothing.
+An edit that applies and has nothing of the older spelling is left as it is, so a second run changes nothing.
 """
 
 import os
@@ -219,7 +219,7 @@ def turn(path, known):
     why = fault(path)
     if not about.endswith(".antt"):
         return why
-    stale = [n for _, new in pairs for n in NAME.findall(new) if renamed(n, known) != n]
+    stale = [n for _, new in pairs for n in NAME.findall(new) if renamed(n, known) != n] + [n for _, new in pairs for n in re.findall(r"[\w')] \.\w", new)]
     if not why and not stale:
         return None
     if any(o.lstrip().startswith("use ") or n.lstrip().startswith("use ") for o, n in pairs):
