@@ -45,7 +45,7 @@ def snake(w):
 def declared():
     own, lemmas = set(), set()
     for p in files((".antt",)):
-        if os.path.basename(p) in ("Proof.antt", "Answers.antt", "Invariants.antt", "Lib.antt"):
+        if os.path.basename(p) in ("Proof.antt", "Lib.antt"):
             continue
         for line in read(p).splitlines():
             m = DECLARED.match(line)

@@ -29,7 +29,7 @@ use Rattle.fixed_timestepper.specs.TimeKeeper.{updated_of}
 use Rattle.session_state.specs.Sound.{queued_sound, weight_sound, init_sound, buffers_sound, worlds_sound, overshoot_sound, connected_of, sound_of}
 use Rattle.inbox_passes.specs.Passes.{has_for_worlds, heard_in, received_in, noted_in}
 use Rattle.refusals.specs.Refusals.{once_refusal_by}
-use Rattle.session_answers.specs.Answers.{Reply, Updates, answer_of, refusedWith, acceptedOf}
+use Rattle.session_answers.specs.Answers.{Reply, Updates, answer_of, refused_with, accepted_of}
 use Rattle.session_stage.specs.Stage.{synced_of}
 use Rattle.session.specs.Calls.{start_of, open_of, times_ok, refused_at_once, clock_update_of, concluded_of, played_of, worlds_update_of, update_of}
 use Rattle.session_issue.specs.Issue.{issue_of}
@@ -42,7 +42,7 @@ use Rattle.cases.specs.Example.{unplayed, catching, playing, Counts, Example}
 -- what is computed, under the definitions of the calls
 counts : Counts
 unfolding entry_of stamp_in handle_in plain_entry
-    fits refusedWith add sub mul div rem round lt le eq of_int to_signed to_unsigned of_bits to_bits signed_of order_of in_range ceil_of round_of
+    fits refused_with add sub mul div rem round lt le eq of_int to_signed to_unsigned of_bits to_bits signed_of order_of in_range ceil_of round_of
     from_unwrapped from_seconds stamp_of ceil_stamp_of lag_frames_of discard_of seconds_pass thresholds_pass samples_pass counts_pass passes_of offset_of
     sample_inserted sorted_onto sorted_of sum_from average_of mean_of held_of new_of ticked_of heard_of filled_of settled_of samples_ok timer_ok sound_clock
     float_bits_of inbox_time_of clock_of front_of messages_after refusal_in refusal_of laid in_range_of due_of later_than placed_of inserted_of leaving dropped_of
@@ -53,7 +53,7 @@ unfolding entry_of stamp_in handle_in plain_entry
     stops_of snapshot_of frame_opened frame_of frame_stops weight_ok time_of displayed_of revised_of post_update_of logical_of drift_of uncapped_of compensated_of
     framed run_of skips_of maybe_skipped advanced_of updated_of concluded_of once_refusal_by unended_of queued_sound weight_sound init_sound buffers_sound
     worlds_sound overshoot_sound connected_of sound_of has_for_worlds heard_in received_in noted_in start_of open_of times_ok refused_at_once synced_of clock_update_of
-    acceptedOf played_of worlds_update_of update_of issue_of snapshot_words settings_with clock_at opened heard_once heard_twice heard_thrice frame_one at_four
+    accepted_of played_of worlds_update_of update_of issue_of snapshot_words settings_with clock_at opened heard_once heard_twice heard_thrice frame_one at_four
     at_five at_six
 counts =
     record {

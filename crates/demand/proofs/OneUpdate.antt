@@ -13,7 +13,7 @@ use Rattle.timestamp.proofs.Basics.{not_true}
 use Rattle.fixed_timestepper.specs.TimeKeeper.{Run}
 use Rattle.session_state.specs.declared.Session.{Session}
 use Rattle.session_answers.specs.declared.UpdateAnswer.{UpdateAnswer}
-use Rattle.session_answers.specs.Answers.{Reply, Updates, refusedWith, acceptedOf}
+use Rattle.session_answers.specs.Answers.{Reply, Updates, refused_with, accepted_of}
 use Rattle.session.specs.Calls.{request_of, clock_after, scene_after, played_of, update_of}
 use Rattle.session_laws.proofs.SoundCalls.{update_stays_sound, update_fits}
 use Rattle.session_laws.proofs.Ways.{run_in, update_by_ways}
@@ -37,11 +37,11 @@ module _ (s : Session) (delta seconds : Float) (inbox : List ℕ) (len : ℕ) (h
   abbrev Updated : Reply → Type 0
   Updated a = Happens s (replied a len) (events_of s delta seconds inbox a.refusal)
 
-  updated_refused : (n : ℕ) → (n ≡ 0 → ⊥) → Updated (refusedWith n s len)
-  unfolding refusedWith events_of
+  updated_refused : (n : ℕ) → (n ≡ 0 → ⊥) → Updated (refused_with n s len)
+  unfolding refused_with events_of
   updated_refused n k =
       let e : len - 0 ≡ len = omega arith in
-      subst (Happens s (replied (refusedWith n s len) len)) (ap (λ (b : Bool). cond b (played_in s delta seconds inbox) []) (sym (ne_eqb n 0 k)))
+      subst (Happens s (replied (refused_with n s len) len)) (ap (λ (b : Bool). cond b (played_in s delta seconds inbox) []) (sym (ne_eqb n 0 k)))
       (record { traced = none_traced s s (keeps_self s) h; rules = tt; tape = ap (λ k. replicate k 0) (sym e) })
 
   -- the run of its frames
@@ -53,8 +53,8 @@ module _ (s : Session) (delta seconds : Float) (inbox : List ℕ) (len : ℕ) (h
       ran_updated s.settings (scene_after s inbox) s.overshoot delta (server_at s delta seconds inbox) m.0 m.1 (a.fitting h.fitting) a.steps d
 
   updated_accepted : (q : Bool) → (run_in s delta seconds inbox).stop ≡ Done
-      → Updated (acceptedOf s (clock_after s delta seconds inbox) q (run_in s delta seconds inbox) len)
-  unfolding acceptedOf events_of
+      → Updated (accepted_of s (clock_after s delta seconds inbox) q (run_in s delta seconds inbox) len)
+  unfolding accepted_of events_of
   updated_accepted q d =
       let r : Run = run_in s delta seconds inbox in
       let a : Read s (scene_after s inbox) = read_in s inbox in

@@ -36,7 +36,7 @@ use Rattle.session_state.specs.Session.{has_worlds, session_with}
 use Rattle.session_state.specs.Sound.{sound_of}
 use Rattle.inbox_passes.specs.Passes.{has_for_worlds, heard_in, received_in, noted_in}
 use Rattle.session_answers.specs.declared.UpdateAnswer.{UpdateAnswer}
-use Rattle.session_answers.specs.Answers.{Reply, unplayedOf, refusedWith, unlessRefused, acceptedOf, Updates}
+use Rattle.session_answers.specs.Answers.{Reply, unplayed_of, refused_with, unless_refused, accepted_of, Updates}
 use Rattle.session_stage.specs.Stage.{synced_of, stage_after}
 use Rattle.session_state.specs.Session.{scene_of}
 use Rattle.client.specs.Ledgers.{closed_of}
@@ -53,14 +53,14 @@ updates_as {x} {y} {r} {last} e h = subst (λ (z : Reply). Updates z r last) e h
 
 -- an update that is refused
 refused_is : (s : Session) (len : ℕ) (a : Reply) {m n : ℕ} {r : UpdateAnswer} {last : List ℕ} → m ≡ n → (m ≡ accepted → ⊥)
-    → Updates (refusedWith m s len) r last → Updates (unlessRefused n s len a) r last
+    → Updates (refused_with m s len) r last → Updates (unless_refused n s len a) r last
 refused_is s len a {m} {n} {r} {last} e k h =
-    updates_as (λ i. cond (sym (ne_eqb n 0 (λ z. k (e ∙ z))) i) a (refusedWith (e i) s len)) h
+    updates_as (λ i. cond (sym (ne_eqb n 0 (λ z. k (e ∙ z))) i) a (refused_with (e i) s len)) h
 
 -- one that is not
 accepted_by_lem : (s : Session) (len : ℕ) (a : Reply) {m n : ℕ} {r : UpdateAnswer} {last : List ℕ} → m ≡ n → m ≡ accepted → Updates a r last
-    → Updates (unlessRefused n s len a) r last
-accepted_by_lem s len a {m} {n} e k h = updates_as (λ i. cond (sym (eq-eqb n 0 (sym e ∙ k)) i) a (refusedWith n s len)) h
+    → Updates (unless_refused n s len a) r last
+accepted_by_lem s len a {m} {n} e k h = updates_as (λ i. cond (sym (eq-eqb n 0 (sym e ∙ k)) i) a (refused_with n s len)) h
 
 -- ---- refused at once
 
@@ -95,18 +95,18 @@ module _ (s : Session) (delta seconds : Float) (inbox : List ℕ) {start heard :
   syncing_is : n ≡ syncing_refusal_by (has_for_worlds inbox) (heard_other s seconds inbox)
   syncing_is = hn ∙ (λ i. syncing_refusal_by (hp i) (other_is s seconds inbox hl hh i))
 
-  pub clock_refused : (len : ℕ) {r : UpdateAnswer} {last : List ℕ} → (n ≡ 0 → ⊥) → Updates (refusedWith n s len) r last
+  pub clock_refused : (len : ℕ) {r : UpdateAnswer} {last : List ℕ} → (n ≡ 0 → ⊥) → Updates (refused_with n s len) r last
       → Updates (clock_update_of s delta seconds inbox len) r last
   unfolding clock_update_of
   clock_refused len k h = refused_is s len (clock_moved_of s delta seconds inbox len) syncing_is k h
 
   pub clock_moved : (len : ℕ) {t : Ticked} {c : Clock} {next : Session} {r : UpdateAnswer} {last : List ℕ} → n ≡ 0
       → t ≡ ticked_of s.clock s.settings.period delta → c ≡ settled_of s.settings t.clock heard → next ≡ synced_of s c seconds
-      → Updates (unplayedOf 0 next t.request len) r last → Updates (clock_update_of s delta seconds inbox len) r last
+      → Updates (unplayed_of 0 next t.request len) r last → Updates (clock_update_of s delta seconds inbox len) r last
   unfolding clock_update_of
   clock_moved len k ht hc hx h =
       accepted_by_lem s len (clock_moved_of s delta seconds inbox len) syncing_is k
-      (updates_as (λ i. unplayedOf 0 ((hx ∙ (λ j. synced_of s (clock_is s delta seconds inbox hl hh ht hc j) seconds)) i) (ht i).request len) h)
+      (updates_as (λ i. unplayed_of 0 ((hx ∙ (λ j. synced_of s (clock_is s delta seconds inbox hl hh ht hc j) seconds)) i) (ht i).request len) h)
 
 -- ---- an update of the worlds
 
@@ -114,7 +114,7 @@ module _ (s : Session) (delta seconds : Float) (inbox : List ℕ) {start heard :
 unfoldable concluded_by : Session → Clock → Bool → Advanced → List ℕ → Reply
 concluded_by s c request a tape =
     let n = end_refusal_of s a (length tape) in
-    cond (eqb n accepted) (accepted_by s c request a tape) (refusedWith n s (length tape))
+    cond (eqb n accepted) (accepted_by s c request a tape) (refused_with n s (length tape))
 
 -- a run before its end, as the code holds it
 module _ (s : Session) (c : Clock) (request : Bool) (u : Run) {was mid : List ℕ} {a : Advanced} (h : Advances u was a mid) where
@@ -134,8 +134,8 @@ module _ (s : Session) (c : Clock) (request : Bool) (u : Run) {was mid : List �
 
   -- the accepted reply to a run is the one to the run as the code holds it
   accepted_is : leb (length u.played.words) (length was) ≡ true
-      → accepted_by s c request a mid ≡ acceptedOf s c request (finished_of s.settings u) (length was)
-  unfolding accepted_by acceptedOf
+      → accepted_by s c request a mid ≡ accepted_of s c request (finished_of s.settings u) (length was)
+  unfolding accepted_by accepted_of
   accepted_is e =
       let t : cleared mid a.at ≡ u.played.words ++ replicate (length was - length u.played.words) 0 =
       (λ i. cleared (h.puts.tape i) (place i)) ∙ cleared_after u.played.words was (leb-true _ _ e) in
@@ -155,18 +155,18 @@ module _ (s : Session) (c : Clock) (request : Bool) (u : Run) {was mid : List �
 
   -- by its refusal
   concluded_by_lem : (b : Bool) → eqb number accepted ≡ b
-      → cond b (accepted_by s c request a mid) (refusedWith number s (length mid)) ≡ cond b
-      (acceptedOf s c request (finished_of s.settings u) (length was)) (refusedWith number s (length was))
+      → cond b (accepted_by s c request a mid) (refused_with number s (length mid)) ≡ cond b
+      (accepted_of s c request (finished_of s.settings u) (length was)) (refused_with number s (length was))
   unfolding number
   concluded_by_lem true e =
       accepted_is (end_accepted u.stop (weight_ok (tween_of u.overshoot s.settings.timestep)) (leb (length u.played.words) (length was))
       (eqb-true number 0 e)).2
-  concluded_by_lem false e = λ i. refusedWith number s (long i)
+  concluded_by_lem false e = λ i. refused_with number s (long i)
 
   -- the reply to a run as the code holds it is the reply to the run with its end
   concluded_is : concluded_by s c request a mid ≡ concluded_of s c request (finished_of s.settings u) (length was)
   unfolding concluded_by concluded_of number
-  concluded_is = (λ i. cond (eqb (number_is i) accepted) (accepted_by s c request a mid) (refusedWith (number_is i) s (length mid)))
+  concluded_is = (λ i. cond (eqb (number_is i) accepted) (accepted_by s c request a mid) (refused_with (number_is i) s (length mid)))
       ∙ concluded_by_lem (eqb number accepted) refl
 
 -- the frames, from the parts that the code has
@@ -194,7 +194,7 @@ module _ (s : Session) (delta seconds : Float) (inbox : List ℕ) {start heard :
   arrival_is : n ≡ arrival_refusal_by (heard_other s seconds inbox) (received_in inbox (unreceived s)).full
   arrival_is = hn ∙ (λ i. arrival_refusal_by (other_is s seconds inbox hl hh i) (received_is i).full)
 
-  pub worlds_refused : (len : ℕ) {r : UpdateAnswer} {last : List ℕ} → (n ≡ 0 → ⊥) → Updates (refusedWith n s len) r last
+  pub worlds_refused : (len : ℕ) {r : UpdateAnswer} {last : List ℕ} → (n ≡ 0 → ⊥) → Updates (refused_with n s len) r last
       → Updates (worlds_update_of s delta seconds inbox len) r last
   unfolding worlds_update_of
   worlds_refused len k h = refused_is s len _ arrival_is k h
@@ -212,15 +212,15 @@ module _ (s : Session) (delta seconds : Float) (inbox : List ℕ) {start heard :
         accepted_by_lem s (length was) _ arrival_is z (updates_as ((λ i. concluded_by s (k i) (ht i).request a mid) ∙ concluded_is s d (request_of s delta) u v) h)
 
     -- refused at its end
-    pub worlds_stopped : {m len : ℕ} → m ≡ end_refusal_of s a len → len ≡ length mid → (m ≡ 0 → ⊥) → Updates (refusedWith m s len) r last
+    pub worlds_stopped : {m len : ℕ} → m ≡ end_refusal_of s a len → len ≡ length mid → (m ≡ 0 → ⊥) → Updates (refused_with m s len) r last
         → Updates (worlds_update_of s delta seconds inbox (length was)) r last
     unfolding concluded_by
     worlds_stopped {m} {len} hm hx e h =
         let q : m ≡ end_refusal_of s a (length mid) = hm ∙ ap (end_refusal_of s a) hx in
         worlds_played
         (updates_as
-        ((λ i. refusedWith (q i) s (hx i)) ∙ (λ i. cond (sym (ne_eqb (end_refusal_of s a (length mid)) 0 (λ y. e (q ∙ y))) i)
-        (accepted_by s c t.request a mid) (refusedWith (end_refusal_of s a (length mid)) s (length mid))))
+        ((λ i. refused_with (q i) s (hx i)) ∙ (λ i. cond (sym (ne_eqb (end_refusal_of s a (length mid)) 0 (λ y. e (q ∙ y))) i)
+        (accepted_by s c t.request a mid) (refused_with (end_refusal_of s a (length mid)) s (length mid))))
         h)
 
     -- accepted
@@ -231,13 +231,13 @@ module _ (s : Session) (delta seconds : Float) (inbox : List ℕ) {start heard :
         let q : m ≡ end_refusal_of s a (length mid) = hm ∙ ap (end_refusal_of s a) hx in
         worlds_played
         (updates_as (λ i. cond (sym (eq-eqb (end_refusal_of s a (length mid)) 0 (sym q ∙ e)) i) (accepted_by s c t.request a mid)
-        (refusedWith (end_refusal_of s a (length mid)) s (length mid))) h)
+        (refused_with (end_refusal_of s a (length mid)) s (length mid))) h)
 
 -- ---- update
 
 module _ (s : Session) (delta seconds : Float) (inbox : List ℕ) (len : ℕ) {n : ℕ} {r : UpdateAnswer} {last : List ℕ}
     (hn : n ≡ refused_at_once s delta seconds inbox) where
-  pub update_refused : (n ≡ 0 → ⊥) → Updates (refusedWith n s len) r last → Updates (update_of s delta seconds inbox len) r last
+  pub update_refused : (n ≡ 0 → ⊥) → Updates (refused_with n s len) r last → Updates (update_of s delta seconds inbox len) r last
   unfolding update_of
   update_refused e h = refused_is s len _ hn e h
 

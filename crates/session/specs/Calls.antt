@@ -23,7 +23,7 @@ use Rattle.session_state.specs.Session.{has_worlds, starting_of}
 use Rattle.session_state.specs.Sound.{sound_of}
 use Rattle.inbox_passes.specs.Passes.{has_for_worlds, heard_in, received_in, noted_in}
 use Rattle.session_answers.specs.declared.OpenAnswer.{OpenAnswer}
-use Rattle.session_answers.specs.Answers.{Reply, unplayedOf, unlessRefused, acceptedOf}
+use Rattle.session_answers.specs.Answers.{Reply, unplayed_of, unless_refused, accepted_of}
 use Rattle.session_stage.specs.Stage.{synced_of}
 use Rattle.session_state.specs.Session.{scene_of}
 
@@ -62,18 +62,18 @@ request_of s delta = (ticked_of s.clock s.settings.period delta).request
 
 -- an update that changes the clock alone, or makes the worlds: nothing is played
 abbrev pub clock_moved_of : Session → Float → Float → List ℕ → ℕ → Reply
-clock_moved_of s delta seconds inbox len = unplayedOf accepted (synced_of s (clock_after s delta seconds inbox) seconds) (request_of s delta) len
+clock_moved_of s delta seconds inbox len = unplayed_of accepted (synced_of s (clock_after s delta seconds inbox) seconds) (request_of s delta) len
 
 -- an update in the first stage
 unfoldable pub clock_update_of : Session → Float → Float → List ℕ → ℕ → Reply
 clock_update_of s delta seconds inbox len =
-    unlessRefused (syncing_refusal_by (has_for_worlds inbox) (heard_other s seconds inbox)) s len (clock_moved_of s delta seconds inbox len)
+    unless_refused (syncing_refusal_by (has_for_worlds inbox) (heard_other s seconds inbox)) s len (clock_moved_of s delta seconds inbox len)
 
 -- what a run comes to
 unfoldable pub concluded_of : Session → Clock → Bool → Run → ℕ → Reply
 concluded_of s c request r len =
-    unlessRefused (end_refusal_by r.stop (weight_ok (tween_of r.overshoot s.settings.timestep)) (leb (length r.played.words) len)) s len
-    (acceptedOf s c request r len)
+    unless_refused (end_refusal_by r.stop (weight_ok (tween_of r.overshoot s.settings.timestep)) (leb (length r.played.words) len)) s len
+    (accepted_of s c request r len)
 
 -- the server's time by a clock; a clock without an offset gives the client's own
 abbrev pub server_time_by : ServerTime → Float → Float
@@ -104,7 +104,7 @@ played_of s c delta seconds inbox = updated_of s.settings (scene_after s inbox) 
 unfoldable pub worlds_update_of : Session → Float → Float → List ℕ → ℕ → Reply
 worlds_update_of s delta seconds inbox len =
     let c = clock_after s delta seconds inbox in
-    unlessRefused (arrival_refusal_by (heard_other s seconds inbox) (received_in inbox (unreceived s)).full) s len
+    unless_refused (arrival_refusal_by (heard_other s seconds inbox) (received_in inbox (unreceived s)).full) s len
     (concluded_of s c (request_of s delta) (played_of s c delta seconds inbox) len)
 
 -- an update that is not refused at once, by whether worlds exist
@@ -114,4 +114,4 @@ update_by false s delta seconds inbox len = clock_update_of s delta seconds inbo
 
 -- update, with a tape of so many words
 unfoldable pub update_of : Session → Float → Float → List ℕ → ℕ → Reply
-update_of s delta seconds inbox len = unlessRefused (refused_at_once s delta seconds inbox) s len (update_by (has_worlds s.stage) s delta seconds inbox len)
+update_of s delta seconds inbox len = unless_refused (refused_at_once s delta seconds inbox) s len (update_by (has_worlds s.stage) s delta seconds inbox len)

@@ -16,7 +16,7 @@ use Rattle.session_state.specs.Session.{session_with}
 use Rattle.session_state.specs.declared.Stage.{Stage}
 use Rattle.session_state.specs.declared.Session.{Session}
 use Rattle.session_answers.specs.declared.UpdateAnswer.{UpdateAnswer}
-use Rattle.session_answers.specs.Answers.{unplayedOf, refusedWith, Updates}
+use Rattle.session_answers.specs.Answers.{unplayed_of, refused_with, Updates}
 use Rattle.session_stage.specs.Stage.{stage_after}
 use Rattle.client.specs.Ledgers.{closed_of}
 use Rattle.session_answers.specs.Inner.{accepted_by}
@@ -25,7 +25,7 @@ use Rattle.session_answers.specs.Inner.{accepted_by}
 
 pub unplayed_is : (n : ℕ) (s : Session) (request : Bool) (was : List ℕ) {l r : Ledger} {last : List ℕ} → last ≡ cleared was 0 → l ≡ empty_ledger
     → r ≡ empty_ledger
-    → Updates (unplayedOf n s request (length was))
+    → Updates (unplayed_of n s request (length was))
     (record { refusal = n; session = s; frames = 0; steps = 0; request = request; left = l; right = r; words = 0 }) last
 unplayed_is n s request was e hl hr =
     record {
@@ -34,9 +34,9 @@ unplayed_is n s request was e hl hr =
     }
 
 -- it was refused
-pub refuse_is : (n : ℕ) (s : Session) (len : ℕ) {r : UpdateAnswer} {last : List ℕ} → Updates (unplayedOf n s false len) r last
-    → Updates (refusedWith n s len) r last
-unfolding refusedWith
+pub refuse_is : (n : ℕ) (s : Session) (len : ℕ) {r : UpdateAnswer} {last : List ℕ} → Updates (unplayed_of n s false len) r last
+    → Updates (refused_with n s len) r last
+unfolding refused_with
 refuse_is n s len h = h
 
 -- ---- an accepted update

@@ -43,21 +43,21 @@ pub record Updates (a : Reply) (r : UpdateAnswer) (last : List ℕ) : Type 0 whe
   pub tape : last ≡ a.tape
 
 -- the reply of an update that played nothing: the tape (of so many words) is zeroed
-abbrev pub unplayedOf : ℕ → Session → Bool → ℕ → Reply
-unplayedOf n s request len =
+abbrev pub unplayed_of : ℕ → Session → Bool → ℕ → Reply
+unplayed_of n s request len =
     record { refusal = n; session = s; frames = 0; steps = 0; request = request; left = empty_ledger; right = empty_ledger; words = 0; tape = replicate len 0 }
 
 -- a refused update: the session unchanged, the tape zeroed, all else 0 or no
-unfoldable pub refusedWith : ℕ → Session → ℕ → Reply
-refusedWith n s len = unplayedOf n s false len
+unfoldable pub refused_with : ℕ → Session → ℕ → Reply
+refused_with n s len = unplayed_of n s false len
 
 -- a reply, unless the update is refused
-abbrev pub unlessRefused : ℕ → Session → ℕ → Reply → Reply
-unlessRefused n s len a = cond (eqb n accepted) a (refusedWith n s len)
+abbrev pub unless_refused : ℕ → Session → ℕ → Reply → Reply
+unless_refused n s len a = cond (eqb n accepted) a (refused_with n s len)
 
 -- an update that was played to its end, whose words fit the tape: they are on it, and zeros after them
-unfoldable pub acceptedOf : Session → Clock → Bool → Run → ℕ → Reply
-acceptedOf s c request r len =
+unfoldable pub accepted_of : Session → Clock → Bool → Run → ℕ → Reply
+accepted_of s c request r len =
     record {
       refusal = accepted;
       session = session_with s (stage_after s.stage r.played.scene.worlds.published.time) c r.played.scene.worlds r.overshoot;

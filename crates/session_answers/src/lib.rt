@@ -2,7 +2,7 @@
 #![tactic(auto)]
 
 ghost use Rattle.std.specs.Prelude.{length};
-ghost use Rattle.session_answers.specs.Answers.{unplayedOf, refusedWith, Updates};
+ghost use Rattle.session_answers.specs.Answers.{unplayed_of, refused_with, Updates};
 ghost use Rattle.session_answers.specs.Inner.{accepted_by};
 
 use client::{Ledger, ledgers};
@@ -32,7 +32,7 @@ pub struct UpdateAnswer {
 
 // The answer of an update that played nothing: the tape is zeroed.
 pub fn unplayed(refusal: u32, session: Session, request: bool, tape: &mut [u32]) -> UpdateAnswer
-    ensures { Updates (unplayedOf refusal session request (length tape.old)) result tape.new }
+    ensures { Updates (unplayed_of refusal session request (length tape.old)) result tape.new }
 {
     tape::clear(tape, 0);
     UpdateAnswer {
@@ -49,7 +49,7 @@ pub fn unplayed(refusal: u32, session: Session, request: bool, tape: &mut [u32])
 
 // A refused update: the session unchanged, the tape zeroed, everything else 0.
 pub fn refuse(refusal: u32, session: Session, tape: &mut [u32]) -> UpdateAnswer
-    ensures { Updates (refusedWith refusal session (length tape.old)) result tape.new }
+    ensures { Updates (refused_with refusal session (length tape.old)) result tape.new }
 {
     unplayed(refusal, session, false, tape)
 }

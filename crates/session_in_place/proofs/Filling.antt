@@ -16,7 +16,7 @@ use Rattle.session_lent.specs.declared.Worlds.{Worlds}
 use Rattle.session_lent.specs.declared.State.{State}
 use Rattle.session_stage.specs.Stage.{stage_after}
 use Rattle.session_in_place.specs.declared.LentAnswer.{LentAnswer}
-use Rattle.session_answers.specs.Answers.{unplayedOf, refusedWith}
+use Rattle.session_answers.specs.Answers.{unplayed_of, refused_with}
 use Rattle.session_in_place.specs.AnswersLent.{Leaves, Accepts}
 
 -- ---- an update that played nothing
@@ -25,7 +25,7 @@ abbrev answer_by : ℕ → State → Bool → Ledger → Ledger → LentAnswer
 answer_by n s request l r = record { refusal = n; state = s; frames = 0; steps = 0; request = request; left = l; right = r; words = 0 }
 
 pub unplayed_is : (n : ℕ) (s : State) (request : Bool) (was : List ℕ) {l r : Ledger} {last : List ℕ} → last ≡ cleared was 0 → l ≡ empty_ledger
-    → r ≡ empty_ledger → Leaves (λ x. unplayedOf n x request (length was)) s (answer_by n s request l r) last
+    → r ≡ empty_ledger → Leaves (λ x. unplayed_of n x request (length was)) s (answer_by n s request l r) last
 unplayed_is n s request was e hl hr =
     record {
       state = refl;
@@ -36,9 +36,9 @@ unplayed_is n s request was e hl hr =
     }
 
 -- it was refused
-pub refuse_is : (n : ℕ) (s : State) (len : ℕ) {a : LentAnswer} {last : List ℕ} → Leaves (λ x. unplayedOf n x false len) s a last
-    → Leaves (λ x. refusedWith n x len) s a last
-unfolding refusedWith
+pub refuse_is : (n : ℕ) (s : State) (len : ℕ) {a : LentAnswer} {last : List ℕ} → Leaves (λ x. unplayed_of n x false len) s a last
+    → Leaves (λ x. refused_with n x len) s a last
+unfolding refused_with
 refuse_is n s len h = record { state = h.state; replies = h.replies }
 
 -- ---- an accepted update, by the calls that make it

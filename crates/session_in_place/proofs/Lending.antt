@@ -62,7 +62,7 @@ use Rattle.session_play.specs.Play.{WorldsLent, unarrived_of, midpoints_of, hold
 use Rattle.session_play.proofs.Scenes.{start_scene, unarrived_is, arrived_worlds, scene_is, closed_is}
 use Rattle.session_answers.specs.declared.UpdateAnswer.{UpdateAnswer}
 use Rattle.session_in_place.specs.declared.LentAnswer.{LentAnswer}
-use Rattle.session_answers.specs.Answers.{Reply, unplayedOf, refusedWith, Updates}
+use Rattle.session_answers.specs.Answers.{Reply, unplayed_of, refused_with, Updates}
 use Rattle.session_answers.specs.Inner.{accepted_by}
 use Rattle.session_in_place.specs.AnswersLent.{answer_with, Leaves, accepted_in, Accepts}
 use Rattle.session.specs.Calls.{times_ok, refused_at_once, clock_update_of, worlds_update_of, update_by, update_of, server_time_by}
@@ -75,9 +75,9 @@ use Rattle.session.proofs.Answering.{worlds_refused, worlds_stopped, worlds_acce
 
 module _ (reply : Reply) (c : Settings) (s : State) (ss : List Float) (was : Session) {a : LentAnswer} {last : List ℕ} where
   -- refused: whatever the slots are
-  pub refused_lent : (len : ℕ) {n : ℕ} {l r b : List Entry} → ArraysLent ss l r b → (n ≡ accepted → ⊥) → Leaves (λ x. refusedWith n x len) s a last
+  pub refused_lent : (len : ℕ) {n : ℕ} {l r b : List Entry} → ArraysLent ss l r b → (n ≡ accepted → ⊥) → Leaves (λ x. refused_with n x len) s a last
       → Updates reply (answer_with a was) last → UpdatesLent reply c s ss was a ss l r b last
-  unfolding refusedWith
+  unfolding refused_with
   refused_lent len {n} {l} {r} {b} full e h u =
       let k : a.refusal ≡ n = ap (λ (x : UpdateAnswer). x.refusal) (h.replies was).answer in
       record {
@@ -166,7 +166,7 @@ concludes c s scan t a {ss} {ss₁} {b} {b₁} {was} {last} {w} {k} {z} he hs ha
 module _ (c : Settings) (s : State) (delta seconds : Float) (scan : Scan)
     (len : ℕ) {ss : List Float} {l r b : List Entry} {n : ℕ} {a : LentAnswer} {last : List ℕ}
     (full : ArraysLent ss l r b) (hn : n ≡ syncing_refusal_by scan.worldly scan.heard.other) where
-  pub sync_refused : (n ≡ 0 → ⊥) → Leaves (λ x. refusedWith n x len) s a last → SyncsLent c s delta seconds scan len ss l r b a ss l r b last
+  pub sync_refused : (n ≡ 0 → ⊥) → Leaves (λ x. refused_with n x len) s a last → SyncsLent c s delta seconds scan len ss l r b a ss l r b last
   sync_refused e h =
       record {
         arrays = full;
@@ -176,14 +176,14 @@ module _ (c : Settings) (s : State) (delta seconds : Float) (scan : Scan)
 
   module _ (e : n ≡ 0) {t : TickedNumbers} (ht : (xs : List Float) → ticked_at xs t ≡ ticked_of (clock_at xs s.clock) c.period delta)
       {k : ClockNumbers} {ss₁ : List Float} (hk : Settles c ss t.clock scan.heard k ss₁) {q : State} {l₁ r₁ b₁ : List Entry}
-      (hq : Syncs c s k seconds l r b q l₁ r₁ b₁) (h : Leaves (λ x. unplayedOf 0 x t.request len) q a last) where
+      (hq : Syncs c s k seconds l r b q l₁ r₁ b₁) (h : Leaves (λ x. unplayed_of 0 x t.request len) q a last) where
     sync_moved_of : (words : List ℕ) → Scanned s seconds words scan
         → UpdatesLent (clock_update_of (session_at c s ss l r b) delta seconds words len) c s ss (session_at c s ss l r b) a ss₁ l₁ r₁ b₁ last
     sync_moved_of words z =
         let next : Session = session_at c q ss₁ l₁ r₁ b₁ in
-        let u : Updates (unplayedOf 0 next t.request len) (answer_with a next) last = h.replies next in
-        let v : Updates (unplayedOf 0 next t.request len) (answer_with a (session_at c a.state ss₁ l₁ r₁ b₁)) last =
-        subst (λ (x : State). Updates (unplayedOf 0 next t.request len) (answer_with a (session_at c x ss₁ l₁ r₁ b₁)) last) (sym h.state) u in
+        let u : Updates (unplayed_of 0 next t.request len) (answer_with a next) last = h.replies next in
+        let v : Updates (unplayed_of 0 next t.request len) (answer_with a (session_at c a.state ss₁ l₁ r₁ b₁)) last =
+        subst (λ (x : State). Updates (unplayed_of 0 next t.request len) (answer_with a (session_at c x ss₁ l₁ r₁ b₁)) last) (sym h.state) u in
         accepted_lent _ c s ss (session_at c s ss l r b) (record { samples = hk.room; slots = hq.slots })
         (ap (λ (x : UpdateAnswer). x.refusal) (h.replies next).answer)
         (clock_moved (session_at c s ss l r b) delta seconds words refl z.heard z.worldly hn len e (ht ss) hk.clock (hq.session ss ss₁) v)
@@ -219,7 +219,7 @@ module _ (c : Settings) (s : State) (delta seconds : Float) (words : List ℕ) (
   got_is = hr.received (scene_of whole) ∙ (λ i. received_in words (record { scene = unarrived_is s.worlds l r b i; full = false }))
 
   -- refused by what arrived
-  pub play_refused : (len : ℕ) {a : LentAnswer} {last : List ℕ} → length ss ≡ sample_room → (n ≡ 0 → ⊥) → Leaves (λ x. refusedWith n x len) s a last
+  pub play_refused : (len : ℕ) {a : LentAnswer} {last : List ℕ} → length ss ≡ sample_room → (n ≡ 0 → ⊥) → Leaves (λ x. refused_with n x len) s a last
       → UpdatesLent (worlds_update_of whole delta seconds words len) c s ss whole a ss l₁ r₁ b₁ last
   play_refused len room e h =
       refused_lent _ c s ss whole len (record { samples = room; slots = hr.slots }) e h
@@ -257,7 +257,7 @@ module _ (c : Settings) (s : State) (delta seconds : Float) (words : List ℕ) (
 
     module _ {m : ℕ} (hm : m ≡ end_refusal_by v.stop (weight_ok (tween_of v.overshoot c.timestep)) (leb v.books.at (length mid))) where
       -- refused at its end
-      pub play_stopped : {a : LentAnswer} {last : List ℕ} → length ss ≡ sample_room → (m ≡ 0 → ⊥) → Leaves (λ y. refusedWith m y (length mid)) s a last
+      pub play_stopped : {a : LentAnswer} {last : List ℕ} → length ss ≡ sample_room → (m ≡ 0 → ⊥) → Leaves (λ y. refused_with m y (length mid)) s a last
           → UpdatesLent (worlds_update_of whole delta seconds words (length was)) c s ss whole a ss l₂ r₂ b₂ last
       play_stopped room k h =
           refused_lent _ c s ss whole (length mid) (record { samples = room; slots = slots_full }) k h
@@ -333,7 +333,7 @@ module _ (c : Settings) (s : State) (delta seconds : Float) (words : List ℕ) (
       }
 
   -- refused
-  pub lent_refused : (len : ℕ) {a : LentAnswer} {last : List ℕ} → ArraysLent ss l r b → (n ≡ 0 → ⊥) → Leaves (λ x. refusedWith n x len) s a last
+  pub lent_refused : (len : ℕ) {a : LentAnswer} {last : List ℕ} → ArraysLent ss l r b → (n ≡ 0 → ⊥) → Leaves (λ x. refused_with n x len) s a last
       → UpdatesLent (update_of (session_at c s ss l r b) delta seconds words len) c s ss (session_at c s ss l r b) a ss l r b last
   lent_refused len full e h =
       refused_lent _ c s ss (session_at c s ss l r b) len full e h

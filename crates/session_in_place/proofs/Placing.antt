@@ -19,7 +19,7 @@ use Rattle.session_state.specs.declared.Session.{Session}
 use Rattle.session_lent.specs.declared.State.{State}
 use Rattle.session_lent.specs.Lent.{session_at}
 use Rattle.session_in_place.specs.declared.LentAnswer.{LentAnswer}
-use Rattle.session_answers.specs.Answers.{Reply, refusedWith, Updates}
+use Rattle.session_answers.specs.Answers.{Reply, refused_with, Updates}
 use Rattle.session_in_place.specs.AnswersLent.{answer_with, Leaves}
 use Rattle.session.specs.Calls.{times_ok, update_of}
 use Rattle.session_in_place.specs.Lent.{ArraysLent, UpdatesLent}
@@ -80,14 +80,14 @@ module _ (c : Settings) (s : State) (delta seconds : Float) (words : List ℕ) (
     (hx : x ≡ lengths_fit (length ss) (length l) (length r) (length b)) {a : LentAnswer} {last : List ℕ} where
   -- arrays that do not fit
   pub place_unfit : {t : Bool} {m n : ℕ} → x ≡ false → t ≡ times_ok delta seconds → m ≡ refusal_of words → n ≡ once_refusal_by t m false
-      → Leaves (λ y. refusedWith n y (length was)) s a last → UpdatesInPlace c s delta seconds words ss l r b was a ss l r b last
+      → Leaves (λ y. refused_with n y (length was)) s a last → UpdatesInPlace c s delta seconds words ss l r b was a ss l r b last
   place_unfit {t} {m} {n} e ht hm hn h =
       let whole = session_at c s ss l r b in
-      let u : Updates (refusedWith n whole (length was)) (answer_with a (session_at c a.state ss l r b)) last =
-      subst (λ (q : State). Updates (refusedWith n whole (length was)) (answer_with a (session_at c q ss l r b)) last) (sym h.state) (h.replies whole) in
-      let v : refusedWith n whole (length was) ≡ update_fitting (lengths_fit (length ss) (length l) (length r) (length b)) whole delta seconds words
+      let u : Updates (refused_with n whole (length was)) (answer_with a (session_at c a.state ss l r b)) last =
+      subst (λ (q : State). Updates (refused_with n whole (length was)) (answer_with a (session_at c q ss l r b)) last) (sym h.state) (h.replies whole) in
+      let v : refused_with n whole (length was) ≡ update_fitting (lengths_fit (length ss) (length l) (length r) (length b)) whole delta seconds words
       (length was) =
-      (λ i. refusedWith ((hn ∙ (λ j. once_refusal_by (ht j) (hm j) false)) i) whole (length was))
+      (λ i. refused_with ((hn ∙ (λ j. once_refusal_by (ht j) (hm j) false)) i) whole (length was))
       ∙ (λ i. update_fitting ((sym e ∙ hx) i) whole delta seconds words (length was)) in
       record { updates = subst (λ (q : Reply). Updates q (answer_with a (session_at c a.state ss l r b)) last) v u }
 

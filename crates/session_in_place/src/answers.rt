@@ -1,6 +1,6 @@
 // Each way to fill the answer of an update over lent arrays.
 ghost use Rattle.std.specs.Prelude.{length, ◌≡◌};
-ghost use Rattle.session_answers.specs.Answers.{unplayedOf, refusedWith};
+ghost use Rattle.session_answers.specs.Answers.{unplayed_of, refused_with};
 ghost use Rattle.session_in_place.specs.AnswersLent.{answer_with, Leaves, Accepts};
 
 use super::LentAnswer;
@@ -13,7 +13,7 @@ use session_state::Session;
 
 // The answer of an update that played nothing: the tape is zeroed.
 pub fn unplayed(refusal: u32, state: State, request: bool, tape: &mut [u32]) -> LentAnswer
-    ensures { Leaves (λ x. unplayedOf refusal x request (length tape.old)) state result tape.new }
+    ensures { Leaves (λ x. unplayed_of refusal x request (length tape.old)) state result tape.new }
 {
     tape::clear(tape, 0);
     LentAnswer {
@@ -30,7 +30,7 @@ pub fn unplayed(refusal: u32, state: State, request: bool, tape: &mut [u32]) -> 
 
 // A refused update: the session unchanged, the tape zeroed, everything else 0.
 pub fn refuse(refusal: u32, state: State, tape: &mut [u32]) -> LentAnswer
-    ensures { Leaves (λ x. refusedWith refusal x (length tape.old)) state result tape.new }
+    ensures { Leaves (λ x. refused_with refusal x (length tape.old)) state result tape.new }
 {
     unplayed(refusal, state, false, tape)
 }

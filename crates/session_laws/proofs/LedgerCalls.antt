@@ -45,7 +45,7 @@ use Rattle.session_issue.specs.declared.IssueAnswer.{IssueAnswer}
 use Rattle.session_state.specs.Sound.{sound_of}
 use Rattle.inbox_passes.specs.Passes.{receive_one, received_in, note_one, noted_in}
 use Rattle.session.specs.Calls.{clock_after, request_of, lagged_of, scene_after, played_of, update_of, unreceived}
-use Rattle.session_answers.specs.Answers.{Reply, refusedWith, acceptedOf}
+use Rattle.session_answers.specs.Answers.{Reply, refused_with, accepted_of}
 use Rattle.session_state.specs.Session.{scene_of}
 use Rattle.client.specs.Ledgers.{closed_of}
 use Rattle.session_stage.specs.Stage.{stage_after}
@@ -175,8 +175,8 @@ closed_settles (suc (suc x)) s t u marks p e w m c = absurd (omega arith)
 -- ---- update
 
 -- a refused one
-refused_settles : (n x : ℕ) (s : Session) (len : ℕ) → has_worlds s.stage ≡ true → Replied x s (refusedWith n s len)
-unfolding refusedWith
+refused_settles : (n x : ℕ) (s : Session) (len : ℕ) → has_worlds s.stage ≡ true → Replied x s (refused_with n s len)
+unfolding refused_with
 refused_settles n x s len w = none_settles (eqb x 0) x s (commands_on x (replicate len 0)) w (commands_on_zeros x len)
 
 -- the worlds of a session that an update leaves exist
@@ -187,8 +187,8 @@ stage_kept SyncingInitialState (DisplayedAt x) h = refl
 stage_kept Ready t h = refl
 
 accepted_settles : {n : ℕ} (x : ℕ) (s : Session) (c : Clock) (request : Bool) (r : Run) (len : ℕ) → x < 2 → has_worlds s.stage ≡ true
-    → KeptBy x (held_at x s.worlds) n 0 r → Replied x s (acceptedOf s c request r len)
-unfolding acceptedOf
+    → KeptBy x (held_at x s.worlds) n 0 r → Replied x s (accepted_of s c request r len)
+unfolding accepted_of
 accepted_settles x s c request r len p w g =
     let ws : List ℕ = r.played.words in
     closed_settles x s _ r.played.scene _ p refl (stage_kept s.stage r.played.scene.worlds.published.time w)

@@ -42,7 +42,7 @@ use Rattle.session_state.specs.declared.Session.{Session}
 use Rattle.session_issue.specs.declared.IssueAnswer.{IssueAnswer}
 use Rattle.session_state.specs.Sound.{no_offset, connected_of, sound_of}
 use Rattle.session.specs.Calls.{start_of, open_of, times_ok, clock_after, request_of, lagged_of, scene_after, played_of, update_of}
-use Rattle.session_answers.specs.Answers.{Reply, refusedWith, acceptedOf}
+use Rattle.session_answers.specs.Answers.{Reply, refused_with, accepted_of}
 use Rattle.session_stage.specs.Stage.{started_at, synced_of, stage_after}
 use Rattle.session_state.specs.Session.{scene_of}
 use Rattle.session_issue.specs.Issue.{issue_stamp, issued_entry, issue_of}
@@ -185,8 +185,8 @@ pub record Good (s : Session) : Type 0 where
   pub fit : FloatsFit s
 
 -- a refused answer is not accepted
-refused_not : (n : ℕ) (s : Session) (len : ℕ) {X : Type 0} → (n ≡ 0 → ⊥) → (refusedWith n s len).refusal ≡ 0 → X
-unfolding refusedWith
+refused_not : (n : ℕ) (s : Session) (len : ℕ) {X : Type 0} → (n ≡ 0 → ⊥) → (refused_with n s len).refusal ≡ 0 → X
+unfolding refused_with
 refused_not n s len h e = absurd (h e)
 
 -- ---- an update once worlds exist
@@ -207,8 +207,8 @@ stage_ready Ready c n h = h
 module _ (s : Session) (delta seconds : Float) (inbox : List ℕ) (g : Given s delta seconds) (n : s.stage ≡ SyncingClock → ⊥) where
   accepted_good : (request : Bool) (len : ℕ) → (run_in s delta seconds inbox).stop ≡ Done
       → weight_ok (tween_of (run_in s delta seconds inbox).overshoot s.settings.timestep) ≡ true
-      → Good (acceptedOf s (clock_after s delta seconds inbox) request (run_in s delta seconds inbox) len).session
-  unfolding acceptedOf played_of
+      → Good (accepted_of s (clock_after s delta seconds inbox) request (run_in s delta seconds inbox) len).session
+  unfolding accepted_of played_of
   accepted_good request len e ok =
       let f = sound_facts s g.sound in
       let c = clock_after s delta seconds inbox in
@@ -258,15 +258,15 @@ pub data Either (n : ℕ) (s t : Session) : Type 0 where
   accepted : n ≡ 0 → Either n s t
   handed_back : t ≡ s → Either n s t
 
-refused_back : (n : ℕ) (s : Session) (len : ℕ) → Either (refusedWith n s len).refusal s (refusedWith n s len).session
-unfolding refusedWith
+refused_back : (n : ℕ) (s : Session) (len : ℕ) → Either (refused_with n s len).refusal s (refused_with n s len).session
+unfolding refused_with
 refused_back n s len = handed_back refl
 
 abbrev Back : Session → Reply → Type 0
 Back s a = Either a.refusal s a.session
 
 update_back : (s : Session) (delta seconds : Float) (inbox : List ℕ) (len : ℕ) → Back s (update_of s delta seconds inbox len)
-unfolding acceptedOf
+unfolding accepted_of
 update_back s delta seconds inbox len =
     update_by_ways {P = Back s} s delta seconds inbox len
     (record { refuses = λ n k. refused_back n s len; syncs = λ j w. accepted refl; plays = λ j w d ok. accepted refl })

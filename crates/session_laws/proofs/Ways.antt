@@ -25,7 +25,7 @@ use Rattle.session_state.specs.Session.{has_worlds, is_ready}
 use Rattle.session_state.specs.Sound.{sound_of}
 use Rattle.inbox_passes.specs.Passes.{has_for_worlds, received_in}
 use Rattle.session_issue.specs.declared.IssueAnswer.{IssueAnswer}
-use Rattle.session_answers.specs.Answers.{Reply, refusedWith, unlessRefused, acceptedOf}
+use Rattle.session_answers.specs.Answers.{Reply, refused_with, unless_refused, accepted_of}
 use Rattle.session_issue.specs.Issue.{unissued, issued_of}
 use Rattle.session.specs.Calls.{times_ok, refused_at_once, heard_other, clock_after, request_of, clock_moved_of, clock_update_of, concluded_of, unreceived, played_of}
 use Rattle.session.specs.Calls.{worlds_update_of, update_by, update_of}
@@ -49,19 +49,19 @@ run_in s delta seconds inbox = played_of s (clock_after s delta seconds inbox) d
 
 -- the ways of an update
 pub record Ways (P : Reply → Type 0) (s : Session) (delta seconds : Float) (box : List ℕ) (len : ℕ) : Type 0 where
-  pub refuses : (n : ℕ) → (n ≡ 0 → ⊥) → P (refusedWith n s len)
+  pub refuses : (n : ℕ) → (n ≡ 0 → ⊥) → P (refused_with n s len)
   pub syncs : Judged s delta seconds box → has_worlds s.stage ≡ false → P (clock_moved_of s delta seconds box len)
   pub plays :
       Judged s delta seconds box → has_worlds s.stage ≡ true → (run_in s delta seconds box).stop ≡ Done →
       weight_ok (tween_of (run_in s delta seconds box).overshoot s.settings.timestep) ≡ true →
-      P (acceptedOf s (clock_after s delta seconds box) (request_of s delta) (run_in s delta seconds box) len)
+      P (accepted_of s (clock_after s delta seconds box) (request_of s delta) (run_in s delta seconds box) len)
 
 -- refused, or not
-unless_by : (P : Reply → Type 0) (n : ℕ) (s : Session) (len : ℕ) (a : Reply) → ((n ≡ 0 → ⊥) → P (refusedWith n s len)) → (n ≡ 0 → P a)
-    → P (unlessRefused n s len a)
+unless_by : (P : Reply → Type 0) (n : ℕ) (s : Session) (len : ℕ) (a : Reply) → ((n ≡ 0 → ⊥) → P (refused_with n s len)) → (n ≡ 0 → P a)
+    → P (unless_refused n s len a)
 unless_by P n s len a f g = go (eqb n accepted) (eqb-true n 0) (eqb-false n 0)
   where
-    go : (b : Bool) → (b ≡ true → n ≡ 0) → (b ≡ false → n ≡ 0 → ⊥) → P (cond b a (refusedWith n s len))
+    go : (b : Bool) → (b ≡ true → n ≡ 0) → (b ≡ false → n ≡ 0 → ⊥) → P (cond b a (refused_with n s len))
     go true t e = g (t refl)
     go false t e = f (e refl)
 

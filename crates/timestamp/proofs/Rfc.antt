@@ -3,7 +3,7 @@
 use Rattle.std.proofs.Common.{◌≡◌, ℕ, ◌+◌, ◌-◌, ◌%◌, ◌<◌, Bool, true, false, cond, leb, sym, refl, ap, ◌∙◌, inl, inr, arith, le-ltb, lt-ltb, eq-eqb, ne_eqb, le-leb}
 use Rattle.timestamp.specs.declared.Ordering.{Ordering}
 use Rattle.timestamp.specs.declared.Ordering.TheVariants.{Less, Equal, Greater}
-use Rattle.timestamp.specs.Rfc1982.{defined, undefined_sum, serial_sum, Comparison, equal, less, greater, undefinedOrder, serial_less, serial_greater}
+use Rattle.timestamp.specs.Rfc1982.{defined, undefined_sum, serial_sum, Comparison, equal, less, greater, undefined_order, serial_less, serial_greater}
 use Rattle.timestamp.specs.Rfc1982.{compared}
 use Rattle.timestamp.specs.Timestamps.{sum_of, difference_of, order_of}
 use Rattle.timestamp.proofs.Basics.{split}
@@ -28,7 +28,7 @@ abbrev pub as_order : Comparison → Ordering
 as_order equal = Equal
 as_order less = Less
 as_order greater = Greater
-as_order undefinedOrder = Less
+as_order undefined_order = Less
 
 -- stamps a and b
 module _ {a b : ℕ} (A : a < 65536) (B : b < 65536) where
@@ -54,7 +54,7 @@ module _ {a b : ℕ} (A : a < 65536) (B : b < 65536) where
   compared_equal z = simp (eq-eqb a b (omega arith))
 
   -- section 3.2 leaves a difference of 32,768 undefined
-  pub compared_undefined : difference_of a b ≡ 32768 → compared a b ≡ undefinedOrder
+  pub compared_undefined : difference_of a b ≡ 32768 → compared a b ≡ undefined_order
   unfolding compared serial_less serial_greater
   compared_undefined h = elim (split a b) [
     | inl l ↦ simp (ne_eqb a b (omega arith), lt-ltb a b l, le-ltb (b - a) 32768 (omega arith), le-ltb b a (omega arith), le-ltb 32768 (b - a) (omega arith))
@@ -95,7 +95,7 @@ module _ {a b : ℕ} (A : a < 65536) (B : b < 65536) where
   greater_agrees h = order_reads ∙ ap as_order h
 
   -- section 3.2 leaves exactly the pairs 2 ^ 15 apart undefined: these, and no others, our order decides beyond the RFC
-  pub undefined_apart : compared a b ≡ undefinedOrder → difference_of a b ≡ 32768
+  pub undefined_apart : compared a b ≡ undefined_order → difference_of a b ≡ 32768
   undefined_apart h = cases
       (λ z. never (sym (compared_equal z) ∙ h) refl)
       (λ n l. never (sym (compared_greater n l) ∙ h) refl)
@@ -106,7 +106,7 @@ module _ {a b : ℕ} (A : a < 65536) (B : b < 65536) where
       number equal = 0
       number less = 0
       number greater = 0
-      number undefinedOrder = 1
+      number undefined_order = 1
 
-      never : {c : Comparison} → c ≡ undefinedOrder → number c ≡ 0 → difference_of a b ≡ 32768
+      never : {c : Comparison} → c ≡ undefined_order → number c ≡ 0 → difference_of a b ≡ 32768
       never p z = absurd (omega (arith, ap number p, z))

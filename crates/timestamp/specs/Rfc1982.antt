@@ -25,10 +25,10 @@ serial_less i1 i2 = (nat_lt i1 i2 && nat_lt (i2 - i1) (2 ^ (serial_bits - 1))) |
 unfoldable pub serial_greater : ℕ → ℕ → Bool
 serial_greater i1 i2 = (nat_lt i1 i2 && nat_lt (2 ^ (serial_bits - 1)) (i2 - i1)) || (nat_lt i2 i1 && nat_lt (i1 - i2) (2 ^ (serial_bits - 1)))
 
--- What section 3.2 says of two serial numbers; `undefinedOrder` where they are not equal and neither is less or greater
+-- What section 3.2 says of two serial numbers; `undefined_order` where they are not equal and neither is less or greater
 pub data Comparison : Type 0 where
-  equal less greater undefinedOrder : Comparison
+  equal less greater undefined_order : Comparison
 
 -- Section 3.2: the comparison of i1 with i2
 unfoldable pub compared : ℕ → ℕ → Comparison
-compared i1 i2 = cond (i1 == i2) equal (cond (serial_less i1 i2) less (cond (serial_greater i1 i2) greater undefinedOrder))
+compared i1 i2 = cond (i1 == i2) equal (cond (serial_less i1 i2) less (cond (serial_greater i1 i2) greater undefined_order))
