@@ -187,6 +187,8 @@ def convert(crate, path, fn_path, of, text):
             words = rest[1:].split(".")
             # a step that respell.py took for a lemma of that name
             first = re.sub(r"_lem$", "", words[0])
+            if first == "pre":
+                return ".".join([var, "requires", *words[1:]])
             if norm(first) in {norm(b) for b in BASIC}:
                 return ".".join([var, first.replace("well-formed", "well_formed"), *words[1:]])
             # steps have one name each, so the place is found by it: at the place that the old file counts to, or above or below it

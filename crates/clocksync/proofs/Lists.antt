@@ -5,7 +5,7 @@ use Prim.Native.Nat.{ℕ, zero, suc, ◌+◌, ◌-◌, ◌≤◌, ◌<◌}
 use native.Mathlib.Nat.{le_of_suc-le-suc, not-suc-le-zero}
 use native.Mathlib.Numerals.{unary_clauses}
 use native.Mathlib.Omega.{arith}
-use lib.ListN.{length, take, drop, get_or, set, replicate, length-append, length-take, length-drop}
+use lib.ListN.{length, take, get_or, set, replicate, length-append, length-take, length-drop}
 use lib.Seq.{slice, take-append_seam}
 use lib.Ieee.{Float, nan}
 use Rattle.timestamp.specs.Floats.{zero64}

@@ -9,7 +9,7 @@ use Rattle.tape.specs.Words.{command_word, steps_on, commands_on}
 use Rattle.tape.specs.Tape.{Puts}
 use Rattle.tape.proofs.Writing.{puts_none, puts_then, puts_as, puts-length}
 use Rattle.tape.proofs.Counting.{steps_on_command, commands_on_command, same_side, other_side}
-use Rattle.command.specs.Entries.{Entry, stamp_in, handle_in, plain_entry}
+use Rattle.command.specs.Entries.{Entry, handle_in}
 use Rattle.command.specs.Lists.{filter_b}
 use Rattle.command.specs.declared.CommandBuffer.{CommandBuffer}
 use Rattle.command.specs.Buffer.{held, command_words}

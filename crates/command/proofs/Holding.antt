@@ -7,7 +7,7 @@ use native.Mathlib.Omega.{arith}
 use lib.ListN.{length, take, length-take}
 use lib.Seq.{take-append_seam}
 use Rattle.timestamp.specs.declared.Timestamp.{Timestamp}
-use Rattle.command.specs.Entries.{Entry, stamp_in, handle_in, plain_entry}
+use Rattle.command.specs.Entries.{Entry}
 use Rattle.command.specs.declared.CommandBuffer.{CommandBuffer}
 use Rattle.command.specs.Buffer.{held, blank, laid, leaving}
 use Rattle.command.specs.Lists.{filter_b}

@@ -8,7 +8,7 @@ use lib.Dec.{ltb}
 use lib.ListN.{length, length-append}
 use borrow.Author.Tests.{ltb-true, ltb-false}
 use Rattle.timestamp.specs.declared.Timestamp.{Timestamp}
-use Rattle.command.specs.Entries.{Entry, stamp_in, handle_in, plain_entry}
+use Rattle.command.specs.Entries.{Entry}
 use Rattle.command.specs.declared.CommandBuffer.{CommandBuffer}
 use Rattle.command.specs.declared.Outcome.TheVariants.{Taken, OutOfRange, Full}
 use Rattle.command.specs.Lists.{filter_b}

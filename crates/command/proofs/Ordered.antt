@@ -9,7 +9,7 @@ use lib.Dec.{leb}
 use borrow.Author.Tests.{le-leb, lt-leb, leb-true}
 use Rattle.timestamp.specs.declared.Timestamp.{Timestamp}
 use Rattle.timestamp.proofs.Tests.{apart, both}
-use Rattle.command.specs.Entries.{Entry, stamp_in, handle_in, plain_entry}
+use Rattle.command.specs.Entries.{Entry, stamp_in}
 use Rattle.command.specs.Lists.{filter_b, all_b}
 use Rattle.command.specs.Buffer.{in_range_of, later_than, placed_of}
 use Rattle.command.specs.Ranks.{rank_of}

@@ -12,7 +12,7 @@ use Rattle.timestamp.specs.declared.Timestamp.{Timestamp}
 use Rattle.timestamp.specs.Timestamps.{difference_of, sum_of, signed_of, in_range}
 use Rattle.timestamp.proofs.Basics.{split}
 use Rattle.timestamp.proofs.Signed.{signed_low, signed_high}
-use Rattle.command.specs.Entries.{Entry, stamp_in, handle_in, plain_entry}
+use Rattle.command.specs.Entries.{Entry, stamp_in}
 use Rattle.command.specs.Buffer.{in_range_of, due_of, later_than}
 use Rattle.command.specs.Ranks.{rank_of, spanned, rank_within}
 

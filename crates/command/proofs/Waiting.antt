@@ -10,7 +10,7 @@ use lib.ListN.{length}
 use borrow.Author.Tests.{le-leb, lt-leb, lt-ltb, eq-eqb, ne_eqb}
 use Rattle.timestamp.specs.declared.Timestamp.{Timestamp}
 use Rattle.timestamp.proofs.Basics.{split}
-use Rattle.command.specs.Entries.{Entry, stamp_in, handle_in, plain_entry}
+use Rattle.command.specs.Entries.{Entry, stamp_in}
 use Rattle.command.specs.declared.CommandBuffer.{CommandBuffer}
 use Rattle.command.specs.Lists.{filter_b}
 use Rattle.command.specs.Buffer.{held, in_range_of, due_of, dropped_of, moved_of, taken_of}

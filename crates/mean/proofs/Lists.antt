@@ -1,5 +1,5 @@
 -- Samples in the slots of an array, and what the loops over them keep. Assumes nothing.
-use Rattle.std.proofs.Common.{◌≡◌, ℕ, suc, ◌+◌, ◌-◌, ◌<◌, ◌≤◌, Bool, true, false, cond, ◌&&◌, List, [], ◌∷◌, ◌++◌, length, get_or, take, drop, set, sym, refl, ap, ◌∙◌, append_assoc, add-one, arith, length-set, drop_of_length-le, length-take, take-suc, take-take, take-suc-set, drop-set-lt}
+use Rattle.std.proofs.Common.{◌≡◌, ℕ, suc, ◌+◌, ◌<◌, ◌≤◌, Bool, true, false, cond, ◌&&◌, List, [], ◌∷◌, ◌++◌, length, get_or, take, drop, set, sym, refl, ap, ◌∙◌, append_assoc, add-one, arith, length-set, drop_of_length-le, length-take, take-suc, take-take, take-suc-set, drop-set-lt}
 use lib.Seq.{slice, slice-cons, drop-append-le, take-set-lt}
 use lib.Ieee.{Float, nan, binary64, lt, add}
 use Rattle.mean.specs.Mean.{sample_inserted, place_of, sorted_onto, sorted_of, sum_from, samples_ok}

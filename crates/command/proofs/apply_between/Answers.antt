@@ -22,12 +22,11 @@ put-p-requires c =
     omega (arith, apply_few c.loop-i.invariant.1)
 
 pub loop-i-preserved-then-ranks_between : goal.loop-i-preserved-then-ranks_between
-loop-i-preserved-then-ranks_between c =
-    (
-      c.loop-i.invariant.0,
-      apply_one c.loop-i.invariant.1 blank (search rules) (cc)
-          (c.command_word.ensures ∙ ap (command_word _) c.handle_of.ensures) c.put-p.ensures,
-    )
+loop-i-preserved-then-ranks_between c = (
+  c.loop-i.invariant.0,
+  apply_one c.loop-i.invariant.1 blank (search rules) (cc)
+      (c.command_word.ensures ∙ ap (command_word _) c.handle_of.ensures) c.put-p.ensures,
+)
 
 pub loop-i-preserved : goal.loop-i-preserved
 loop-i-preserved c = (search rules, apply_skip c.loop-i.invariant.1 blank (search rules) (cc))

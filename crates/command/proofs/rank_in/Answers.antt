@@ -1,5 +1,4 @@
 -- `rank_in` meets its contract. Assumes nothing.
-use Rattle.command.specs.Ranks.{rank_of}
 use Rattle.command.proofs.rank_in.Goals as goal
 
 pub returns : goal.returns

@@ -2,7 +2,6 @@
 use borrow.Author.Rules.{rules}
 use native.Mathlib.Omega.{arith}
 use mathlib.Core.Path.{sym, ◌∙◌}
-use Rattle.command.proofs.Ranks.{rank_in}
 use Rattle.slots_insert.proofs.Shifting.{shift_none, shift_end, shift_stop, shift_next}
 use Rattle.slots_insert.proofs.insert.Goals as goal
 

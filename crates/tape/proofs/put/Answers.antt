@@ -11,8 +11,8 @@ use Rattle.tape.proofs.put.Goals.{then-at-tape, else-at-tape}
 now_is : (c : goal.Joined-at-tape) → c.if-at-tape.tape ≡ written c.args.tape.now c.args.at (c.args.word ∷ [])
 now_is c =
     elim c.if-at-tape.branch [
-      then-at-tape w ↦ w.tape-is ∙ sym (written_one _ _ _)
-    | else-at-tape w ↦ w.tape-is ∙ sym (written_out _ _ _ w.if-at-tape.false)
+      | then-at-tape w ↦ w.tape-is ∙ sym (written_one _ _ _)
+      | else-at-tape w ↦ w.tape-is ∙ sym (written_out _ _ _ w.if-at-tape.false)
     ]
 
 pub shape_of-tape : goal.shape_of-tape

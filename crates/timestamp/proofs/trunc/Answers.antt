@@ -59,8 +59,10 @@ module _ (c : Joined-exponent-lt1023) where
   unfolding s bits
   clears = elim c.if-exponent-lt1023.branch [
     | then-exponent-lt1023 w ↦ inl (omega (arith, field s, w.if-exponent-lt1023.true), omega (arith, w.cleared-is))
-    | else-exponent-lt1023 w ↦ inr (omega (arith, field s, w.if-exponent-lt1023.false),
-      omega (arith, field s, w.if-exponent-lt1023.false, c.if-exponent-gt1075.false, w.cleared-is))
+    | else-exponent-lt1023 w ↦ inr (
+      omega (arith, field s, w.if-exponent-lt1023.false),
+      omega (arith, field s, w.if-exponent-lt1023.false, c.if-exponent-gt1075.false, w.cleared-is),
+    )
   ]
 
   few : c.if-exponent-lt1023.cleared < 64
