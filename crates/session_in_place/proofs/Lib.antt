@@ -2,5 +2,5 @@ pub mod Filling
 pub mod Starting
 pub mod Lending
 pub mod Placing
-pub mod Issuing
-pub mod Reporting
+pub mod IssueWays
+pub mod ReportWays

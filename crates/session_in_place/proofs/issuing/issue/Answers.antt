@@ -1,0 +1,86 @@
+-- `issue` meets its contract: refused before the buffers are looked at, refused by them or by the stage, or received. Assumes nothing.
+use borrow.Author.Rules.{rules}
+use native.Mathlib.Omega.{arith}
+use mathlib.Core.Path.{◌≡◌, refl}
+use lib.ListN.{length}
+use Rattle.command.proofs.Lists.{mapped_length}
+use Rattle.session_in_place.proofs.IssueWays.{issue_refused, ready_of_lem, issue_late, issue_accepted}
+use Rattle.session_in_place.proofs.issuing.issue.Goals as goal
+
+pub returns-then-n-ne-ACCEPTED : goal.returns-then-n-ne-ACCEPTED
+returns-then-n-ne-ACCEPTED c = issue_refused _ _ refl c.sound.ensures c.has_worlds.ensures
+    c.of_issue-n.ensures c.if-n-ne-ACCEPTED.true c.refuse_issue.ensures
+
+pub slice_bounds-receive_command-end : goal.slice_bounds-receive_command-end
+slice_bounds-receive_command-end c =
+    let left-full : length c.args.session.worlds.left.commands.entries ≡ 64 = search (mapped_length, c.well_formed.0.1.1.1.1.1.0.1.1.0.1.1.0.1.1.0.1.0.1) in
+    search (
+  rules,
+  left-full,
+)
+
+pub slice_bounds-receive_command-end-2 : goal.slice_bounds-receive_command-end-2
+slice_bounds-receive_command-end-2 c =
+    let right-full : length c.args.session.worlds.right.commands.entries ≡ 64 = search (mapped_length, c.well_formed.0.1.1.1.1.1.0.1.1.1.0.1.1.0.1.1.0.1.0.1) in
+    search (
+  rules,
+  right-full,
+)
+
+pub slice_bounds-receive_command-end-3 : goal.slice_bounds-receive_command-end-3
+slice_bounds-receive_command-end-3 c =
+    let base-full : length c.args.session.worlds.base.entries ≡ 64 = search (mapped_length, c.well_formed.0.1.1.1.1.1.0.1.1.1.1.1.0.1.1.0.1.0.1) in
+    search (
+  rules,
+  base-full,
+)
+
+pub receive_command-a-requires : goal.receive_command-a-requires
+receive_command-a-requires c =
+    let left-full : length c.args.session.worlds.left.commands.entries ≡ 64 = search (mapped_length, c.well_formed.0.1.1.1.1.1.0.1.1.0.1.1.0.1.1.0.1.0.1) in
+    let right-full : length c.args.session.worlds.right.commands.entries ≡ 64 = search (mapped_length, c.well_formed.0.1.1.1.1.1.0.1.1.1.0.1.1.0.1.1.0.1.0.1) in
+    let base-full : length c.args.session.worlds.base.entries ≡ 64 = search (mapped_length, c.well_formed.0.1.1.1.1.1.0.1.1.1.1.1.0.1.1.0.1.0.1) in
+    ready_of_lem
+    c.args.session
+    c.args.handle refl
+    c.sound.ensures
+    c.has_worlds.ensures
+    c.of_issue-n.ensures
+    c.if-n-ne-ACCEPTED.false
+    (record {
+      left = left-full;
+      right = right-full;
+      base = base-full;
+    }) c.state_of-s.ensures
+    c.unarrived.ensures c.midpoints.ensures
+
+pub returns-then-m-ne-ACCEPTED : goal.returns-then-m-ne-ACCEPTED
+returns-then-m-ne-ACCEPTED c = issue_late _ _ refl
+    c.sound.ensures
+    c.has_worlds.ensures
+    c.of_issue-n.ensures
+    c.if-n-ne-ACCEPTED.false
+    c.state_of-s.ensures c.old_world-old.ensures
+    c.add-stamp.ensures
+    c.entry_of.ensures
+    c.unarrived.ensures
+    c.midpoints.ensures
+    c.receive_command-a.ensures c.is_ready.ensures
+    c.of_issue-m.ensures
+    c.if-m-ne-ACCEPTED.true c.refuse_issue-then-m-ne-ACCEPTED.ensures
+
+pub returns : goal.returns
+returns c = issue_accepted _ _ refl
+    c.sound.ensures
+    c.has_worlds.ensures
+    c.of_issue-n.ensures
+    c.if-n-ne-ACCEPTED.false
+    c.state_of-s.ensures
+    c.old_world-old.ensures
+    c.add-stamp.ensures c.entry_of.ensures c.unarrived.ensures c.midpoints.ensures c.receive_command-a.ensures
+    c.is_ready.ensures c.of_issue-m.ensures
+    (omega (
+      arith,
+      c.add-stamp.ensures,
+    )) c.if-m-ne-ACCEPTED.false c.state_after.ensures
+    c.session_of-next.ensures c.accept_issue.ensures
