@@ -1,6 +1,6 @@
 -- A level frame: both worlds make one step that moves their stamps only. Assumes nothing.
 use Rattle.std.proofs.Common.{◌≡◌, ℕ, zero, suc, ◌+◌, ◌%◌, ◌^◌, Bool, true, false, cond, not, ◌&&◌, eqb, List, [], ◌∷◌, sym, refl, ap, ◌∙◌, arith, eq-eqb, ne_eqb, eqb-true}
-use lib.Ieee.{Float, binary64, add, eq}
+use lib.Ieee.{Float, binary64, add}
 use borrow.Author.Tests.{eqb-false, not-true}
 use Rattle.timestamp.specs.declared.Timestamp.{Timestamp}
 use Rattle.timestamp.specs.declared.Ordering.{Ordering}

@@ -1,7 +1,6 @@
 -- The scene that numbers, ledgers and three lent buffers stand for, and what a frame and a skip of it leave in the code's hands.
 -- Definitions only. Assumes nothing.
-use Rattle.std.specs.Prelude.{ℕ, Bool, cond, List, ◌≡◌, eqb, length}
-use Rattle.refusals.specs.Limits.{buffer_room}
+use Rattle.std.specs.Prelude.{ℕ, Bool, cond, List, ◌≡◌, eqb}
 use Rattle.timestamp.specs.declared.Timestamp.{Timestamp}
 use Rattle.tape.specs.Tape.{Puts}
 use Rattle.command.specs.declared.CommandBuffer.{CommandBuffer}

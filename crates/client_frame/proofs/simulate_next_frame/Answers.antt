@@ -10,8 +10,7 @@ catch_up-requires c =
     let starts-few : Few c.args.s.worlds = let l = c.well_formed.0.1.1.0.1.1.0.1.1.0.1.1.0.1.0.1 in
     let r = c.well_formed.0.1.1.0.1.1.1.0.1.1.0.1.1.0.1.0.1 in
     let b = c.well_formed.0.1.1.0.1.1.1.1.1.0.1.1.0.1.0.1 in
-    few_slots _ (search mapped_length) (search mapped_length) (search mapped_length) in
-    (
+    few_slots _ (search mapped_length) (search mapped_length) (search mapped_length) in (
       omega (arith, c.step_side-a.ensures.puts.at, (stepped_short c.args.s c.old_side.result starts-few).words, c.requires.0),
       omega (arith, c.requires.1),
     )

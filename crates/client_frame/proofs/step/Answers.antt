@@ -1,5 +1,5 @@
 -- `step` meets its contract: the frame by its parts. Assumes nothing.
-use Rattle.std.proofs.Common.{sym, arith, rules}
+use Rattle.std.proofs.Common.{sym, arith}
 use Rattle.command.proofs.Lists.{mapped_length}
 use Rattle.client_frame.proofs.Bounds.{Few, few_slots, opened_short}
 use Rattle.client_frame.proofs.Framing.{frame_plays}
@@ -10,8 +10,7 @@ show-b-requires c =
     let starts-few : Few c.args.s.worlds = let l = c.well_formed.0.1.1.0.1.1.0.1.1.0.1.1.0.1.0.1 in
     let r = c.well_formed.0.1.1.0.1.1.1.0.1.1.0.1.1.0.1.0.1 in
     let b = c.well_formed.0.1.1.0.1.1.1.1.1.0.1.1.0.1.0.1 in
-    few_slots _ (search mapped_length) (search mapped_length) (search mapped_length) in
-    (
+    few_slots _ (search mapped_length) (search mapped_length) (search mapped_length) in (
       omega (
         arith,
         c.open-a.ensures.puts.at,
