@@ -186,7 +186,8 @@ pub fn trunc(x: f64) -> f64
         return x;
     }
     // the number of bits to clear: below 1 in size all but the sign's
-    let cleared = if exponent < 1023 {
+    let below_one = exponent < 1023;
+    let cleared = if below_one {
         63
     } else {
         52 - (exponent - 1023)

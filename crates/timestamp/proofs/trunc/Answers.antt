@@ -7,7 +7,7 @@ use lib.Ieee.Compare.{differs_from_itself}
 use Rattle.timestamp.specs.Whole.{trunc_of}
 use Rattle.timestamp.proofs.Cleared.{expo, Clears, clears_lt, shifted_whole, shifted_no_nan, large}
 use Rattle.timestamp.proofs.trunc.Goals as goal
-use Rattle.timestamp.proofs.trunc.Goals.{Joined-exponent-lt1023, Start, then-exponent-lt1023, else-exponent-lt1023}
+use Rattle.timestamp.proofs.trunc.Goals.{Joined-below_one, Start, then-below_one, else-below_one}
 
 nan-stays : (x : Float) → ne x x ≡ true → x ≡ trunc_of x
 unfolding trunc_of
@@ -50,23 +50,23 @@ returns-then-exponent-gt1075 c =
     sym (is s) ∙ large (bits s) (omega (arith, field s, c.if-exponent-gt1075.true)) ∙ ap trunc_of (is s)
 
 -- ---- up to 2 ^ 53
-module _ (c : Joined-exponent-lt1023) where
+module _ (c : Joined-below_one) where
   s : Start
   s = c.before.before.before
 
   -- the number of bits that are shifted out is right
-  clears : Clears (bits s) c.if-exponent-lt1023.cleared
+  clears : Clears (bits s) c.if-below_one.cleared
   unfolding s bits
-  clears = elim c.if-exponent-lt1023.branch [
-    | then-exponent-lt1023 w ↦ inl (omega (arith, field s, w.if-exponent-lt1023.true), omega (arith, w.cleared-is))
-    | else-exponent-lt1023 w ↦ inr (
-      omega (arith, field s, w.if-exponent-lt1023.false),
-      omega (arith, field s, w.if-exponent-lt1023.false, c.if-exponent-gt1075.false, w.cleared-is),
+  clears = elim c.if-below_one.branch [
+    | then-below_one w ↦ inl (omega (arith, field s, w.if-below_one.true), omega (arith, w.cleared-is))
+    | else-below_one w ↦ inr (
+      omega (arith, field s, w.if-below_one.false),
+      omega (arith, field s, w.if-below_one.false, c.if-exponent-gt1075.false, w.cleared-is),
     )
   ]
 
-  few : c.if-exponent-lt1023.cleared < 64
-  few = clears_lt (bits s) c.if-exponent-lt1023.cleared clears
+  few : c.if-below_one.cleared < 64
+  few = clears_lt (bits s) c.if-below_one.cleared clears
 
 pub overflow_shr-result : goal.overflow_shr-result
 overflow_shr-result c = few c.before
@@ -76,9 +76,9 @@ overflow_shl-result c = few c.before
 
 pub float_from_bits-result : goal.float_from_bits-result
 unfolding bits s
-float_from_bits-result c = shifted_no_nan (bits (s c.before)) c.if-exponent-lt1023.cleared (within (s c.before)) (clears c.before)
+float_from_bits-result c = shifted_no_nan (bits (s c.before)) c.if-below_one.cleared (within (s c.before)) (clears c.before)
 
 pub returns : goal.returns
 unfolding bits s
 returns c =
-    shifted_whole (bits (s c.before)) c.if-exponent-lt1023.cleared (within (s c.before)) (clears c.before) ∙ ap trunc_of (is (s c.before))
+    shifted_whole (bits (s c.before)) c.if-below_one.cleared (within (s c.before)) (clears c.before) ∙ ap trunc_of (is (s c.before))
