@@ -5,12 +5,12 @@
 ghost use Rattle.std.specs.Prelude.{◌<◌};
 
 use client::{DisplayTime, ReconciliationStatus};
-use libc::{STDIN_FILENO, STDOUT_FILENO};
 use session::calls;
 use session_answers::UpdateAnswer;
 use session_report::ReportAnswer;
 use session_state::Session;
 use settings::{Settings, TweeningMethod};
+use std::io::{Read, Result, Stdin, Stdout, Write};
 use timestamp::Timestamp;
 
 // The words of a script.
@@ -229,17 +229,25 @@ fn lay_out(script: &mut Script, bytes: &Bytes, count: usize) {
     }
 }
 
-// Reads the bytes of a script. Gives how many there are.
-fn read_bytes(bytes: &mut Bytes) -> usize {
-    io::read_full(STDIN_FILENO, bytes)
+// Reads the bytes of a script, as many as there is room for. Gives how many there are.
+fn read_bytes(stdin: &mut Stdin, bytes: &mut Bytes) -> Result<usize> {
+    let mut done: usize = 0;
+    while done < 1048576 {
+        let n = stdin.read(&mut bytes[done..])?;
+        if n == 0 {
+            return Ok(done);
+        }
+        done += n;
+    }
+    Ok(done)
 }
 
 // Reads the script. Gives how many words it has.
-fn read_script(script: &mut Script) -> usize {
+fn read_script(stdin: &mut Stdin, script: &mut Script) -> Result<usize> {
     let mut bytes = [0u8; 1048576];
-    let count = read_bytes(&mut bytes) / 4;
+    let count = read_bytes(stdin, &mut bytes)? / 4;
     lay_out(script, &bytes, count);
-    count
+    Ok(count)
 }
 
 // Plays the script as often as it says.
@@ -257,18 +265,20 @@ fn play_all(script: &Script, length: usize, tape: &mut Tape) -> Sums {
 }
 
 // Writes a number in hexadecimal.
-fn write_hex(v: u64) {
+fn write_hex(stdout: &mut Stdout, v: u64) -> Result<()> {
     let mut digits = [0u8; 16];
     let n = io::hex(v, 16, &mut digits);
-    io::write_all(STDOUT_FILENO, &digits[..n]);
+    stdout.write_all(&digits[..n])
 }
 
-fn main() {
+fn main(rt: HostRuntime) -> Result<()> {
+    let mut stdin = rt.stdin();
+    let mut stdout = rt.stdout();
     let mut script = [0u32; 262144];
     let mut tape = [0u32; 256];
-    let length = read_script(&mut script);
+    let length = read_script(&mut stdin, &mut script)?;
     let sums = play_all(&script, length, &mut tape);
-    write_hex(sums.first);
-    write_hex(sums.second);
-    io::write_all(STDOUT_FILENO, b"\n");
+    write_hex(&mut stdout, sums.first)?;
+    write_hex(&mut stdout, sums.second)?;
+    stdout.write_all(b"\n")
 }

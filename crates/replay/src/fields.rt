@@ -1,7 +1,7 @@
 // The fields of a line: what a field's bytes say as a name, as hexadecimal digits and as a decimal number.
 use super::input::{Cursor, In, next};
 
-// A field that was read. `end` is the byte after it: a space, a line end or 256, the end of the input.
+// A field that was read. `end` is the byte after it: a space, a line end, 256, the end of the input, or 257, that a read failed.
 #[derive(Clone, Copy)]
 pub struct Field {
     pub end: u32,
@@ -268,12 +268,12 @@ fn value_of(f: Field, kind: u8) -> Value {
     stamp_of(f)
 }
 
-// Whether a byte ends a line.
+// Whether a byte ends a line. A read that failed does not: the line is cut short there.
 pub(crate) fn ends_line(b: u32) -> bool {
     if b == 10 {
         return true;
     }
-    b >= 256
+    b == 256
 }
 
 // The fields of these kinds, at most 11. `end` is the byte that ended the field before them: there are more only after a space.

@@ -1,8 +1,13 @@
-// Standard input, byte by byte, through a buffer that the caller keeps.
-use libc::STDIN_FILENO;
+// Standard input, byte by byte, through a buffer.
+use std::io::{Error, Read, Result, Stdin};
 
-// The bytes that were read last.
-pub type In = [u8; 65536];
+// Standard input, the bytes that were read last, and how a read failed. Nothing is read after that.
+#[derive(Drop)]
+pub struct In {
+    stdin: Stdin,
+    bytes: [u8; 65536],
+    failure: Option<Error>,
+}
 
 // The place of the next byte in the buffer, and the end of what was read into it.
 #[derive(Clone, Copy)]
@@ -11,18 +16,44 @@ pub struct Cursor {
     pub end: usize,
 }
 
-// A byte and the cursor after it. 256 is the end of the input.
+// A byte and the cursor after it. 256 is the end of the input, and 257 that a read failed.
 #[derive(Clone, Copy)]
 pub struct NextByte {
     pub cursor: Cursor,
     pub byte: u32,
 }
 
-// Reads on where the buffer is used up. A read that fails counts as the end.
+// Standard input, of which nothing is read yet.
+pub(crate) fn from_start(stdin: Stdin) -> In {
+    In {
+        stdin,
+        bytes: [0; 65536],
+        failure: None,
+    }
+}
+
+// Whether every read went well.
+pub(crate) fn is_well(input: &In) -> bool {
+    input.failure.is_none()
+}
+
+// How a read failed, if one did.
+pub(crate) fn outcome(input: &In) -> Result<()> {
+    match input.failure {
+        Some(e) => Err(e),
+        None => Ok(()),
+    }
+}
+
+// Reads on where the buffer is used up.
 fn refill(input: &mut In) -> Cursor {
-    let got = libc::read(STDIN_FILENO, input);
-    let n = io::count(got, input);
-    Cursor { at: 0, end: n }
+    if is_well(input) {
+        match input.stdin.read(&mut input.bytes) {
+            Ok(n) => return Cursor { at: 0, end: n },
+            Err(e) => input.failure = Some(e),
+        }
+    }
+    Cursor { at: 0, end: 0 }
 }
 
 // A byte as a number that has room for the end of the input too.
@@ -30,27 +61,27 @@ fn wide(b: u8) -> u32 {
     b as u32
 }
 
+// What stands for a byte past the last.
+fn past(input: &In, c: Cursor) -> NextByte {
+    let byte = if is_well(input) { 256 } else { 257 };
+    NextByte { cursor: c, byte }
+}
+
 // The byte at a place of the buffer; the end of the input past its end.
 fn taken(input: &In, c: Cursor) -> NextByte {
     let at = c.at;
     if at >= 65536 {
-        return NextByte {
-            cursor: c,
-            byte: 256,
-        };
+        return past(input, c);
     }
     if at >= c.end {
-        return NextByte {
-            cursor: c,
-            byte: 256,
-        };
+        return past(input, c);
     }
     NextByte {
         cursor: Cursor {
             at: at + 1,
             end: c.end,
         },
-        byte: wide(input[at]),
+        byte: wide(input.bytes[at]),
     }
 }
 

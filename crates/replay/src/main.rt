@@ -16,6 +16,7 @@ use lines::{Line, Place};
 use output::Out;
 use session_calls::{Player, Tape, Words};
 use session_state::Session;
+use std::io::Result;
 
 // Passes over what is left of a comment.
 fn pass_over(p: Place, end: u32, input: &mut In) -> Place {
@@ -89,15 +90,15 @@ fn play_next(
     play_call(p, l, f, at, words, tape, out)
 }
 
-// After the last line: a line that is no call is named.
-fn ended(p: Place, line: u64, out: &mut Out) -> usize {
-    if p.bad {
+// After the last line: a line that is no call is named, unless a read failed in it.
+fn ended(p: Place, line: u64, input: &In, out: &mut Out) -> usize {
+    if p.bad && input::is_well(input) {
         return answers::bad_call(out, p.at, line);
     }
     p.at
 }
 
-// Plays the lines of the input in order. A line that is no call ends the run.
+// Plays the lines of the input in order. A line that is no call ends the run, and so does a read or a write that fails.
 fn play(input: &mut In, words: &mut Words, tape: &mut Tape, out: &mut Out) -> usize {
     let mut p = Player {
         session: session_calls::no_session(),
@@ -109,19 +110,20 @@ fn play(input: &mut In, words: &mut Words, tape: &mut Tape, out: &mut Out) -> us
         let q = play_next(p, input, words, tape, out);
         p = q;
         let place = p.place;
-        if !place.going {
-            return ended(place, line, out);
+        if !place.going || !output::is_well(out) {
+            return ended(place, line, input, out);
         }
     }
     0
 }
 
-// Lays out the buffers, plays, and writes out what is left.
-fn main() {
-    let mut input = [0u8; 65536];
+// Lays out the buffers, plays, and writes out what is left. A read or a write that failed is the error.
+fn main(rt: HostRuntime) -> Result<()> {
+    let mut input = input::from_start(rt.stdin());
     let mut words = [0u32; 4097];
     let mut tape = [0u32; 65536];
-    let mut out = [0u8; 65536];
+    let mut out = output::from_start(rt.stdout());
     let n = play(&mut input, &mut words, &mut tape, &mut out);
-    output::flush(&out, n);
+    output::flush(&mut out, n)?;
+    input::outcome(&input)
 }

@@ -1,31 +1,56 @@
-// Standard output, through a buffer that the caller keeps. Each function takes the next place in the buffer and returns it.
-use libc::STDOUT_FILENO;
+// Standard output, through a buffer. Each function takes the next place in the buffer and returns it.
+use std::io::{Error, Result, Stdout, Write};
 use timestamp::Timestamp;
 
-// The bytes that wait to be written.
-pub type Out = [u8; 65536];
+// Standard output, the bytes that wait to be written, and how a write failed. Nothing is written after that.
+#[derive(Drop)]
+pub struct Out {
+    stdout: Stdout,
+    bytes: [u8; 65536],
+    failure: Option<Error>,
+}
+
+// Standard output, to which nothing is written yet.
+pub(crate) fn from_start(stdout: Stdout) -> Out {
+    Out {
+        stdout,
+        bytes: [0; 65536],
+        failure: None,
+    }
+}
+
+// Whether every write went well.
+pub(crate) fn is_well(out: &Out) -> bool {
+    out.failure.is_none()
+}
+
+// Writes out the first bytes of the buffer.
+fn write_first(out: &mut Out, count: usize) {
+    if is_well(out) && count <= 65536 {
+        if let Err(e) = out.stdout.write_all(&out.bytes[..count]) {
+            out.failure = Some(e);
+        }
+    }
+}
 
 // One byte. A full buffer is written out first.
 pub(crate) fn byte(out: &mut Out, at: usize, b: u8) -> usize {
     if at < 65536 {
-        out[at] = b;
+        out.bytes[at] = b;
         return at + 1;
     }
-    io::write_all(STDOUT_FILENO, out);
-    out[0] = b;
+    write_first(out, 65536);
+    out.bytes[0] = b;
     1
 }
 
-// Writes out the first bytes of some.
-fn write_first(bytes: &[u8], count: usize) {
-    if count <= bytes.len() {
-        io::write_all(STDOUT_FILENO, &bytes[..count]);
-    }
-}
-
-// Writes out what the buffer holds.
-pub(crate) fn flush(out: &Out, at: usize) {
+// Writes out what the buffer holds, and gives how a write failed, if one did.
+pub(crate) fn flush(out: &mut Out, at: usize) -> Result<()> {
     write_first(out, at);
+    match out.failure {
+        Some(e) => Err(e),
+        None => Ok(()),
+    }
 }
 
 // Some bytes.

@@ -74,7 +74,7 @@ fn read_words(input: &mut In, c: Cursor, end: u32, words: &mut Words) -> ReadWor
         if last != 32 {
             return ReadWords {
                 cursor,
-                ok: true,
+                ok: fields::ends_line(last),
                 count,
             };
         }
