@@ -1,4 +1,4 @@
-// What hosts in C and Rust call directly: functions on numbers and bytes, exported under C names with the library's prefix.
+// What hosts in C and Rust call directly: functions on numbers and bytes, which `host_c` exports under the same names.
 // The header include/kadwunge.h declares them. Every argument is answered; none is required to be anything.
 #![tactic(auto)]
 
@@ -36,8 +36,7 @@ pub struct HostSpanFrames {
 }
 
 // The order of two stamps, the first against the second: -1, 0 or 1.
-#[unsafe(no_mangle)]
-pub extern "C" fn kadwunge_stamp_order(first: i16, second: i16) -> i32
+pub fn kadwunge_stamp_order(first: i16, second: i16) -> i32
     ensures { result ≡ order_number (order_of (bits_of first) (bits_of second)) }
 {
     match Timestamp::from_value(first).cmp(Timestamp::from_value(second)) {
@@ -48,8 +47,7 @@ pub extern "C" fn kadwunge_stamp_order(first: i16, second: i16) -> i32
 }
 
 // The stamp of the frame at a time, cut toward zero, as a signed number; 65,537 for a timestep out of range, else 65,538 for seconds out of range.
-#[unsafe(no_mangle)]
-pub extern "C" fn kadwunge_frame_stamp(seconds: f64, timestep: f64) -> i32
+pub fn kadwunge_frame_stamp(seconds: f64, timestep: f64) -> i32
     ensures { result ≡ frame_stamp_of seconds timestep }
 {
     if settings::within(0.0009765625, 1.0, timestep) {
@@ -62,8 +60,7 @@ pub extern "C" fn kadwunge_frame_stamp(seconds: f64, timestep: f64) -> i32
 }
 
 // The whole frames of a span of microseconds at p over q frames a second, and the remainder; or 31, both being 0 then.
-#[unsafe(no_mangle)]
-pub extern "C" fn kadwunge_frames_of_span(span: u64, p: u32, q: u32) -> HostSpanFrames
+pub fn kadwunge_frames_of_span(span: u64, p: u32, q: u32) -> HostSpanFrames
     ensures { result ≡ host_span_of (span_frames_of span p q) }
 {
     let a = film_rate::frames_of_span(span, p, q);
@@ -77,13 +74,7 @@ pub extern "C" fn kadwunge_frames_of_span(span: u64, p: u32, q: u32) -> HostSpan
 
 // The mean of samples, given as bytes, 8 a sample, low byte first: 0, and the mean in the 8 bytes of the answer. Or 1 where samples needed or
 // rate are out of range, else 8 where the bytes are not the samples to store or the answer has no 8 bytes; the answer is zeroed then.
-#[unsafe(no_mangle)]
-pub extern "C" fn kadwunge_mean_of_samples(
-    needed: u32,
-    rate: f64,
-    samples: &[u8],
-    answer: &mut [u8],
-) -> u32
+pub fn kadwunge_mean_of_samples(needed: u32, rate: f64, samples: &[u8], answer: &mut [u8]) -> u32
     ensures { AnswersMean needed rate samples.now (length answer.old) result answer.new }
 {
     match mean_of_bytes(needed, rate, samples, answer.len()) {
