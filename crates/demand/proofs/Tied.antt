@@ -1,6 +1,5 @@
 -- The calls of demand 3 are those of the code: what the contract of each call says, as the check reads it, is what `Answered` asks, and what the types of
 -- update's parameters say, as the check reads them, is what `Typed` asks. Assumes nothing.
-use mathlib.Core.Path.{sym, ◌∙◌}
 use mathlib.Core.List.{List}
 use mir.Val.{Val}
 use contract.Lifetimes.{Lfts}

@@ -1,11 +1,10 @@
 -- What an update ends with, over lent slots: by the calls that make it. Assumes nothing.
-use mathlib.Core.Path.{◌≡◌, refl, ap, ◌∙◌}
+use mathlib.Core.Path.{◌≡◌, ap, ◌∙◌}
 use mathlib.Core.List.{List}
 use Prim.Native.Nat.{ℕ}
 use lib.Ieee.{Float}
 use Rattle.timestamp.specs.Floats.{tween_of}
 use Rattle.timestamp.specs.Timestamps.{bits_of}
-use Rattle.timestamp.specs.declared.Timestamp.{Timestamp}
 use Rattle.settings.specs.declared.Settings.{Settings}
 use Rattle.settings.specs.Settings.{lag_frame_count_of}
 use Rattle.settings.specs.Tweening.{shaped_of}
@@ -17,7 +16,7 @@ use Rattle.client.specs.declared.LastStamp.{LastStamp}
 use Rattle.client.specs.declared.Published.{Published}
 use Rattle.client.specs.declared.Snapshots.{Snapshots}
 use Rattle.client.specs.Sides.{old_stamp_of}
-use Rattle.client_publish.specs.Ending.{displayed_of, revised_of, ending_with, post_update_of}
+use Rattle.client_publish.specs.Ending.{displayed_of, revised_of, post_update_of}
 use Rattle.play.specs.Scenes.{scene_at, scene_with}
 use Rattle.frames.specs.declared.Advanced.{Advanced}
 use Rattle.frames.proofs.Over.{old_at}

@@ -8,8 +8,7 @@ use mathlib.Core.List.{List}
 use Prim.Native.Nat.{ℕ, ◌≤◌}
 use native.Mathlib.Omega.{arith}
 use lib.Dec.{eqb}
-use lib.ListN.{length, take, length-take}
-use Rattle.refusals.specs.Limits.{buffer_room}
+use lib.ListN.{length, length-take}
 use Rattle.timestamp.specs.declared.Timestamp.{Timestamp}
 use Rattle.command.specs.Entries.{Entry}
 use Rattle.command.specs.Slots.{buffer_at, Lent}

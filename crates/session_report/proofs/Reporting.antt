@@ -2,10 +2,9 @@
 use Prim.{⊥}
 use mathlib.Core.Path.{◌≡◌, ap, sym, ◌∙◌}
 use mathlib.Core.Bool.{Bool, cond}
-use Prim.Native.Nat.{ℕ, ◌-◌}
-use lib.Dec.{eqb}
+use Prim.Native.Nat.{ℕ}
 use borrow.Author.Tests.{eq-eqb, ne_eqb}
-use Rattle.refusals.specs.Refusals.{accepted, report_refusal_by}
+use Rattle.refusals.specs.Refusals.{report_refusal_by}
 use Rattle.session_state.specs.declared.Session.{Session}
 use Rattle.session_state.specs.Session.{has_worlds}
 use Rattle.session_state.specs.Sound.{sound_of}

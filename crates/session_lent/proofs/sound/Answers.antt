@@ -10,33 +10,33 @@ pub slice_bounds-is_sound-end : goal.slice_bounds-is_sound-end
 slice_bounds-is_sound-end c =
     let samples-full : length c.args.s.clock.samples ≡ 64 = search (mapped_length, c.well_formed.0.1.1.1.1.0.1.1.1.0.1.0.1) in
     search (
-  rules,
-  samples-full,
-)
+      rules,
+      samples-full,
+    )
 
 pub slice_bounds-is_sound-end-2 : goal.slice_bounds-is_sound-end-2
 slice_bounds-is_sound-end-2 c =
     let left-full : length c.args.s.worlds.left.commands.entries ≡ 64 = search (mapped_length, c.well_formed.0.1.1.1.1.1.0.1.1.0.1.1.0.1.1.0.1.0.1) in
     search (
-  rules,
-  left-full,
-)
+      rules,
+      left-full,
+    )
 
 pub slice_bounds-is_sound-end-3 : goal.slice_bounds-is_sound-end-3
 slice_bounds-is_sound-end-3 c =
     let right-full : length c.args.s.worlds.right.commands.entries ≡ 64 = search (mapped_length, c.well_formed.0.1.1.1.1.1.0.1.1.1.0.1.1.0.1.1.0.1.0.1) in
     search (
-  rules,
-  right-full,
-)
+      rules,
+      right-full,
+    )
 
 pub slice_bounds-is_sound-end-4 : goal.slice_bounds-is_sound-end-4
 slice_bounds-is_sound-end-4 c =
     let base-full : length c.args.s.worlds.base.entries ≡ 64 = search (mapped_length, c.well_formed.0.1.1.1.1.1.0.1.1.1.1.1.0.1.1.0.1.0.1) in
     search (
-  rules,
-  base-full,
-)
+      rules,
+      base-full,
+    )
 
 pub is_sound-requires : goal.is_sound-requires
 is_sound-requires c =
