@@ -37,14 +37,14 @@ trunc_at (inf t) s a c C v = absurd v
 trunc_at (fin t m e) s a c C v = λ i. round binary64 (v.0 i) (div_same (m * up e) (down e) a c (down_pos e) C v.1 i) 1
 
 -- the sign's bit of a pattern
-abbrev sign : ℕ → Bool
+abbrev pub sign : ℕ → Bool
 sign b = leb (2 ^ 63) b
 
 -- the exponent's field of a pattern
 abbrev pub expo : ℕ → ℕ
 expo b = b / 2 ^ 52 % 2 ^ 11
 
-of_bits_is : (b : ℕ) → of_bits binary64 b ≡ of_fields binary64 (sign b) (expo b) (b % 2 ^ 52)
+pub of_bits_is : (b : ℕ) → of_bits binary64 b ≡ of_fields binary64 (sign b) (expo b) (b % 2 ^ 52)
 unfolding of_bits
 of_bits_is b = ap (λ (x : ℕ). of_fields binary64 (sign b) x (b % 2 ^ 52)) (field b 11 52)
 
@@ -52,7 +52,7 @@ under_ones : (s : Bool) (t x : ℕ) → suc x < 2047 → of_fields binary64 s (s
 unfolding of_fields
 under_ones s t x h = ap (λ (b : Bool). cond b (cond (eqb t 0) (inf s) nan) (odd 53 s (2 ^ 52 + t) x 1074)) (ne_eqb (suc x) 2047 (omega arith))
 
-at_ones : (s : Bool) (t : ℕ) → of_fields binary64 s 2047 t ≡ cond (eqb t 0) (inf s) nan
+pub at_ones : (s : Bool) (t : ℕ) → of_fields binary64 s 2047 t ≡ cond (eqb t 0) (inf s) nan
 unfolding of_fields
 at_ones s t = refl
 
@@ -61,14 +61,14 @@ unfolding of_fields
 at_none s t = refl
 
 -- the value of a pattern whose exponent's field is neither 0 nor all ones
-normal_value : (b x : ℕ) → expo b ≡ suc x → suc x < 2047 → HasValue (of_bits binary64 b) (sign b) ((2 ^ 52 + b % 2 ^ 52) * 2 ^ x) (2 ^ 1074)
+pub normal_value : (b x : ℕ) → expo b ≡ suc x → suc x < 2047 → HasValue (of_bits binary64 b) (sign b) ((2 ^ 52 + b % 2 ^ 52) * 2 ^ x) (2 ^ 1074)
 normal_value b x e h =
     subst (λ (v : Float). HasValue v (sign b) ((2 ^ 52 + b % 2 ^ 52) * 2 ^ x) (2 ^ 1074))
     (sym (of_bits_is b ∙ ap (λ (n : ℕ). of_fields binary64 (sign b) n (b % 2 ^ 52)) e ∙ under_ones (sign b) (b % 2 ^ 52) x h))
     (odd_sign 53 (sign b) (2 ^ 52 + b % 2 ^ 52) x 1074)
 
 -- and of one whose field is 0
-low_value : (b : ℕ) → expo b ≡ 0 → HasValue (of_bits binary64 b) (sign b) (b % 2 ^ 52 * 2 ^ 0) (2 ^ 1074)
+pub low_value : (b : ℕ) → expo b ≡ 0 → HasValue (of_bits binary64 b) (sign b) (b % 2 ^ 52 * 2 ^ 0) (2 ^ 1074)
 low_value b e =
     subst (λ (v : Float). HasValue v (sign b) (b % 2 ^ 52 * 2 ^ 0) (2 ^ 1074))
     (sym (of_bits_is b ∙ ap (λ (n : ℕ). of_fields binary64 (sign b) n (b % 2 ^ 52)) e ∙ at_none (sign b) (b % 2 ^ 52)))
@@ -91,7 +91,7 @@ module _ (b g h : ℕ) (G : 0 < g) (hg : h * g ≡ 2 ^ 52) where
   low_lt : b % 2 ^ 52 / g * g < 2 ^ 52
   low_lt = lt_of_le_of_lt (div-mul-le_self (b % 2 ^ 52) g) (mod-lt b (lit< tt))
 
-  cleared : b / g * g ≡ b / 2 ^ 52 * 2 ^ 52 + b % 2 ^ 52 / g * g
+  pub cleared : b / g * g ≡ b / 2 ^ 52 * 2 ^ 52 + b % 2 ^ 52 / g * g
   cleared =
       let e : b ≡ b % 2 ^ 52 + b / 2 ^ 52 * h * g = sym (div-add-mod' b (2 ^ 52)) ∙ add_comm (b / 2 ^ 52 * 2 ^ 52) (b % 2 ^ 52)
       ∙ ap (λ (z : ℕ). b % 2 ^ 52 + z) (ap (λ (z : ℕ). b / 2 ^ 52 * z) (sym hg) ∙ sym (mul_assoc (b / 2 ^ 52) h g)) in
@@ -102,14 +102,14 @@ module _ (b g h : ℕ) (G : 0 < g) (hg : h * g ≡ 2 ^ 52) where
       ∙ ap (λ (z : ℕ). z + b % 2 ^ 52 / g * g) (mul_assoc (b / 2 ^ 52) h g ∙ ap (λ (z : ℕ). b / 2 ^ 52 * z) hg)
 
   -- clearing low bits leaves those from bit 52 up
-  cleared_high : b / g * g / 2 ^ 52 ≡ b / 2 ^ 52
+  pub cleared_high : b / g * g / 2 ^ 52 ≡ b / 2 ^ 52
   cleared_high = ap (λ (z : ℕ). z / 2 ^ 52) cleared ∙ digits_div (b / 2 ^ 52) low_lt
 
   -- and clears them in the digits
-  cleared_low : b / g * g % 2 ^ 52 ≡ b % 2 ^ 52 / g * g
+  pub cleared_low : b / g * g % 2 ^ 52 ≡ b % 2 ^ 52 / g * g
   cleared_low = ap (λ (z : ℕ). z % 2 ^ 52) cleared ∙ digits_mod (b / 2 ^ 52) low_lt
 
-by_high : (b c : ℕ) → b / 2 ^ 52 ≡ c / 2 ^ 52 → sign b ≡ sign c
+pub by_high : (b c : ℕ) → b / 2 ^ 52 ≡ c / 2 ^ 52 → sign b ≡ sign c
 by_high b c e = elim (split b (2 ^ 63)) [
   | inl l ↦ lt-leb (2 ^ 63) b l ∙ sym (lt-leb (2 ^ 63) c (omega arith))
   | inr l ↦ le-leb (2 ^ 63) b l ∙ sym (le-leb (2 ^ 63) c (omega arith))
@@ -181,7 +181,7 @@ module _ (b k : ℕ) (below : k + expo b ≡ 1075) (K : k ≤ 52) where
       is_whole b (b / 2 ^ k * 2 ^ k) ((2 ^ 52 + b % 2 ^ 52) * 2 ^ scale) N (normal_value b scale scale_is X) whole_part cleared_value
       (round_whole binary64 (sign b) N N-le)
 
-zero_of : (s : Bool) → round binary64 s 0 1 ≡ fin s 0 (pos 0)
+pub zero_of : (s : Bool) → round binary64 s 0 1 ≡ fin s 0 (pos 0)
 unfolding round
 zero_of true = refl
 zero_of false = refl
@@ -203,7 +203,7 @@ below_one b h = go (expo b) refl
         ∙ ap (λ (z : ℕ). round binary64 (sign b) z 1) (div-eq_of_lt r)
         ∙ zero_of (sign b)
 
-sign_bit : (b : ℕ) → b < 2 ^ 64 → of_bits binary64 (b / 2 ^ 63 * 2 ^ 63) ≡ fin (sign b) 0 (pos 0)
+pub sign_bit : (b : ℕ) → b < 2 ^ 64 → of_bits binary64 (b / 2 ^ 63 * 2 ^ 63) ≡ fin (sign b) 0 (pos 0)
 unfolding of_bits
 sign_bit b h = elim (split b (2 ^ 63)) [
   | inl l ↦
@@ -232,7 +232,7 @@ clears_lt b k w = elim w [
 ]
 
 -- what k bits were shifted out of is within 64 bits once it is shifted back
-shifted_back : (b k : ℕ) → b < 2 ^ 64 → b / 2 ^ k * 2 ^ k % 2 ^ 64 ≡ b / 2 ^ k * 2 ^ k
+pub shifted_back : (b k : ℕ) → b < 2 ^ 64 → b / 2 ^ k * 2 ^ k % 2 ^ 64 ≡ b / 2 ^ k * 2 ^ k
 shifted_back b k h = mod-eq_of_lt (lt_of_le_of_lt (div-mul-le_self b (2 ^ k)) h)
 
 -- these bits shifted out, and zeros in: the whole part

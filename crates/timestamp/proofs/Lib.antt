@@ -8,3 +8,4 @@ pub mod Cleared
 pub mod Whole
 pub mod Nearer
 pub mod Patterns
+pub mod Multiple

@@ -4,9 +4,11 @@
 #![tactic(auto)]
 
 ghost use Rattle.std.specs.Prelude.{◌≡◌};
+ghost use Rattle.std.specs.Float.{binary64};
+ghost use Rattle.std.specs.Float.Ieee.{rem};
 ghost use Rattle.timestamp.specs.Timestamps.{sum_of, difference_of, signed_of, bits_of, order_of, in_range};
 ghost use Rattle.timestamp.specs.Whole.{trunc_of, ceil_of, floor_of, round_of};
-ghost use Rattle.timestamp.specs.FloatTimestamps.{from_unwrapped, from_seconds, float_difference_of, as_seconds, float_of, stamp_of, ceil_stamp_of};
+ghost use Rattle.timestamp.specs.FloatTimestamps.{from_unwrapped, from_seconds, float_difference_of, as_seconds, float_of, stamp_of, ceil_stamp_of, cycle64};
 
 // The stamp of a frame: 16 bits, read as a signed number by `value` alone.
 #[derive(Clone, Copy)]
@@ -116,7 +118,7 @@ impl FloatTimestamp {
     pub fn from_unwrapped(frames: f64) -> FloatTimestamp
         ensures { result.0 ≡ from_unwrapped frames }
     {
-        let r = (frames + 32768.0) % 65536.0;
+        let r = remainder(frames + 32768.0);
         if r < 0.0 {
             FloatTimestamp(r + 65536.0 - 32768.0)
         } else {
@@ -168,6 +170,37 @@ impl FloatTimestamp {
     {
         FloatTimestamp(ceil(self.0)).trunc()
     }
+}
+
+// The remainder of x by 65,536, with the sign of x: what `%` gives. (`%` is a call of C's fmod, of which an older C library has no version that
+// a program could be linked with.) From 65,536 up in size the bits below 65,536 are shifted out, and zeros in, as `trunc` does with those below
+// the point. That leaves the multiple of 65,536, and what is over it is exact.
+fn remainder(x: f64) -> f64
+    ensures { result ≡ rem binary64 x cycle64 }
+{
+    // a NaN has no bits to work on
+    if x != x {
+        return x;
+    }
+    let bits = f64::to_bits(x);
+    let exponent = (bits >> 52) & 0x7ff;
+    if exponent < 1039 {
+        return x;
+    }
+    // an infinity leaves no number
+    if exponent == 2047 {
+        return x - x;
+    }
+    // from 2^69 on no bit lies below 65,536
+    if exponent > 1091 {
+        return f64::from_bits((bits >> 63) << 63);
+    }
+    let cleared = 1091 - exponent;
+    let multiple = (bits >> cleared) << cleared;
+    if multiple == bits {
+        return f64::from_bits((bits >> 63) << 63);
+    }
+    x - f64::from_bits(multiple)
 }
 
 // x without its fraction, the sign kept: the bits below the point are shifted out, and zeros in. From 1 up to 2^53 in size x is
