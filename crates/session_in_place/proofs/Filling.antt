@@ -1,5 +1,5 @@
 -- What an update answers once it is decided, over plain values: each way to fill its answer, from what its parts gave. Assumes nothing.
-use mathlib.Core.Path.{◌≡◌, refl, ap, ◌∙◌}
+use mathlib.Core.Path.{◌≡◌, refl, ◌∙◌}
 use mathlib.Core.Bool.{Bool, false}
 use mathlib.Core.List.{List}
 use Prim.Native.Nat.{ℕ}
@@ -11,7 +11,6 @@ use Rattle.client.specs.Ledgers.{empty_ledger}
 use Rattle.clock_samples.specs.declared.ClockNumbers.{ClockNumbers}
 use Rattle.frames.specs.declared.Advanced.{Advanced}
 use Rattle.session_state.specs.declared.Stage.{Stage}
-use Rattle.session_state.specs.declared.Session.{Session}
 use Rattle.session_lent.specs.declared.Worlds.{Worlds}
 use Rattle.session_lent.specs.declared.State.{State}
 use Rattle.session_stage.specs.Stage.{stage_after}

@@ -14,19 +14,17 @@ use Rattle.timestamp.specs.declared.Timestamp.{Timestamp}
 use Rattle.timestamp.specs.Timestamps.{sum_of}
 use Rattle.settings.specs.Settings.{passes_of}
 use Rattle.command.specs.Entries.{Entry, entry_of, plain_entry}
-use Rattle.command.specs.Slots.{buffer_at, Lent, AllSlots}
+use Rattle.command.specs.Slots.{AllSlots}
 use Rattle.command.specs.Soundness.{sound_buffer}
 use Rattle.command.proofs.Entries.{entry_plain}
-use Rattle.client.specs.declared.Received.{Received}
 use Rattle.client.specs.Sides.{old_stamp_of}
-use Rattle.client.specs.Ledgers.{closed_of, with_held}
 use Rattle.client_receive.specs.Receive.{received_of, also_full}
 use Rattle.clocksync.specs.Clock.{sound_clock}
 use Rattle.arrivals.specs.declared.Arrived.{Arrived}
 use Rattle.arrivals.specs.declared.Midpoints.{Midpoints}
 use Rattle.arrivals.specs.Arrivals.{arrived_at, received_at, Ready, Receives}
 use Rattle.session_state.specs.declared.Session.{Session}
-use Rattle.session_state.specs.Session.{has_worlds, is_ready, scene_of, session_with}
+use Rattle.session_state.specs.Session.{has_worlds, is_ready, scene_of}
 use Rattle.session_state.specs.Sound.{sound_of, connected_of, worlds_sound, buffers_sound}
 use Rattle.session_lent.specs.declared.World.{World}
 use Rattle.session_lent.specs.declared.Worlds.{Worlds}

@@ -18,7 +18,7 @@ use Rattle.refusals.proofs.Accepted.{once_accepted}
 use Rattle.settings.specs.declared.Settings.{Settings}
 use Rattle.settings.specs.Settings.{passes_of}
 use Rattle.command.specs.Entries.{Entry}
-use Rattle.command.specs.Slots.{buffer_at, Lent, AllSlots}
+use Rattle.command.specs.Slots.{buffer_at, AllSlots}
 use Rattle.command.specs.Soundness.{sound_buffer}
 use Rattle.clocksync.specs.declared.Offset.{Offset}
 use Rattle.clocksync.specs.declared.Offset.TheVariants.{NoOffset, Seconds}
@@ -32,16 +32,14 @@ use Rattle.inbox_refusal.specs.Refusal.{refusal_of}
 use Rattle.inbox_refusal.proofs.Refusals.{refusal_long}
 use Rattle.inbox_passes.specs.Passes.{has_for_worlds, heard_in, received_in, noted_in}
 use Rattle.inbox_scan.specs.declared.Scan.{Scan}
-use Rattle.inbox_scan.specs.Scan.{has_command, kept_in, Scans, unless_long}
+use Rattle.inbox_scan.specs.Scan.{has_command, kept_in, Scans}
 use Rattle.inbox_scan.proofs.Scanning.{noted_kept}
 use Rattle.client.specs.declared.Snapshots.{Snapshots}
 use Rattle.client.specs.declared.Received.{Received}
-use Rattle.client.specs.declared.ClientWorldSimulations.{ClientWorldSimulations}
-use Rattle.client.specs.Ledgers.{closed_of, with_held}
-use Rattle.client.specs.Sides.{old_stamp_of, with_snapshots, with_worlds}
+use Rattle.client.specs.Sides.{with_snapshots}
 use Rattle.client_publish.specs.Ending.{weight_ok, post_update_of}
 use Rattle.client_receive.specs.Receive.{none_received}
-use Rattle.play.specs.Scenes.{scene_at, scene_with, left_stamp, right_stamp, AllLent}
+use Rattle.play.specs.Scenes.{scene_at, left_stamp, right_stamp}
 use Rattle.fixed_timestepper.specs.declared.Advanced as by_value
 use Rattle.fixed_timestepper.specs.TimeKeeper.{unended_of, ended_of, Advances}
 use Rattle.frames.specs.declared.Advanced.{Advanced}
@@ -56,17 +54,17 @@ use Rattle.session_lent.specs.declared.Worlds.{Worlds}
 use Rattle.session_lent.specs.declared.State.{State}
 use Rattle.session_lent.specs.Lent.{worlds_at, session_at, state_in, old_in}
 use Rattle.session_lent.proofs.Reading.{old_stamp_in}
-use Rattle.session_stage.specs.Stage.{synced_of, stage_after}
+use Rattle.session_stage.specs.Stage.{stage_after}
 use Rattle.session_in_place.specs.StageLent.{Syncs}
 use Rattle.session_play.specs.Play.{WorldsLent, unarrived_of, midpoints_of, holding_in, arrived_in, numbers_in, books_of, fixed_in, Ends}
-use Rattle.session_play.proofs.Scenes.{start_scene, unarrived_is, arrived_worlds, scene_is, closed_is}
+use Rattle.session_play.proofs.Scenes.{unarrived_is, scene_is, closed_is}
 use Rattle.session_answers.specs.declared.UpdateAnswer.{UpdateAnswer}
 use Rattle.session_in_place.specs.declared.LentAnswer.{LentAnswer}
 use Rattle.session_answers.specs.Answers.{Reply, unplayed_of, refused_with, Updates}
 use Rattle.session_answers.specs.Inner.{accepted_by}
-use Rattle.session_in_place.specs.AnswersLent.{answer_with, Leaves, accepted_in, Accepts}
+use Rattle.session_in_place.specs.AnswersLent.{answer_with, Leaves, Accepts}
 use Rattle.session.specs.Calls.{times_ok, refused_at_once, clock_update_of, worlds_update_of, update_by, update_of, server_time_by}
-use Rattle.session.specs.Inner.{end_refusal_of, unended_with}
+use Rattle.session.specs.Inner.{unended_with}
 use Rattle.session_in_place.specs.Lent.{ArraysLent, session_after, UpdatesLent, listening, Scanned, Settles, SyncsLent, Concludes}
 use Rattle.session.proofs.Answering.{once_is, once_few, clock_refused, clock_moved, played_by}
 use Rattle.session.proofs.Answering.{worlds_refused, worlds_stopped, worlds_accepted, update_refused, update_by_lem}

@@ -1,7 +1,7 @@
 -- An update in place, over plain values: the lengths of the arrays, and the slots that a refusal puts back. Assumes nothing.
 use Prim.{⊥}
 use mathlib.Core.Path.{◌≡◌, refl, ap, sym, subst, ◌∙◌}
-use mathlib.Core.Bool.{Bool, true, false, cond, not, ◌&&◌}
+use mathlib.Core.Bool.{Bool, true, false, cond, not}
 use mathlib.Core.List.{List}
 use Prim.Native.Nat.{ℕ}
 use native.Mathlib.Omega.{arith}

@@ -5,7 +5,7 @@ use mathlib.Core.Bool.{Bool, cond}
 use Prim.Native.Nat.{ℕ}
 use lib.Dec.{eqb}
 use borrow.Author.Tests.{eq-eqb, ne_eqb}
-use Rattle.refusals.specs.Refusals.{accepted, report_refusal_by}
+use Rattle.refusals.specs.Refusals.{report_refusal_by}
 use lib.Ieee.{lt}
 use Rattle.timestamp.specs.Floats.{one64}
 use Rattle.client.specs.declared.ReconciliationStatus.{ReconciliationStatus}

@@ -5,7 +5,6 @@ use mathlib.Core.List.{List, []}
 use Prim.Native.Nat.{ℕ}
 use native.Mathlib.Omega.{arith}
 use lib.Ieee.{Float, binary64, add}
-use Rattle.refusals.specs.Limits.{buffer_room}
 use Rattle.timestamp.specs.Floats.{zero64}
 use Rattle.timestamp.specs.declared.Timestamp.{Timestamp}
 use Rattle.timestamp.specs.Timestamps.{bits_of}
@@ -14,23 +13,21 @@ use Rattle.settings.specs.declared.Settings.{Settings}
 use Rattle.clocksync.specs.declared.Offset.{Offset}
 use Rattle.clocksync.specs.declared.Offset.TheVariants.{NoOffset, Seconds}
 use Rattle.clocksync.specs.declared.ClientId.{ClientId}
-use Rattle.clocksync.specs.Clock.{server_seconds_of, both_of, ready_of}
+use Rattle.clocksync.specs.Clock.{server_seconds_of, both_of}
 use Rattle.clock_samples.specs.declared.ClockNumbers.{ClockNumbers}
 use Rattle.clock_samples.specs.Numbers.{clock_at}
 use Rattle.command.specs.Entries.{Entry}
 use Rattle.command.specs.Buffer.{laid}
-use Rattle.command.specs.Slots.{buffer_at, AllSlots}
+use Rattle.command.specs.Slots.{AllSlots}
 use Rattle.slots.specs.After.{Filled}
-use Rattle.client.specs.declared.ClientWorldSimulations.{ClientWorldSimulations}
 use Rattle.client.specs.Sides.{new_worlds_of}
 use Rattle.session_state.specs.Session.{session_with, with_clock}
 use Rattle.session_state.specs.declared.Stage.TheVariants.{SyncingInitialState}
-use Rattle.session_state.specs.declared.Session.{Session}
 use Rattle.session_lent.specs.declared.Worlds.{Worlds}
 use Rattle.session_lent.specs.declared.State.{State}
 use Rattle.session_lent.specs.Lent.{worlds_at, session_at}
 use Rattle.session_stage.specs.Stage.{started_at, synced_of}
-use Rattle.session_in_place.specs.StageLent.{new_numbers, started_in, clocked_in, blank_slots, Starts, Syncs}
+use Rattle.session_in_place.specs.StageLent.{new_numbers, clocked_in, blank_slots, Starts, Syncs}
 
 -- the worlds are made by the calls that blank the slots
 pub starts : (c : ClockNumbers) (t : Timestamp) {l r b : List Entry} {w : Worlds} → Filled [] l 0 → Filled [] r 0 → Filled [] b 0

@@ -10,33 +10,33 @@ pub slice_bounds-update-end : goal.slice_bounds-update-end
 slice_bounds-update-end c =
     let samples-full : length c.args.session.clock.samples ≡ 64 = search (mapped_length, c.well_formed.0.1.1.1.1.0.1.1.1.0.1.0.1) in
     search (
-  rules,
-  samples-full,
-)
+      rules,
+      samples-full,
+    )
 
 pub slice_bounds-update-end-2 : goal.slice_bounds-update-end-2
 slice_bounds-update-end-2 c =
     let left-full : length c.args.session.worlds.left.commands.entries ≡ 64 = search (mapped_length, c.well_formed.0.1.1.1.1.1.0.1.1.0.1.1.0.1.1.0.1.0.1) in
     search (
-  rules,
-  left-full,
-)
+      rules,
+      left-full,
+    )
 
 pub slice_bounds-update-end-3 : goal.slice_bounds-update-end-3
 slice_bounds-update-end-3 c =
     let right-full : length c.args.session.worlds.right.commands.entries ≡ 64 = search (mapped_length, c.well_formed.0.1.1.1.1.1.0.1.1.1.0.1.1.0.1.1.0.1.0.1) in
     search (
-  rules,
-  right-full,
-)
+      rules,
+      right-full,
+    )
 
 pub slice_bounds-update-end-4 : goal.slice_bounds-update-end-4
 slice_bounds-update-end-4 c =
     let base-full : length c.args.session.worlds.base.entries ≡ 64 = search (mapped_length, c.well_formed.0.1.1.1.1.1.0.1.1.1.1.1.0.1.1.0.1.0.1) in
     search (
-  rules,
-  base-full,
-)
+      rules,
+      base-full,
+    )
 
 pub update-a-requires : goal.update-a-requires
 update-a-requires c =
@@ -45,13 +45,13 @@ update-a-requires c =
     let right-full : length c.args.session.worlds.right.commands.entries ≡ 64 = search (mapped_length, c.well_formed.0.1.1.1.1.1.0.1.1.1.0.1.1.0.1.1.0.1.0.1) in
     let base-full : length c.args.session.worlds.base.entries ≡ 64 = search (mapped_length, c.well_formed.0.1.1.1.1.1.0.1.1.1.1.1.0.1.1.0.1.0.1) in
     record {
-  samples = samples-full;
-  slots = record {
-    left = left-full;
-    right = right-full;
-    base = base-full;
-  };
-}
+      samples = samples-full;
+      slots = record {
+        left = left-full;
+        right = right-full;
+        base = base-full;
+      };
+    }
 
 pub returns-then-a-ne-ACCEPTED : goal.returns-then-a-ne-ACCEPTED
 returns-then-a-ne-ACCEPTED c = value_refused

@@ -15,25 +15,25 @@ pub slice_bounds-receive_command-end : goal.slice_bounds-receive_command-end
 slice_bounds-receive_command-end c =
     let left-full : length c.args.session.worlds.left.commands.entries ≡ 64 = search (mapped_length, c.well_formed.0.1.1.1.1.1.0.1.1.0.1.1.0.1.1.0.1.0.1) in
     search (
-  rules,
-  left-full,
-)
+      rules,
+      left-full,
+    )
 
 pub slice_bounds-receive_command-end-2 : goal.slice_bounds-receive_command-end-2
 slice_bounds-receive_command-end-2 c =
     let right-full : length c.args.session.worlds.right.commands.entries ≡ 64 = search (mapped_length, c.well_formed.0.1.1.1.1.1.0.1.1.1.0.1.1.0.1.1.0.1.0.1) in
     search (
-  rules,
-  right-full,
-)
+      rules,
+      right-full,
+    )
 
 pub slice_bounds-receive_command-end-3 : goal.slice_bounds-receive_command-end-3
 slice_bounds-receive_command-end-3 c =
     let base-full : length c.args.session.worlds.base.entries ≡ 64 = search (mapped_length, c.well_formed.0.1.1.1.1.1.0.1.1.1.1.1.0.1.1.0.1.0.1) in
     search (
-  rules,
-  base-full,
-)
+      rules,
+      base-full,
+    )
 
 pub receive_command-a-requires : goal.receive_command-a-requires
 receive_command-a-requires c =
