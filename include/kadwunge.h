@@ -2,7 +2,7 @@
  *
  * Every function takes every value of its arguments: there is nothing that a caller must check first. Of a pointer with a length it
  * takes that many bytes, which must be there; where a call has two of them, they must not overlap.
- * Link with libhost.a and the C mathematics library (-lm), whose fmod it uses.
+ * Link with libhost.a. Of the C library it uses memcpy and memset alone.
  */
 #ifndef KADWUNGE_H
 #define KADWUNGE_H

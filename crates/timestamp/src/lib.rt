@@ -172,9 +172,9 @@ impl FloatTimestamp {
     }
 }
 
-// The remainder of x by 65,536, with the sign of x: what `%` gives. (`%` is a call of C's fmod, of which an older C library has no version that
-// a program could be linked with.) From 65,536 up in size the bits below 65,536 are shifted out, and zeros in, as `trunc` does with those below
-// the point. That leaves the multiple of 65,536, and what is over it is exact.
+// The remainder of x by 65,536, with the sign of x: what `%` gives. (`%` may be a call of C's fmod, and a program linked with that runs only over a C
+// library as new as the kit's.) From 65,536 up in size the bits below 65,536 are shifted out, and zeros in, as `trunc` does with those below the
+// point. That leaves the multiple of 65,536, and what x is over it is exact.
 fn remainder(x: f64) -> f64
     ensures { result ≡ rem binary64 x cycle64 }
 {
