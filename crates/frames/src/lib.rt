@@ -46,7 +46,8 @@ pub(crate) fn advance(
     let mut o = overshoot;
     let mut k: u32 = 0;
     while o < 0.0 {
-        if k == refusals::MOST_FRAMES {
+        let full = k == refusals::MOST_FRAMES;
+        if full {
             return Advanced {
                 numbers: m,
                 books: c,

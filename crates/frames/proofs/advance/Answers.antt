@@ -10,21 +10,21 @@ use Rattle.frames.proofs.advance.Goals as goal
 pub loop-o-init : goal.loop-o-init
 loop-o-init c = going_start _ _ _ _ _ _ _ _ _ c.requires.0 c.requires.1
 
-pub shape_of-left-then-k-eq-MOST_FRAMES : goal.shape_of-left-then-k-eq-MOST_FRAMES
-shape_of-left-then-k-eq-MOST_FRAMES c = (going_same c.loop-o.invariant).0
+pub shape_of-left-then-full : goal.shape_of-left-then-full
+shape_of-left-then-full c = (going_same c.loop-o.invariant).0
 
-pub shape_of-right-then-k-eq-MOST_FRAMES : goal.shape_of-right-then-k-eq-MOST_FRAMES
-shape_of-right-then-k-eq-MOST_FRAMES c = (going_same c.loop-o.invariant).1
+pub shape_of-right-then-full : goal.shape_of-right-then-full
+shape_of-right-then-full c = (going_same c.loop-o.invariant).1
 
-pub shape_of-base-then-k-eq-MOST_FRAMES : goal.shape_of-base-then-k-eq-MOST_FRAMES
-shape_of-base-then-k-eq-MOST_FRAMES c = (going_same c.loop-o.invariant).2
+pub shape_of-base-then-full : goal.shape_of-base-then-full
+shape_of-base-then-full c = (going_same c.loop-o.invariant).2
 
-pub shape_of-tape-then-k-eq-MOST_FRAMES : goal.shape_of-tape-then-k-eq-MOST_FRAMES
-shape_of-tape-then-k-eq-MOST_FRAMES c = (going_same c.loop-o.invariant).3
+pub shape_of-tape-then-full : goal.shape_of-tape-then-full
+shape_of-tape-then-full c = (going_same c.loop-o.invariant).3
 
-pub returns-then-k-eq-MOST_FRAMES : goal.returns-then-k-eq-MOST_FRAMES
+pub returns-then-full : goal.returns-then-full
 unfolding of_bits
-returns-then-k-eq-MOST_FRAMES c = going_full c.loop-o.invariant c.loop-o-test.true c.if-k-eq-MOST_FRAMES.true
+returns-then-full c = going_full c.loop-o.invariant c.loop-o-test.true c.if-full.true
 
 pub play_frame-after-requires : goal.play_frame-after-requires
 play_frame-after-requires c =
@@ -54,17 +54,17 @@ pub returns-then-f : goal.returns-then-f
 unfolding of_bits
 returns-then-f c =
     going_stops c.loop-o.invariant _ c.frame_of-f.ensures.decided c.play_frame-after.ensures c.frame_rules-rules.ensures c.loop-o-test.true
-    c.if-k-eq-MOST_FRAMES.false c.requires.2 c.if-f.true refl
+    c.if-full.false c.requires.2 c.if-f.true refl
 
 pub loop-o-smaller : goal.loop-o-smaller
 loop-o-smaller c =
-    omega (arith, going_bound c.loop-o.invariant, c.if-k-eq-MOST_FRAMES.false)
+    omega (arith, going_bound c.loop-o.invariant, c.if-full.false)
 
 pub loop-o-preserved : goal.loop-o-preserved
 unfolding of_bits
 loop-o-preserved c =
     going_on c.loop-o.invariant _ c.frame_of-f.ensures.decided c.play_frame-after.ensures c.frame_rules-rules.ensures c.loop-o-test.true
-    c.if-k-eq-MOST_FRAMES.false c.requires.2 c.if-f.false refl
+    c.if-full.false c.requires.2 c.if-f.false refl
 
 pub shape_of-left : goal.shape_of-left
 shape_of-left c = (going_same c.loop-o.invariant).0
