@@ -10,7 +10,8 @@ use Rattle.client.specs.declared.Ledger.{Ledger}
 use Rattle.client.specs.declared.Scene.{Scene}
 use Rattle.client.specs.declared.Shown.{Shown}
 use Rattle.client.specs.Ledgers.{applies}
-use Rattle.client.specs.Sides.{new_side_of, old_side_of, world_of, with_world, world_stamp_of, old_stamp_of, new_stamp_of, ledger_of, with_ledger, with_worlds, put_of}
+use Rattle.client.specs.Sides.{new_side_of, old_side_of, world_of, with_world, world_stamp_of, old_stamp_of, new_stamp_of, ledger_of, with_ledger}
+use Rattle.client.specs.Sides.{with_worlds, put_of}
 use Rattle.client.specs.Sides.{Played, still, and_then, done_at, Plays}
 
 -- the stamp of the old world, by its side

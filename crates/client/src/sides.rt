@@ -1,6 +1,7 @@
 // The two sides: which world is old and which is new, by a number, and a ledger for each. (src/old_new.rs of crystalorb.)
 ghost use Rattle.std.specs.Prelude.{◌≡◌};
-ghost use Rattle.client.specs.Sides.{new_side_of, old_side_of, world_of, with_world, world_stamp_of, old_stamp_of, new_stamp_of, ledger_of, with_ledger, put_of};
+ghost use Rattle.client.specs.Sides.{new_side_of, old_side_of, world_of, with_world, world_stamp_of, old_stamp_of, new_stamp_of, ledger_of, with_ledger};
+ghost use Rattle.client.specs.Sides.{put_of};
 
 use super::{ClientWorldSimulations, Ledger, Scene, ledgers};
 use simulation::Simulation;

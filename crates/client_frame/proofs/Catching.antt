@@ -1,5 +1,6 @@
 -- The loop of `catch_up`: what is left of it gives what the whole gives. Assumes nothing.
-use Rattle.std.proofs.Common.{◌≡◌, ℕ, zero, suc, ◌+◌, ◌-◌, ◌*◌, ◌%◌, ◌^◌, ◌<◌, ◌≤◌, Bool, true, false, eqb, List, length, sym, refl, ap, ◌∙◌, subst, arith, eq-eqb, ne_eqb}
+use Rattle.std.proofs.Common.{◌≡◌, ℕ, zero, suc, ◌+◌, ◌-◌, ◌*◌, ◌%◌, ◌^◌, ◌<◌, ◌≤◌, Bool, true, false, eqb, List, length, sym, refl, ap, ◌∙◌, subst, arith}
+use Rattle.std.proofs.Common.{eq-eqb, ne_eqb}
 use Rattle.timestamp.specs.declared.Timestamp.{Timestamp}
 use Rattle.tape.proofs.Writing.{puts-length}
 use Rattle.simulation.specs.declared.Simulation.{Simulation}
@@ -9,7 +10,8 @@ use Rattle.client.specs.declared.Ledger.{Ledger}
 use Rattle.client.specs.declared.Scene.{Scene}
 use Rattle.client.specs.declared.Shown.{Shown}
 use Rattle.client.specs.Ledgers.{applies}
-use Rattle.client.specs.Sides.{new_side_of, world_of, with_world, world_stamp_of, new_stamp_of, ledger_of, with_ledger, put_of, still, and_then, Plays, with_left, with_right}
+use Rattle.client.specs.Sides.{new_side_of, world_of, with_world, world_stamp_of, new_stamp_of, ledger_of, with_ledger, put_of, still, and_then, Plays}
+use Rattle.client.specs.Sides.{with_left, with_right}
 use Rattle.client.specs.Sides.{with_worlds, with_ledgers, with_steps}
 use Rattle.client_frame.specs.Frame.{caught_up_of, stepped_side, stepped_new, caught_of}
 use Rattle.client_frame.specs.Inner.{put_back}
@@ -32,7 +34,8 @@ catching_start m o from was place few =
     record { bound = omega arith; few = few; at = omega arith; len = refl; rest = λ r last h. plays_as (ap (λ (n : ℕ). caught_of n o from) e) h }
 
 -- where the new world has not caught up, a step and the rest are one more turn
-pub turn : (n : ℕ) (o : Timestamp) (s : Scene) → caught_up_of (new_stamp_of s.worlds) o ≡ false → and_then (stepped_new s) (caught_of n o) ≡ caught_of (suc n) o s
+pub turn : (n : ℕ) (o : Timestamp) (s : Scene) → caught_up_of (new_stamp_of s.worlds) o ≡ false → and_then (stepped_new s) (caught_of n o) ≡ caught_of (suc
+    n) o s
 unfolding caught_of
 turn n o s e = rw e refl
 
@@ -55,7 +58,8 @@ pub catching_step : (m : ℕ) (o : Timestamp) (from : Scene) (was : List ℕ) (p
 catching_step m o from was place {tape} {mid} {s} {p} {k} {n} {b} {a} c l hn hb f h =
     let no : caught_up_of (new_stamp_of s.worlds) o ≡ false = ap (λ (x : Timestamp). caught_up_of x o) (sym hn) ∙ sym hb ∙ f in
     let e : m - k ≡ suc (m - (k + 1)) = omega arith in
-    let one : and_then (stepped_new s) (caught_of (m - (k + 1)) o) ≡ caught_of (m - k) o s = turn (m - (k + 1)) o s no ∙ ap (λ (x : ℕ). caught_of x o s) (sym e) in
+    let one : and_then (stepped_new s) (caught_of (m - (k + 1)) o) ≡ caught_of (m - k) o s = turn (m - (k + 1)) o s no ∙ ap (λ (x : ℕ). caught_of x o s)
+    (sym e) in
     record {
       bound = omega arith;
       few = rw h.scene (stepped_new_short s c.few).few;

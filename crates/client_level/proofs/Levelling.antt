@@ -1,5 +1,6 @@
 -- A level frame: both worlds make one step that moves their stamps only. Assumes nothing.
-use Rattle.std.proofs.Common.{◌≡◌, ℕ, zero, suc, ◌+◌, ◌%◌, ◌^◌, Bool, true, false, cond, not, ◌&&◌, eqb, List, [], ◌∷◌, sym, refl, ap, ◌∙◌, arith, eq-eqb, ne_eqb, eqb-true}
+use Rattle.std.proofs.Common.{◌≡◌, ℕ, zero, suc, ◌+◌, ◌%◌, ◌^◌, Bool, true, false, cond, not, ◌&&◌, eqb, List, [], ◌∷◌, sym, refl, ap, ◌∙◌, arith, eq-eqb}
+use Rattle.std.proofs.Common.{ne_eqb, eqb-true}
 use lib.Ieee.{Float, binary64, add}
 use borrow.Author.Tests.{eqb-false, not-true}
 use Rattle.timestamp.specs.declared.Timestamp.{Timestamp}
@@ -21,7 +22,8 @@ use Rattle.client.specs.declared.LastStamp.{LastStamp}
 use Rattle.client.specs.declared.Ledger.{Ledger}
 use Rattle.client.specs.declared.Scene.{Scene}
 use Rattle.client.specs.Ledgers.{applies}
-use Rattle.client.specs.Sides.{new_side_of, old_side_of, world_of, with_world, with_weight, with_worlds, with_ledger, ledger_of, world_stamp_of, old_stamp_of, new_stamp_of}
+use Rattle.client.specs.Sides.{new_side_of, old_side_of, world_of, with_world, with_weight, with_worlds, with_ledger, ledger_of, world_stamp_of}
+use Rattle.client.specs.Sides.{old_stamp_of, new_stamp_of}
 use Rattle.client.specs.Sides.{put_of, Played, still, and_then, done_at, Plays, with_left, with_right, with_ledgers, with_steps}
 use Rattle.client.specs.Status.{status_by, status_of}
 use Rattle.client.proofs.Happening.{plays_as, plays_then}
@@ -30,7 +32,8 @@ use Rattle.client_publish.specs.Publish.{with_state, published_blended}
 use Rattle.client_publish.proofs.Telling.{Telling, publishes, blended_by_lem}
 use Rattle.client_publish.specs.Inner.{States}
 use Rattle.client_frame.specs.declared.Rules.{Rules}
-use Rattle.client_frame.specs.Frame.{loads_of, loaded_queued, blended_on, opened_of, stepped_side, caught_up_of, with_step, stepped_new, caught_of, simulated_of}
+use Rattle.client_frame.specs.Frame.{loads_of, loaded_queued, blended_on, opened_of, stepped_side, caught_up_of, with_step, stepped_new, caught_of}
+use Rattle.client_frame.specs.Frame.{simulated_of}
 use Rattle.client_frame.specs.Frame.{blended_by, shown_of, stops_of, snapshot_of, frame_opened, frame_of, frame_stops}
 use Rattle.timestamp.specs.Floats.{clamped_of}
 use Rattle.command.specs.Ranks.{waits_of}
@@ -256,7 +259,11 @@ module _ (s : Scene) (same : (new_stamp_of s.worlds).0 ≡ (old_stamp_of s.world
       let yes : caught_up_of (new_stamp_of (levelled s).worlds) o ≡ true = none_behind _ o (new_stamp_of s.worlds) (old_stamp_of s.worlds) sides.last
       sides.old same in
       sym (turn n o (mid_scene s) no) ∙ ap (λ (p : Played). and_then p (caught_of n o)) new_step
-      ∙ (λ i. record { scene = (sym (stop n o (levelled s) yes) i).scene; words = step_word (new_side_of s.worlds) ∷ (sym (stop n o (levelled s) yes) i).words })
+      ∙ (λ i. record {
+        scene = (sym (stop n o (levelled s) yes) i).scene;
+        words = step_word (new_side_of s.worlds) ∷ (sym (stop n o (levelled s) yes)
+            i).words;
+      })
 
   -- both steps
   both_step : (n : ℕ) → simulated_of (suc n) s ≡ record { scene = levelled s; words = level_words s.worlds }

@@ -1,6 +1,7 @@
 -- A frame that is decided from the numbers of a scene is the frame of that scene: what it does, the numbers after it, and whether it stops.
 -- Assumes nothing.
-use Rattle.std.proofs.Common.{◌≡◌, ℕ, zero, suc, ◌+◌, ◌-◌, ◌%◌, ◌<◌, ◌≤◌, Bool, true, false, cond, ltb, ◌++◌, pos, negsuc, sym, refl, ap, ◌∙◌, arith, ltb-false, ltb-true, le-ltb}
+use Rattle.std.proofs.Common.{◌≡◌, ℕ, zero, suc, ◌+◌, ◌-◌, ◌%◌, ◌<◌, ◌≤◌, Bool, true, false, cond, ltb, ◌++◌, pos, negsuc, sym, refl, ap, ◌∙◌, arith}
+use Rattle.std.proofs.Common.{ltb-false, ltb-true, le-ltb}
 use lib.Ieee.{Float, eq}
 use Rattle.timestamp.specs.Floats.{zero64}
 use Rattle.timestamp.specs.declared.Timestamp.{Timestamp}

@@ -8,7 +8,8 @@ use Rattle.command.proofs.Ledger.{moved_stamp, emptied_stamp}
 use Rattle.simulation.specs.declared.Simulation.{Simulation}
 use Rattle.simulation.specs.World.{Done, next_stamp, step_of, reset_of, resets_back, flushed_of, kept_of, load_of, Load}
 use Rattle.client.specs.declared.Scene.{Scene}
-use Rattle.client.specs.Sides.{new_side_of, old_side_of, world_of, with_world, with_weight, with_worlds, world_stamp_of, old_stamp_of, new_stamp_of, with_ledger, put_of}
+use Rattle.client.specs.Sides.{new_side_of, old_side_of, world_of, with_world, with_weight, with_worlds, world_stamp_of, old_stamp_of, new_stamp_of}
+use Rattle.client.specs.Sides.{with_ledger, put_of}
 use Rattle.client.specs.Sides.{still, and_then, done_at}
 use Rattle.client_publish.specs.Publish.{published_none, published_side, published_mix}
 use Rattle.client_load.specs.Load.{readied_with, loaded_at, loaded_of}
@@ -19,7 +20,8 @@ use Rattle.client_numbers.specs.declared.Opens.{Opens}
 use Rattle.client_numbers.specs.declared.Opens.TheVariants.{Unchanged, Weight, LoadOld, LoadNew, Reset}
 use Rattle.client_numbers.specs.declared.Shows.{Shows}
 use Rattle.client_numbers.specs.declared.Shows.TheVariants.{NoWorld, OldWorld, NewWorld, Mix}
-use Rattle.client_numbers.specs.Numbers.{new_side_by, old_side_by, numbers_with, loaded_into, weighted_with, opened_by, count_step, times, old_step_by, counted_with}
+use Rattle.client_numbers.specs.Numbers.{new_side_by, old_side_by, numbers_with, loaded_into, weighted_with, opened_by, count_step, times, old_step_by}
+use Rattle.client_numbers.specs.Numbers.{counted_with}
 use Rattle.client_numbers.specs.Numbers.{new_steps_by, stepped_by, shown_by, skipped_numbers}
 use Rattle.client_numbers.specs.Decided.{SkipsAll, numbers_of, done_opening, steps_new, done_steps, done_showing}
 

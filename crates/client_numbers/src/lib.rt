@@ -3,7 +3,8 @@
 #![tactic(auto)]
 
 ghost use Rattle.std.specs.Prelude.{◌≡◌};
-ghost use Rattle.client_numbers.specs.Numbers.{status_in, opens_with, new_side_by, old_side_by, opened_by, steps_to, stepped_by, shows_both, shows_by, state_of};
+ghost use Rattle.client_numbers.specs.Numbers.{status_in, opens_with, new_side_by, old_side_by, opened_by, steps_to, stepped_by, shows_both, shows_by};
+ghost use Rattle.client_numbers.specs.Numbers.{state_of};
 ghost use Rattle.client_numbers.specs.Numbers.{shown_by, healthy_stops, stops_in};
 ghost use Rattle.client_numbers.specs.Decided.{DecidesAll, SkipsAll};
 

@@ -10,7 +10,8 @@ use Rattle.settings.specs.declared.Settings.{Settings}
 use Rattle.settings.specs.Settings.{samples_to_discard_of, samples_to_store_of}
 use Rattle.mean.specs.Mean.{mean_of}
 use Rattle.timestamp.specs.Floats.{zero64}
-use Rattle.clocksync.specs.Clock.{held_of, timed_of, ticked_of, first_of, heard_of, deviates_of, offset_after, sampled_of, filled_of, added_of, named_of, sample_of}
+use Rattle.clocksync.specs.Clock.{held_of, timed_of, ticked_of, first_of, heard_of, deviates_of, offset_after, sampled_of, filled_of, added_of, named_of}
+use Rattle.clocksync.specs.Clock.{sample_of}
 use Rattle.clocksync.specs.Clock.{settled_of, both_of, ready_of}
 use Rattle.clocksync.specs.declared.Offset.{Offset}
 use Rattle.clocksync.specs.declared.Offset.TheVariants.{NoOffset, Seconds}

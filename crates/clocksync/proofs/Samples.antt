@@ -41,7 +41,8 @@ module _ (s : Settings) (c : Clock) (x : Float) {n : ℕ} {laid : List Float} (f
   all_is : set laid n x ≡ laid_out (held_of c ++ (x ∷ []))
   all_is =
       let h : length (held_of c) < 64 = omega (arith, held-length, cut) in
-      ap (λ (l : List Float). set l n x) (base ∙ ap laid_out held_is) ∙ ap (λ (k : ℕ). set (laid_out (held_of c)) k x) (sym held-length) ∙ laid_push (held_of c) x h
+      ap (λ (l : List Float). set l n x) (base ∙ ap laid_out held_is) ∙ ap (λ (k : ℕ). set (laid_out (held_of c)) k x) (sym held-length) ∙ laid_push
+      (held_of c) x h
 
   -- fewer than are stored
   pub added_few : {store : ℕ} → store ≡ samples_to_store_of s → n + 1 < store

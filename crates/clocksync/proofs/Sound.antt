@@ -25,7 +25,8 @@ use Rattle.settings.proofs.Limits.{Limited, period_within, discard_few, store_fe
 use Rattle.settings.proofs.Few.{needed_range}
 use Rattle.clocksync.specs.Offset.{offset_of}
 use Rattle.mean.specs.Mean.{sample_inserted, sorted_onto, sorted_of, inner_of, sum_from, average_of, mean_of, samples_ok}
-use Rattle.clocksync.specs.Clock.{held_of, new_of, timed_of, ticked_of, deviates_of, offset_after, sampled_of, filled_of, added_of, named_of, sample_of, settled_of}
+use Rattle.clocksync.specs.Clock.{held_of, new_of, timed_of, ticked_of, deviates_of, offset_after, sampled_of, filled_of, added_of, named_of, sample_of}
+use Rattle.clocksync.specs.Clock.{settled_of}
 use Rattle.clocksync.specs.Clock.{timer_ok, offset_ok, sound_clock}
 use Rattle.clocksync.specs.declared.Offset.{Offset}
 use Rattle.clocksync.specs.declared.Offset.TheVariants.{NoOffset, Seconds}

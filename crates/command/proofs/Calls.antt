@@ -38,7 +38,11 @@ module _ (b : CommandBuffer) (m : Timestamp) (lo hi : ℕ) {n : ℕ} (counted : 
       let none : length (filter_b (λ e. not (rank_within m lo hi e)) (held b)) ≡ 0 = omega arith in
       ap (λ (q : CommandBuffer). record { buffer = q; count = 0 })
       (leaving_none (filter_b (λ e. not (rank_within m lo hi e)) (held b)) (filter_b (rank_within m lo hi) (held b)) b none)
-      ∙ ap (λ (k : ℕ). record { buffer = leaving (filter_b (λ e. not (rank_within m lo hi e)) (held b)) (filter_b (rank_within m lo hi) (held b)) b; count = k })
+      ∙ ap (λ (k : ℕ). record {
+        buffer = leaving (filter_b (λ e. not (rank_within m lo hi e)) (held b)) (filter_b (rank_within m lo hi) (held b)) b;
+        count
+            = k;
+      })
       (sym none)
 
   pub sifted_some : (n ≡ 0 → ⊥) → {q : CommandBuffer} → q ≡ laid (filter_b (rank_within m lo hi) (held b)) b.timestamp

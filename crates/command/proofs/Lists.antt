@@ -57,7 +57,8 @@ module _ {A : Type 0} where
       (ap (λ (t : Bool). filter_b p (take i xs) ++ cond t (get_or xs i d ∷ []) []) e)
 
   -- one element more that does not
-  pub filter-left : (p : A → Bool) (xs : List A) (i : ℕ) (d : A) → i < length xs → p (get_or xs i d) ≡ false → filter_b p (take (i + 1) xs) ≡ filter_b p (take i xs)
+  pub filter-left : (p : A → Bool) (xs : List A) (i : ℕ) (d : A) → i < length xs → p (get_or xs i d) ≡ false → filter_b p (take (i + 1) xs) ≡ filter_b p
+      (take i xs)
   filter-left p xs i d h e = rw (add-one i, take-suc xs i d, filter-append p (take i xs))
       (ap (λ (t : Bool). filter_b p (take i xs) ++ cond t (get_or xs i d ∷ []) []) e ∙ append-nil (filter_b p (take i xs)))
 

@@ -104,7 +104,8 @@ ordered_moved m t lo low (x ∷ xs) f s =
     (ordered_moved m t (rank_in m x) low xs (λ y a b c d e. f y (omega arith) b c d e) s.3)
   where
     step : (v : Bool) → in_range_of t x ≡ v → (((y : Entry) → rank_in m x ≤ rank_in m y → 16385 ≤ rank_in m y → rank_in m y ≤ 49150 → 16385 ≤ rank_in t y
-        → rank_in t y ≤ 49150 → rank_in t x ≤ rank_in t y) → Ordered t (rank_in t x) (filter_b (in_range_of t) xs)) → Ordered t low (filter_b (in_range_of t) xs)
+        → rank_in t y ≤ 49150 → rank_in t x ≤ rank_in t y) → Ordered t (rank_in t x) (filter_b (in_range_of t) xs)) → Ordered t low (filter_b (in_range_of
+        t) xs)
         → Ordered t low (cond v (x ∷ filter_b (in_range_of t) xs) (filter_b (in_range_of t) xs))
     step true e r n =
         let i = in_range_tells t x e in (

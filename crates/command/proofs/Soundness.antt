@@ -143,7 +143,8 @@ double : (t : Bool) → not (not t) ≡ t
 double true = refl
 double false = refl
 
-after_is : (m : Timestamp) (x : Entry) (ys : List Entry) → (in_order_after m x ys && all_b (in_range_of m) ys) && all_b plain_entry ys ≡ sound_from m (rank_in m x) ys
+after_is : (m : Timestamp) (x : Entry) (ys : List Entry) → (in_order_after m x ys && all_b (in_range_of m) ys) && all_b plain_entry ys ≡ sound_from m
+    (rank_in m x) ys
 unfolding sound_from in_order_after sound_rank in_range_of
 after_is m x [] = refl
 after_is m x (y ∷ ys) =

@@ -112,7 +112,8 @@ frames_end (suc n) k x t e s g = go (lt x zero64) (λ (h : T (lt x zero64)). fra
     (frames_step t k x s g h)) (λ (h : T (not (lt x zero64))). h)
   where
     go : (b : Bool) → (T b → T (le zero64 (catch_up n (add binary64 x t) t)) × T (le (catch_up n (add binary64 x t) t) t))
-        → (T (not b) → T (not (lt x zero64))) → T (le zero64 (cond b (catch_up n (add binary64 x t) t) x)) × T (le (cond b (catch_up n (add binary64 x t) t) x) t)
+        → (T (not b) → T (not (lt x zero64))) → T (le zero64 (cond b (catch_up n (add binary64 x t) t) x)) × T (le (cond b (catch_up n (add binary64 x t)
+        t) x) t)
     go true u v = u tt
     go false u v = (float_le_of_not_lt x zero64 g.finite_x tt (v tt), le_of_val x t g.finite_x s.finite_t g.ceiling)
 

@@ -91,7 +91,8 @@ past x t p h k =
     (omega (arith, above_last x t p h)))
 
 -- In seconds: at most -u / 2 ^ 55, where u is the units of t.
-past_seconds : (y t : Float) → Step t → Between (diff_q 0 (2 ^ 38) 38) y (diff_q 0 1 38) → Between (whole_q true 1) (mul binary64 y t) (diff_q 0 (units_of t) 55)
+past_seconds : (y t : Float) → Step t → Between (diff_q 0 (2 ^ 38) 38) y (diff_q 0 1 38) → Between (whole_q true 1) (mul binary64 y t) (diff_q 0 (units_of
+    t) 55)
 past_seconds y t s b =
     let z = least_unsigned t s.finite_t s.least in
     mul-between binary64 (whole_q true 1) (diff_q 0 (units_of t) 55) y t (held_whole true 1 (lit< tt))

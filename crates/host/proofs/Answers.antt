@@ -22,7 +22,8 @@ floats-refused discard {xs} e h = λ i. cond (sym (ap samples_ok (sym e) ∙ h) 
 
 -- all are within
 pub floats-mean : (discard : ℕ) {xs ys : List Float} {x : Float} → ys ≡ xs → samples_ok ys ≡ true → x ≡ mean_of discard ys → Mean x ≡ judged_mean discard xs
-floats-mean discard {xs} e h m = ap Mean (m ∙ ap (mean_of discard) e) ∙ (λ i. cond (sym (ap samples_ok (sym e) ∙ h) i) (Mean (mean_of discard xs)) SamplesRefused)
+floats-mean discard {xs} e h m = ap Mean (m ∙ ap (mean_of discard) e) ∙ (λ i. cond (sym (ap samples_ok (sym e) ∙ h) i) (Mean (mean_of discard xs))
+    SamplesRefused)
 
 -- ---- lengths
 

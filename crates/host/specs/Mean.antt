@@ -18,8 +18,8 @@ little_of a b c d e f g h = a + 256 * (b + 256 * (c + 256 * (d + 256 * (e + 256 
 -- the number in the 8 bytes at a place
 abbrev pub word_at : List ℕ → ℕ → ℕ
 word_at s at =
-    little_of (get_or s at 0) (get_or s (at + 1) 0) (get_or s (at + 2) 0) (get_or s (at + 3) 0) (get_or s (at + 4) 0) (get_or s (at + 5) 0) (get_or s (at + 6) 0)
-    (get_or s (at + 7) 0)
+    little_of (get_or s at 0) (get_or s (at + 1) 0) (get_or s (at + 2) 0) (get_or s (at + 3) 0) (get_or s (at + 4) 0) (get_or s (at + 5) 0)
+    (get_or s (at + 6) 0) (get_or s (at + 7) 0)
 
 -- the first n samples of bytes, in their order: each the binary64 of its bits, the one NaN where they are a NaN's
 unfoldable pub floats_of : List ℕ → ℕ → List Float

@@ -53,7 +53,8 @@ head_bounded : (w : ℕ) → BoundedHead (head_of w)
 head_bounded w = go (is_word 1 (2 ^ 16) w) (is_word 2 (2 ^ 16) w) (is_word 3 (2 ^ 28) w) (rest_room 1 (2 ^ 16) w) (rest_room 2 (2 ^ 16) w)
   where
     go : (a b c : Bool) → (a ≡ true → w % 268435456 < 2 ^ 16) → (b ≡ true → w % 268435456 < 2 ^ 16)
-        → BoundedHead (cond a (ForCommand (stamp_from (low_bits_of w))) (cond b (ForSnapshot (stamp_from (low_bits_of w))) (cond c (ForClock (low_bits_of w)) NoHead)))
+        → BoundedHead (cond a (ForCommand (stamp_from (low_bits_of w))) (cond b (ForSnapshot (stamp_from (low_bits_of w))) (cond c (ForClock (low_bits_of
+        w)) NoHead)))
     go true b c f g = f refl
     go false true c f g = g refl
     go false false true f g = omega arith
@@ -93,7 +94,8 @@ by_head_lem (ForCommand s) ws h = handle_bounded (due_word_of 4 (2 ^ 24) (drop 1
 by_head_lem (ForSnapshot s) ws h = handle_bounded (due_word_of 4 (2 ^ 24) (drop 1 ws)) (length ws) (λ (n : ℕ). Snapshot s n)
     (λ v e. (h, word_room 4 (2 ^ 24) (drop 1 ws) v (sym e)))
 by_head_lem (ForClock id) ws h =
-    time_bounded (float_bits_of (drop 1 ws)) (length ws) (λ (s : ℕ). then_time (float_bits_of (drop 4 ws)) (length ws) (λ (t : ℕ). front_with (clock_of id s t) 7))
+    time_bounded (float_bits_of (drop 1 ws)) (length ws) (λ (s : ℕ). then_time (float_bits_of (drop 4 ws)) (length ws) (λ (t : ℕ). front_with (clock_of id
+    s t) 7))
     (λ s. time_bounded (float_bits_of (drop 4 ws)) (length ws) (λ (t : ℕ). front_with (clock_of id s t) 7) (λ t. clock_bounded id s t h))
 by_head_lem NoHead ws h = tt
 

@@ -14,7 +14,8 @@ use Rattle.inbox.specs.declared.Bits.TheVariants.{Are, BitsWrong, BitsCut}
 use Rattle.inbox.specs.declared.Message.{Message}
 use Rattle.inbox.specs.declared.Message.TheVariants.{Command, Snapshot}
 use Rattle.inbox.specs.declared.Step.{Step}
-use Rattle.inbox.specs.Inbox.{due_word_of, head_of, float_bits_of, clock_of, Front, front_with, then_handle, then_time, by_head, front_of, messages_after, messages_of}
+use Rattle.inbox.specs.Inbox.{due_word_of, head_of, float_bits_of, clock_of, Front, front_with, then_handle, then_time, by_head, front_of, messages_after}
+use Rattle.inbox.specs.Inbox.{messages_of}
 use Rattle.inbox.specs.Inbox.{step_by}
 use Rattle.inbox.specs.Inbox.{step_in, read_at}
 

@@ -19,7 +19,8 @@ use Rattle.inbox.specs.declared.Time.{Time}
 use Rattle.inbox.specs.declared.Message.{Message}
 use Rattle.inbox.specs.declared.Message.TheVariants.{Command, Snapshot, WrongWord, CutShort}
 use Rattle.inbox.specs.declared.Step.{Step}
-use Rattle.inbox.specs.Inbox.{low_bits_of, is_word, stamp_from, due_word_of, head_of, joined_of, then_bits, float_bits_of, inbox_time_of, pick_clock, clock_of, Front}
+use Rattle.inbox.specs.Inbox.{low_bits_of, is_word, stamp_from, due_word_of, head_of, joined_of, then_bits, float_bits_of, inbox_time_of, pick_clock}
+use Rattle.inbox.specs.Inbox.{clock_of, Front}
 use Rattle.inbox.specs.Inbox.{front_with, then_handle, then_time, by_head, front_of, step_by, step_in, read_at}
 
 -- ---- one word
@@ -45,11 +46,13 @@ module _ (k room : ℕ) (l : List ℕ) (at : ℕ) where
   pub word_none : length l ≤ at → Missing ≡ due_word_of k room (drop at l)
   word_none h = sym (ap (due_word_of k room) (drop_of_length-le l h))
 
-  word_there : (t : Bool) → at < length l → is_word k room (get_or l at 0) ≡ t → cond t (Value (low_bits_of (get_or l at 0))) Wrong ≡ due_word_of k room (drop at l)
+  word_there : (t : Bool) → at < length l → is_word k room (get_or l at 0) ≡ t → cond t (Value (low_bits_of (get_or l at 0))) Wrong ≡ due_word_of k room
+      (drop at l)
   word_there t h e = sym (ap (due_word_of k room) (drop-cons l at 0 h) ∙ ap (λ (b : Bool). cond b (Value (low_bits_of (get_or l at 0))) Wrong) e)
 
   -- the word at a place has its value
-  pub word_value : at < length l → get_or l at 0 / 268435456 ≡ k → get_or l at 0 % 268435456 < room → Value (get_or l at 0 % 268435456) ≡ due_word_of k room (drop at l)
+  pub word_value : at < length l → get_or l at 0 / 268435456 ≡ k → get_or l at 0 % 268435456 < room → Value (get_or l at 0 % 268435456) ≡ due_word_of k
+      room (drop at l)
   word_value h e g = word_there true h (is_word_lem k room (get_or l at 0) e g)
 
   -- the word at a place is wrong by its kind
@@ -75,13 +78,15 @@ word_room k room (w ∷ l) v e = go (eqb (w / 268435456) k) (ltb (w % 268435456)
 -- ---- the first word of a message, by its kind and its rest
 module _ (w : ℕ) where
   heads : (a b c : Bool) → is_word 1 (2 ^ 16) w ≡ a → is_word 2 (2 ^ 16) w ≡ b → is_word 3 (2 ^ 28) w ≡ c
-      → cond a (ForCommand (stamp_from (low_bits_of w))) (cond b (ForSnapshot (stamp_from (low_bits_of w))) (cond c (ForClock (low_bits_of w)) NoHead)) ≡ head_of w
+      → cond a (ForCommand (stamp_from (low_bits_of w))) (cond b (ForSnapshot (stamp_from (low_bits_of w))) (cond c (ForClock (low_bits_of w)) NoHead)) ≡
+      head_of w
   heads a b c p q r = sym (λ i. cond (p i) (ForCommand (stamp_from (low_bits_of w)))
       (cond (q i) (ForSnapshot (stamp_from (low_bits_of w))) (cond (r i) (ForClock (low_bits_of w)) NoHead)))
 
   -- kind 1, and a rest of 16 bits
   pub head_command : w / 268435456 ≡ 1 → w % 268435456 < 65536 → ForCommand (stamp_from (w % 268435456)) ≡ head_of w
-  head_command h g = heads true false false (is_word_lem 1 (2 ^ 16) w h g) (other_kind 2 (2 ^ 16) w (λ e. omega arith)) (other_kind 3 (2 ^ 28) w (λ e. omega arith))
+  head_command h g = heads true false false (is_word_lem 1 (2 ^ 16) w h g) (other_kind 2 (2 ^ 16) w (λ e. omega arith)) (other_kind 3 (2 ^ 28) w (λ e.
+      omega arith))
 
   -- kind 2, and a rest of 16 bits
   pub head_snapshot : w / 268435456 ≡ 2 → w % 268435456 < 65536 → ForSnapshot (stamp_from (w % 268435456)) ≡ head_of w

@@ -1,5 +1,7 @@
 -- Samples in the slots of an array, and what the loops over them keep. Assumes nothing.
-use Rattle.std.proofs.Common.{◌≡◌, ℕ, suc, ◌+◌, ◌<◌, ◌≤◌, Bool, true, false, cond, ◌&&◌, List, [], ◌∷◌, ◌++◌, length, get_or, take, drop, set, sym, refl, ap, ◌∙◌, append_assoc, add-one, arith, length-set, drop_of_length-le, length-take, take-suc, take-take, take-suc-set, drop-set-lt}
+use Rattle.std.proofs.Common.{◌≡◌, ℕ, suc, ◌+◌, ◌<◌, ◌≤◌, Bool, true, false, cond, ◌&&◌, List, [], ◌∷◌, ◌++◌, length, get_or, take, drop, set, sym, refl}
+use Rattle.std.proofs.Common.{ap, ◌∙◌, append_assoc, add-one, arith, length-set, drop_of_length-le, length-take, take-suc, take-take, take-suc-set}
+use Rattle.std.proofs.Common.{drop-set-lt}
 use lib.Seq.{slice, slice-cons, drop-append-le, take-set-lt}
 use lib.Ieee.{Float, nan, binary64, lt, add}
 use Rattle.mean.specs.Mean.{sample_inserted, place_of, sorted_onto, sorted_of, sum_from, samples_ok}
@@ -40,7 +42,8 @@ module _ {x : Float} {n : ℕ} {xs : List Float} {i : ℕ} (s : Placing x n xs i
 
   pub placing_next : i < n → lt x (get_or xs i nan) ≡ false → Placing x n xs (i + 1)
   placing_next h t =
-      let e : place_of x (slice i n xs) ≡ suc (place_of x (slice (suc i) n xs)) = here h ∙ ap (λ (b : Bool). cond b 0 (suc (place_of x (slice (suc i) n xs)))) t in
+      let e : place_of x (slice i n xs) ≡ suc (place_of x (slice (suc i) n xs)) = here h ∙ ap (λ (b : Bool). cond b 0 (suc (place_of x (slice (suc i) n
+      xs)))) t in
       record { passed = rw (add-one i) (omega (arith, s.passed, e)); high = omega arith; few = s.few; long = s.long }
 
   pub placing_end : n ≤ i → i ≡ place_of x (take n xs)
@@ -68,7 +71,8 @@ inserted_at x [] = refl
 inserted_at x (y ∷ ys) = go (lt x y) (inserted_at x ys)
   where
     go : (b : Bool) → sample_inserted x ys ≡ take (place_of x ys) ys ++ (x ∷ drop (place_of x ys) ys)
-        → cond b (x ∷ y ∷ ys) (y ∷ sample_inserted x ys) ≡ take (cond b 0 (suc (place_of x ys))) (y ∷ ys) ++ (x ∷ drop (cond b 0 (suc (place_of x ys))) (y ∷ ys))
+        → cond b (x ∷ y ∷ ys) (y ∷ sample_inserted x ys) ≡ take (cond b 0 (suc (place_of x ys))) (y ∷ ys) ++ (x ∷ drop (cond b 0 (suc (place_of x ys))) (y
+        ∷ ys))
     go true h = refl
     go false h = ap (λ (l : List Float). y ∷ l) h
 

@@ -1,5 +1,6 @@
 -- The mean as the code has it: what the answers of its calls come to. Assumes nothing.
-use Rattle.std.proofs.Common.{◌≡◌, ℕ, zero, suc, ◌+◌, ◌-◌, ◌≤◌, min, Bool, true, false, cond, List, [], ◌∷◌, length, take, drop, pos, sym, refl, ap, ◌∙◌, arith, length-drop, length-take, take-take}
+use Rattle.std.proofs.Common.{◌≡◌, ℕ, zero, suc, ◌+◌, ◌-◌, ◌≤◌, min, Bool, true, false, cond, List, [], ◌∷◌, length, take, drop, pos, sym, refl, ap, ◌∙◌}
+use Rattle.std.proofs.Common.{arith, length-drop, length-take, take-take}
 use native.Mathlib.Numerals.{unary_clauses}
 use lib.Ieee.{Float, binary64, lt, div, of_int}
 use Rattle.mean.specs.Mean.{sample_inserted, sorted_onto, sorted_of, sum_from, inner_of, average_of, mean_of}

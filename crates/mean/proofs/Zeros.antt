@@ -1,6 +1,9 @@
 -- Signed zeros in the mean: the sum starts at +0.0 and never becomes -0.0, so it does not turn on the signs of the zeros that it adds, nor on their order.
 -- Assumes nothing.
-use Rattle.std.proofs.Common.{◌≡◌, ℕ, zero, suc, ◌+◌, ◌-◌, ◌*◌, ◌%◌, ◌^◌, ◌<◌, ◌≤◌, Bool, true, false, cond, not, ◌&&◌, ◌||◌, T, eqb, ltb, leb, ◌⊎◌, List, [], ◌∷◌, length, take, drop, ℤ, pos, negsuc, sym, refl, ap, ◌∙◌, subst, inl, inr, le_of_lt, mul-le-mul_right, zero-lt-suc, mul_assoc, mul_comm, lt_of_mul-lt-mul_right, mul-lt-mul_of_pos_right, mul-pos, one-mul, pow-suc, mul-one, not-le_of_lt, mul_left_comm, arith, eqb→eq, ltb→lt, pow_pos, pow-add, le-ltb, lt-ltb, eq-eqb, ne_eqb, eqb-true}
+use Rattle.std.proofs.Common.{◌≡◌, ℕ, zero, suc, ◌+◌, ◌-◌, ◌*◌, ◌%◌, ◌^◌, ◌<◌, ◌≤◌, Bool, true, false, cond, not, ◌&&◌, ◌||◌, T, eqb, ltb, leb, ◌⊎◌, List}
+use Rattle.std.proofs.Common.{[], ◌∷◌, length, take, drop, ℤ, pos, negsuc, sym, refl, ap, ◌∙◌, subst, inl, inr, le_of_lt, mul-le-mul_right, zero-lt-suc}
+use Rattle.std.proofs.Common.{mul_assoc, mul_comm, lt_of_mul-lt-mul_right, mul-lt-mul_of_pos_right, mul-pos, one-mul, pow-suc, mul-one, not-le_of_lt}
+use Rattle.std.proofs.Common.{mul_left_comm, arith, eqb→eq, ltb→lt, pow_pos, pow-add, le-ltb, lt-ltb, eq-eqb, ne_eqb, eqb-true}
 use mathlib.Core.Bool.{false≢true}
 use native.Mathlib.Nat.{eq_of_mul-eq-mul_right, pow-succ'}
 use lib.Pow.{pow-lt}

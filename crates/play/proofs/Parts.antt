@@ -15,7 +15,8 @@ use Rattle.simulation.specs.World.{Done, step_of, reset_of, load_of, Load}
 use Rattle.client.specs.Ledgers.{loads}
 use Rattle.client.specs.declared.LastStamp.{LastStamp}
 use Rattle.client.specs.declared.Scene.{Scene}
-use Rattle.client.specs.Sides.{new_side_of, old_side_of, world_of, with_world, ledger_of, with_ledger, with_weight, with_worlds, old_stamp_of, new_stamp_of, put_of}
+use Rattle.client.specs.Sides.{new_side_of, old_side_of, world_of, with_world, ledger_of, with_ledger, with_weight, with_worlds, old_stamp_of, new_stamp_of}
+use Rattle.client.specs.Sides.{put_of}
 use Rattle.client.specs.Sides.{Played, still, and_then, done_at}
 use Rattle.client_publish.specs.Publish.{with_state, published_none, published_side, published_mix}
 use Rattle.client_load.specs.Load.{readied_with, loaded_at, loaded_of}
@@ -226,7 +227,8 @@ module _ {c : Bool} {k : Fixed} {o n : Half} {b : CommandBuffer} {s : Scene} (h 
   drained = ap (λ (x : CommandBuffer). rest_of x t) h.base
 
   -- into the old side, which is the new one from then on
-  pub loads_old : Yields (not c) k n (load_half (rest_of b t) t o) (rest_of b t) (snapshot_word (sides_by c).old g ∷ []) (loaded_of s (old_side_of s.worlds) t g)
+  pub loads_old : Yields (not c) k n (load_half (rest_of b t) t o) (rest_of b t) (snapshot_word (sides_by c).old g ∷ []) (loaded_of s (old_side_of
+      s.worlds) t g)
   unfolding loaded_of loaded_at old_half
   loads_old =
       let d : CommandBuffer = rest_of s.worlds.base t in

@@ -77,7 +77,8 @@ module _ (k : Fixed) (n : Numbers) (left right : Ledger) (c : ℕ) (l r b : List
 
 -- the stamps and the inits of a scene's numbers are those of its worlds
 module _ (s : Scene) where
-  left_by_lem : (v : Bool) → eqb s.worlds.new 0 ≡ v → (left_stamp (numbers_of s) ≡ half_stamp (left_half s)) × (left_init (numbers_of s) ≡ (left_half s).world.init)
+  left_by_lem : (v : Bool) → eqb s.worlds.new 0 ≡ v → (left_stamp (numbers_of s) ≡ half_stamp (left_half s)) × (left_init (numbers_of s) ≡ (left_half
+      s).world.init)
   unfolding numbers_of new_side_of old_side_of world_of old_stamp_of new_stamp_of
   left_by_lem true e = (simp e, simp e)
   left_by_lem false e = (simp e, simp e)

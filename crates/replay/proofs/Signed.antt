@@ -1,5 +1,6 @@
 -- The size of a signed number of 32 bits, which code reads back from its bits. Assumes nothing.
-use Rattle.std.proofs.Common.{◌≡◌, ℕ, suc, ◌+◌, ◌<◌, Bool, true, false, not, T, leb, ℤ, pos, negsuc, ◌-ℤ◌, nat_abs, sym, refl, ap, subst, zero-le, arith, le→leb, T_not, to_z-of_z, w32, w64, Fits, SFits, to_z, of_z, le-ltb}
+use Rattle.std.proofs.Common.{◌≡◌, ℕ, suc, ◌+◌, ◌<◌, Bool, true, false, not, T, leb, ℤ, pos, negsuc, ◌-ℤ◌, nat_abs, sym, refl, ap, subst, zero-le, arith}
+use Rattle.std.proofs.Common.{le→leb, T_not, to_z-of_z, w32, w64, Fits, SFits, to_z, of_z, le-ltb}
 use lib.Signed.{le_z, non_neg}
 
 -- -1 - (-1 - k)
@@ -7,7 +8,8 @@ complement_back : (k : ℕ) → negsuc 0 -ℤ negsuc k ≡ pos k
 complement_back k = simp (le-ltb (suc k) 1 (omega arith)) (ap pos (omega arith))
 
 -- a number that is not negative is a number of 64 bits
-pub low_cast : (v : ℤ) → SFits w32 v → le_z (pos 0) (to_z w32 (of_z w32 v)) ≡ true → T (non_neg (to_z w32 (of_z w32 v))) × Fits w64 (nat_abs (to_z w32 (of_z w32 v)))
+pub low_cast : (v : ℤ) → SFits w32 v → le_z (pos 0) (to_z w32 (of_z w32 v)) ≡ true → T (non_neg (to_z w32 (of_z w32 v))) × Fits w64 (nat_abs (to_z w32
+    (of_z w32 v)))
 low_cast v f = subst (λ (z : ℤ). le_z (pos 0) z ≡ true → T (non_neg z) × Fits w64 (nat_abs z)) (sym (to_z-of_z {w = w32} f)) (go v f)
   where
     go : (z : ℤ) → SFits w32 z → le_z (pos 0) z ≡ true → T (non_neg z) × Fits w64 (nat_abs z)
@@ -38,7 +40,8 @@ module _ (v : ℤ) (f : SFits w32 v) (t : le_z (pos 0) (to_z w32 (of_z w32 v)) �
   unfolding y
   back = to_z-of_z {w = w32} high_fits
 
-  pub high_cast : T (non_neg (to_z w32 (of_z w32 (negsuc 0 -ℤ to_z w32 (of_z w32 v))))) × Fits w64 (nat_abs (to_z w32 (of_z w32 (negsuc 0 -ℤ to_z w32 (of_z w32 v)))))
+  pub high_cast : T (non_neg (to_z w32 (of_z w32 (negsuc 0 -ℤ to_z w32 (of_z w32 v))))) × Fits w64 (nat_abs (to_z w32 (of_z w32 (negsuc 0 -ℤ to_z w32 (of_z
+      w32 v)))))
   unfolding High y
   high_cast = subst (λ (z : ℤ). T (non_neg z) × Fits w64 (nat_abs z)) (sym back)
       (subst T (sym (high v f t).1) tt, record { fits = omega (arith, (high v f t).2) })

@@ -209,7 +209,8 @@ module _ (s : Session) (delta seconds : Float) (inbox : List ℕ) {start heard :
         let d : Clock = clock_after s delta seconds inbox in
         let u : Run = unended_of s.settings (scene_after s inbox) s.overshoot delta (lagged_of s d seconds) in
         let v : Advances u was a mid = subst (λ (x : Run). Advances x was a mid) (λ i. unended_with s (received_is i) (k i) delta seconds inbox) ha in
-        accepted_by_lem s (length was) _ arrival_is z (updates_as ((λ i. concluded_by s (k i) (ht i).request a mid) ∙ concluded_is s d (request_of s delta) u v) h)
+        accepted_by_lem s (length was) _ arrival_is z (updates_as ((λ i. concluded_by s (k i) (ht i).request a mid) ∙ concluded_is s d (request_of s delta)
+        u v) h)
 
     -- refused at its end
     pub worlds_stopped : {m len : ℕ} → m ≡ end_refusal_of s a len → len ≡ length mid → (m ≡ 0 → ⊥) → Updates (refused_with m s len) r last

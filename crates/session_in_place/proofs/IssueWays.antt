@@ -67,7 +67,8 @@ module _ (s : Session) (h : ℕ) {b p w : Bool} {n : ℕ} (hb : b ≡ ltb h hand
       let z : n ≡ issue_refusal_of s h = first_by (ltb h handle_room) (sound_of s) (has_worlds s.stage) (received_now s h).full (is_ready s.stage)
       (hn ∙ (λ i. issue_refusal_by (hb i) (hp i) (hw i) false true)) k in
       e ∙ (λ i. unissued (z i) s)
-      ∙ (λ i. cond (sym (ne_eqb (issue_refusal_of s h) 0 (λ y. k (z ∙ y))) i) (issued_of s (issue_stamp s) (received_now s h)) (unissued (issue_refusal_of s h) s))
+      ∙ (λ i. cond (sym (ne_eqb (issue_refusal_of s h) 0 (λ y. k (z ∙ y))) i) (issued_of s (issue_stamp s) (received_now s h)) (unissued (issue_refusal_of
+      s h) s))
 
   module _ (e : n ≡ 0) where
     past : (ltb h handle_room ≡ true) × (sound_of s ≡ true) × (has_worlds s.stage ≡ true)

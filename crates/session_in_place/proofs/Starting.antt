@@ -49,7 +49,8 @@ new_at t = refl
 module _ (k : Settings) (s : State) (c : ClockNumbers) (seconds : Float) (l r b : List Entry) {p : Bool} (hp : p ≡ both_of c.offset c.id) where
   -- the clock is not ready
   module _ (h : p ≡ false) (full : AllSlots l r b) where
-    not_ready : {t : State} → t ≡ clocked_in s c → (was ss : List Float) → session_at k t ss l r b ≡ synced_of (session_at k s was l r b) (clock_at ss c) seconds
+    not_ready : {t : State} → t ≡ clocked_in s c → (was ss : List Float) → session_at k t ss l r b ≡ synced_of (session_at k s was l r b) (clock_at ss c)
+        seconds
     unfolding synced_of
     not_ready ht was ss =
         ap (λ (x : State). session_at k x ss l r b) ht

@@ -100,7 +100,8 @@ one_kept x r CutShort p z c = kept_more (omega arith) c
 all_kept : {h n k : ℕ} (x : ℕ) (ms : List Message) (r : Received) → x < 2 → n + length ms * 2 < 2 ^ 64 → Kept x h n k r.scene
     → Kept x h (n + length ms * 2) k (over receive_one r ms).scene
 all_kept x [] r p z c = kept_more (omega arith) c
-all_kept {h = h} {n = n} {k = k} x (m ∷ ms) r p z c = kept_more (omega arith) (all_kept {n = n + 2} x ms (receive_one r m) p (omega arith) (one_kept x r m p (omega arith) c))
+all_kept {h = h} {n = n} {k = k} x (m ∷ ms) r p z c = kept_more (omega arith) (all_kept {n = n + 2} x ms (receive_one r m) p (omega arith) (one_kept x r m
+    p (omega arith) c))
 
 one_alike : (w : ClientWorldSimulations) (m : Message) → SameBuffers w (note_one w m)
 one_alike w (Command t i) = record { left = refl; right = refl; base = refl }

@@ -129,7 +129,8 @@ module _ (s : Session) (delta seconds : Float) (inbox : List ℕ) (g : Given s d
         overshoot = nought_in s.settings f.settings;
       })
 
-  waiting_sound : s.stage ≡ SyncingClock → ready_of (clock_after s delta seconds inbox) ≡ false → sound_of (with_clock s (clock_after s delta seconds inbox)) ≡ true
+  waiting_sound : s.stage ≡ SyncingClock → ready_of (clock_after s delta seconds inbox) ≡ false → sound_of (with_clock s (clock_after s delta seconds
+      inbox)) ≡ true
   unfolding connected_of
   waiting_sound e r =
       let f = sound_facts s g.sound in

@@ -33,7 +33,8 @@ use Rattle.clocksync.specs.declared.Ticked.{Ticked}
 use Rattle.clocksync.specs.declared.Offset.{Offset}
 use Rattle.clocksync.specs.declared.Offset.TheVariants.{NoOffset, Seconds}
 use Rattle.mean.specs.Mean.{mean_of}
-use Rattle.clocksync.specs.Clock.{laid_out, held_of, timed_of, ticked_of, listen_of, heard_of, offset_after, sampled_of, filled_of, named_of, sample_of, settled_of}
+use Rattle.clocksync.specs.Clock.{laid_out, held_of, timed_of, ticked_of, listen_of, heard_of, offset_after, sampled_of, filled_of, named_of, sample_of}
+use Rattle.clocksync.specs.Clock.{settled_of}
 use Rattle.clocksync.specs.Clock.{server_seconds_of, ready_of, offset_ok, sound_clock}
 use Rattle.clocksync.proofs.Sound.{sample_within, measured_ok, clock_sound, clock_timer_fits}
 use Rattle.clocksync.proofs.Ready.{has_offset, has_id, ready_id, heard_id, ready_stays, first_offset_ready}

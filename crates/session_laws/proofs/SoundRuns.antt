@@ -30,7 +30,8 @@ use Rattle.session_laws.proofs.SoundWorlds.{Kept, Weighed}
 use Rattle.session_laws.proofs.SoundFrames.{kept_moves, weighed_updates}
 use Rattle.refusals.specs.declared.Stop.{Stop}
 use Rattle.refusals.specs.declared.Stop.TheVariants.{Done, TooManyFrames, StatusStops}
-use Rattle.fixed_timestepper.specs.TimeKeeper.{at_least_zero, drift_of, beyond_deadband, uncapped_of, compensated_of, Run, framed, skips_of, skipped, maybe_skipped}
+use Rattle.fixed_timestepper.specs.TimeKeeper.{at_least_zero, drift_of, beyond_deadband, uncapped_of, compensated_of, Run, framed, skips_of, skipped}
+use Rattle.fixed_timestepper.specs.TimeKeeper.{maybe_skipped}
 use Rattle.fixed_timestepper.specs.TimeKeeper.{skipped_by, unended_of, advanced_of, updated_of}
 use Rattle.fixed_timestepper.proofs.Induction.{Runs, run_by, updated_by, moves_by}
 use Rattle.session_laws.proofs.SoundSkips.{corrected_in}

@@ -208,7 +208,8 @@ module _ (x t : Float) (f : T (fits binary64 x)) (w : Within x (2 ^ 15)) (s : St
       → Between (val zero64) (mul binary64 (from_unwrapped (sub binary64 (float_of (bits_of (ceil_stamp_of x))) x)) t) (val t)
   over_in ok = go (lt last_stamp x) refl
     where
-      go : (b : Bool) → lt last_stamp x ≡ b → Between (val zero64) (mul binary64 (from_unwrapped (sub binary64 (float_of (bits_of (ceil_stamp_of x))) x)) t) (val t)
+      go : (b : Bool) → lt last_stamp x ≡ b → Between (val zero64) (mul binary64 (from_unwrapped (sub binary64 (float_of (bits_of (ceil_stamp_of x))) x))
+          t) (val t)
       go true e =
           let h = holds_true (lt last_stamp x) e in
           let c : float_of (bits_of (ceil_stamp_of x)) ≡ last_stamp = ap (λ (z : ℤ). float_of (bits_of z)) (ceil_last x w.0 h w.2) ∙ last_float in
@@ -225,4 +226,5 @@ pub corrected_in : (server t : Float) → Within server (2 ^ 34) → Step t → 
     → T (finite (corrected_overshoot server t)) × T (le zero64 (corrected_overshoot server t)) × T (le (corrected_overshoot server t) t)
 unfolding corrected_overshoot corrected_of from_unwrapped
 corrected_in server t w s ok =
-    in_order_lem zero64 (corrected_overshoot server t) t tt s.finite_t (over_in (from_seconds server t) t (target_fits server t) (target_within server t w s) s ok)
+    in_order_lem zero64 (corrected_overshoot server t) t tt s.finite_t (over_in (from_seconds server t) t (target_fits server t) (target_within server t w
+    s) s ok)

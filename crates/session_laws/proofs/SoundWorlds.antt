@@ -175,7 +175,8 @@ module _ (w : ClientWorldSimulations) (side : ℕ) (x : Simulation) (e : world_s
 -- ---- worlds that differ in what the weight does not depend on
 
 -- worlds of the same stamps and weight as others are weighed as they are
-pub weighed_as : (v w : ClientWorldSimulations) → v.weight ≡ w.weight → old_stamp_of v ≡ old_stamp_of w → new_stamp_of v ≡ new_stamp_of w → Weighed w → Weighed v
+pub weighed_as : (v w : ClientWorldSimulations) → v.weight ≡ w.weight → old_stamp_of v ≡ old_stamp_of w → new_stamp_of v ≡ new_stamp_of w → Weighed w →
+    Weighed v
 weighed_as v w e o n (is_nought h) = is_nought (subst (λ (t : Float). T (eq t zero64)) (sym e) h)
 weighed_as v w e o n (is_even h a b) =
     is_even (ap (λ (t : Timestamp). t.0) o ∙ h ∙ sym (ap (λ (t : Timestamp). t.0) n)) (subst (λ (t : Float). T (le zero64 t)) (sym e) a)
@@ -209,7 +210,8 @@ published_weighed w p h = weighed_as (with_published w p) w refl refl refl h
 pub weight_kept : (w : ClientWorldSimulations) (t : Float) → Kept w → Kept (with_weight w t)
 weight_kept w t k = record { left = k.left; right = k.right; base = k.base; queued = k.queued; init = k.init }
 
-pub weight_weighed : (w : ClientWorldSimulations) (t : Float) → (old_stamp_of w).0 ≡ (new_stamp_of w).0 → T (le zero64 t) → T (le t one64) → Weighed (with_weight w t)
+pub weight_weighed : (w : ClientWorldSimulations) (t : Float) → (old_stamp_of w).0 ≡ (new_stamp_of w).0 → T (le zero64 t) → T (le t one64) → Weighed
+    (with_weight w t)
 unfolding old_stamp_of new_stamp_of old_side_of new_side_of world_of
 weight_weighed w t e a b = is_even e a b
 

@@ -17,7 +17,8 @@ use Rattle.client.specs.declared.ClientWorldSimulations.{ClientWorldSimulations}
 use Rattle.client.specs.declared.Ledger.{Ledger}
 use Rattle.client.specs.declared.Scene.{Scene}
 use Rattle.client.specs.Ledgers.{takes}
-use Rattle.client.specs.Sides.{new_side_of, old_side_of, world_of, with_world, with_worlds, with_ledger, ledger_of, world_stamp_of, old_stamp_of, new_stamp_of, Played, still}
+use Rattle.client.specs.Sides.{new_side_of, old_side_of, world_of, with_world, with_worlds, with_ledger, ledger_of, world_stamp_of, old_stamp_of}
+use Rattle.client.specs.Sides.{new_stamp_of, Played, still}
 use Rattle.client.specs.Sides.{and_then, done_at}
 use Rattle.client_receive.specs.Receive.{offered_base, offered_side, received_of, from_future_of, fresh_of, snapshots_by, snapshots_of, notes_of}
 use Rattle.client_skip.specs.Skip.{reset_side, reset_along, skips_back, emptied_base, reset_both, skipped_of}

@@ -23,7 +23,8 @@ use Rattle.client.specs.declared.Queued.{Queued}
 use Rattle.client.specs.declared.Queued.TheVariants.{Nothing, Held}
 use Rattle.client.specs.declared.ClientWorldSimulations.{ClientWorldSimulations}
 use Rattle.client.specs.declared.Scene.{Scene}
-use Rattle.client.specs.Sides.{new_side_of, old_side_of, world_of, with_world, with_worlds, world_stamp_of, old_stamp_of, new_stamp_of, Played, still, and_then, done_at}
+use Rattle.client.specs.Sides.{new_side_of, old_side_of, world_of, with_world, with_worlds, world_stamp_of, old_stamp_of, new_stamp_of, Played, still}
+use Rattle.client.specs.Sides.{and_then, done_at}
 use Rattle.client.specs.Status.{status_by, status_of, overshot_of, newer_of}
 use Rattle.client_frame.specs.declared.Rules.{Rules}
 use Rattle.client_load.specs.Load.{readied_with, loaded_at, loaded_of}

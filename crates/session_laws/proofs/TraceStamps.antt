@@ -18,7 +18,8 @@ use Rattle.simulation.specs.World.{Done, next_stamp, step_of, reset_of, resets_b
 use Rattle.client.specs.declared.ClientWorldSimulations.{ClientWorldSimulations}
 use Rattle.client.specs.declared.Ledger.{Ledger}
 use Rattle.client.specs.declared.Scene.{Scene}
-use Rattle.client.specs.Sides.{new_side_of, old_side_of, world_of, with_world, world_stamp_of, old_stamp_of, new_stamp_of, with_ledger, with_worlds, put_of, done_at}
+use Rattle.client.specs.Sides.{new_side_of, old_side_of, world_of, with_world, world_stamp_of, old_stamp_of, new_stamp_of, with_ledger, with_worlds, put_of}
+use Rattle.client.specs.Sides.{done_at}
 use Rattle.client.specs.Status.{later_of, is_greater}
 use Rattle.client_frame.specs.Frame.{caught_up_of}
 

@@ -27,7 +27,8 @@ use Rattle.inbox_passes.specs.Passes.{has_for_worlds, received_in}
 use Rattle.session_issue.specs.declared.IssueAnswer.{IssueAnswer}
 use Rattle.session_answers.specs.Answers.{Reply, refused_with, unless_refused, accepted_of}
 use Rattle.session_issue.specs.Issue.{unissued, issued_of}
-use Rattle.session.specs.Calls.{times_ok, refused_at_once, heard_other, clock_after, request_of, clock_moved_of, clock_update_of, concluded_of, unreceived, played_of}
+use Rattle.session.specs.Calls.{times_ok, refused_at_once, heard_other, clock_after, request_of, clock_moved_of, clock_update_of, concluded_of, unreceived}
+use Rattle.session.specs.Calls.{played_of}
 use Rattle.session.specs.Calls.{worlds_update_of, update_by, update_of}
 use Rattle.session_issue.specs.Issue.{issue_stamp, received_now, issue_refusal_of, issue_of}
 
@@ -78,7 +79,8 @@ module _ {P : Reply → Type 0} (s : Session) (delta seconds : Float) (inbox : L
   by_way : (b : Bool) → has_worlds s.stage ≡ b → Judged s delta seconds inbox → P (update_by b s delta seconds inbox len)
   unfolding worlds_update_of clock_update_of
   by_way true x j =
-      unless_by P (arrival_refusal_by (heard_other s seconds inbox) (received_in inbox (unreceived s)).full) s len _ (λ k. h.refuses _ k) (λ z. concluded_way j x)
+      unless_by P (arrival_refusal_by (heard_other s seconds inbox) (received_in inbox (unreceived s)).full) s len _ (λ k. h.refuses _ k) (λ z.
+      concluded_way j x)
   by_way false x j = unless_by P (syncing_refusal_by (has_for_worlds inbox) (heard_other s seconds inbox)) s len _ (λ k. h.refuses _ k) (λ z. h.syncs j x)
 
   -- an update

@@ -30,7 +30,8 @@ use Rattle.arrivals.specs.Arrivals.{arrived_at, Ready}
 use Rattle.session_lent.specs.declared.World.{World}
 use Rattle.session_lent.specs.declared.Worlds.{Worlds}
 use Rattle.session_lent.specs.Lent.{world_at, worlds_at, old_in, new_in}
-use Rattle.session_play.specs.Play.{WorldsLent, opened_with, unarrived_of, midpoints_of, holding_in, arrived_in, numbers_in, books_of, fixed_in, left_in, right_in}
+use Rattle.session_play.specs.Play.{WorldsLent, opened_with, unarrived_of, midpoints_of, holding_in, arrived_in, numbers_in, books_of, fixed_in, left_in}
+use Rattle.session_play.specs.Play.{right_in}
 
 -- ---- by the calls that make them
 

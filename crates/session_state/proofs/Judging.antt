@@ -33,7 +33,8 @@ init_in_lem w ha hs hb ht h =
 -- it is not
 pub init_out : (w : ClientWorldSimulations) {a : ℕ} {s : Simulation} → a ≡ old_side_of w → s ≡ world_of w a → s.init ≡ false → true ≡ init_sound w
 unfolding init_sound
-init_out w ha hs h = sym (ap (λ (x : Bool). cond x (world_of w (new_side_of w)).init true) (sym (ap (λ (x : Simulation). x.init) (hs ∙ ap (world_of w) ha)) ∙ h))
+init_out w ha hs h = sym (ap (λ (x : Bool). cond x (world_of w (new_side_of w)).init true) (sym (ap (λ (x : Simulation). x.init) (hs ∙ ap (world_of w) ha))
+    ∙ h))
 
 module _ (w : ClientWorldSimulations) {o n : Timestamp} (ho : o ≡ old_stamp_of w) (hn : n ≡ new_stamp_of w) where
   same_by : (b : Bool) → eqb o.0 n.0 ≡ b → eqb (old_stamp_of w).0 (new_stamp_of w).0 ≡ b

@@ -1,5 +1,7 @@
 -- Samples needed and a rate that pass: 1 to 16 samples are left out at each end, and 3 to 64 are stored. Assumes nothing.
-use Rattle.std.proofs.Common.{◌≡◌, ℕ, zero, suc, ◌+◌, ◌-◌, ◌*◌, ◌/◌, ◌^◌, ◌<◌, ◌≤◌, Bool, true, false, cond, ◌&&◌, T, ltb, leb, ◌⊎◌, ℤ, pos, sym, refl, ap, ◌∙◌, subst, inl, inr, true≢false, le_trans, le_of_suc-le-suc, mul-le-mul_right, div-lt_iff_lt-mul, mul-pos, le-div_iff_mul-le, mul-one, le_of_mul-le-mul_right, mul-div_cancel, arith, lit<, lit≤, ltb-true, leb-true}
+use Rattle.std.proofs.Common.{◌≡◌, ℕ, zero, suc, ◌+◌, ◌-◌, ◌*◌, ◌/◌, ◌^◌, ◌<◌, ◌≤◌, Bool, true, false, cond, ◌&&◌, T, ltb, leb, ◌⊎◌, ℤ, pos, sym, refl, ap}
+use Rattle.std.proofs.Common.{◌∙◌, subst, inl, inr, true≢false, le_trans, le_of_suc-le-suc, mul-le-mul_right, div-lt_iff_lt-mul, mul-pos, le-div_iff_mul-le}
+use Rattle.std.proofs.Common.{mul-one, le_of_mul-le-mul_right, mul-div_cancel, arith, lit<, lit≤, ltb-true, leb-true}
 use mathlib.Core.Bool.{false≢true}
 use lib.Ieee.{Float, nan, inf, fin, Format, binary64, low, emax, prec, up, down, odd, units, round, mul, div, lt, le, eq, of_int, to_unsigned}
 use lib.Ieee.Fits.{down_pos}

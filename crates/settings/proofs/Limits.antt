@@ -1,5 +1,7 @@
 -- What settings that pass are like: each limit of refusal 1 by itself, and what follows for the derived numbers. Assumes nothing.
-use Rattle.std.proofs.Common.{◌≡◌, ℕ, zero, suc, ◌+◌, ◌-◌, ◌*◌, ◌^◌, ◌<◌, ◌≤◌, Bool, true, false, cond, ◌&&◌, ◌||◌, T, eqb, leb, ℤ, pos, negsuc, sym, refl, ap, ◌∙◌, subst, inl, inr, lt_of_lt_of_le, zero-lt-suc, mul_assoc, mul-pos, one-mul, mul-one, not-le_of_lt, arith, lit<, lit≤, pow_pos, pow_mono, pow-add, shl_lt, ne_eqb, eqb-true, leb-true}
+use Rattle.std.proofs.Common.{◌≡◌, ℕ, zero, suc, ◌+◌, ◌-◌, ◌*◌, ◌^◌, ◌<◌, ◌≤◌, Bool, true, false, cond, ◌&&◌, ◌||◌, T, eqb, leb, ℤ, pos, negsuc, sym, refl}
+use Rattle.std.proofs.Common.{ap, ◌∙◌, subst, inl, inr, lt_of_lt_of_le, zero-lt-suc, mul_assoc, mul-pos, one-mul, mul-one, not-le_of_lt, arith, lit<, lit≤}
+use Rattle.std.proofs.Common.{pow_pos, pow_mono, pow-add, shl_lt, ne_eqb, eqb-true, leb-true}
 use mathlib.Core.Bool.{false≢true}
 use lib.Pow.{pow-lt}
 use lib.Signed.{le_z}

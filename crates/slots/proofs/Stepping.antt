@@ -91,7 +91,8 @@ module _ (b : CommandBuffer) (to : Timestamp) where
       ap (λ (l : List Entry). laid l to) all ∙ ap (around to) (leaving_some (taken_of b to) left b h) ∙ sym (moved_lossless (rest_of b to) to z)
 
   -- where something of the rest leaves the range
-  laid_out_lem : ((moved_of (rest_of b to) to).dropped ≡ 0 → ⊥) → laid (filter_b (in_range_of to) (held (rest_of b to))) to ≡ (moved_of (rest_of b to) to).buffer
+  laid_out_lem : ((moved_of (rest_of b to) to).dropped ≡ 0 → ⊥) → laid (filter_b (in_range_of to) (held (rest_of b to))) to ≡ (moved_of (rest_of b to)
+      to).buffer
   unfolding moved_of
   laid_out_lem h = leaving_some (dropped_of (rest_of b to) to) (filter_b (in_range_of to) (held (rest_of b to))) (around to (rest_of b to)) h
 

@@ -1,5 +1,6 @@
 -- Small facts about tests on numbers that the other modules share. Assumes nothing.
-use Rattle.std.proofs.Common.{◌≡◌, ℕ, ◌+◌, ◌<◌, ◌≤◌, Bool, true, false, not, ◌&&◌, ◌||◌, T, eqb, ltb, ◌⊎◌, sym, refl, subst, inl, inr, arith, ltb→lt, nltb→le, ltb-false, ltb-true, eqb-true}
+use Rattle.std.proofs.Common.{◌≡◌, ℕ, ◌+◌, ◌<◌, ◌≤◌, Bool, true, false, not, ◌&&◌, ◌||◌, T, eqb, ltb, ◌⊎◌, sym, refl, subst, inl, inr, arith, ltb→lt}
+use Rattle.std.proofs.Common.{nltb→le, ltb-false, ltb-true, eqb-true}
 
 -- a < b, or b ≤ a
 pub split : (a b : ℕ) → (a < b) ⊎ (b ≤ a)

@@ -1,10 +1,14 @@
 -- The bits of a binary64 value with those below the point cleared are the bits of its whole part. Assumes nothing.
-use Rattle.std.proofs.Common.{◌≡◌, ℕ, zero, suc, ◌+◌, ◌-◌, ◌*◌, ◌/◌, ◌%◌, ◌^◌, ◌<◌, ◌≤◌, Bool, true, false, cond, not, T, eqb, leb, ◌⊎◌, pos, sym, refl, ap, ◌∙◌, subst, inl, inr, lt_of_lt_of_le, lt_of_le_of_lt, mod-lt, mod-eq_of_lt, mul_assoc, mul_comm, add-mul, add_comm, div-add-mod', mul-one, div-le_self, mul_right_comm, div-mul-le_self, mul-div_cancel, arith, lit<, lit≤, pow_pos, pow_mono, pow-add, shl_lt, ne_eqb, le-leb}
+use Rattle.std.proofs.Common.{◌≡◌, ℕ, zero, suc, ◌+◌, ◌-◌, ◌*◌, ◌/◌, ◌%◌, ◌^◌, ◌<◌, ◌≤◌, Bool, true, false, cond, not, T, eqb, leb, ◌⊎◌, pos, sym, refl, ap}
+use Rattle.std.proofs.Common.{◌∙◌, subst, inl, inr, lt_of_lt_of_le, lt_of_le_of_lt, mod-lt, mod-eq_of_lt, mul_assoc, mul_comm, add-mul, add_comm}
+use Rattle.std.proofs.Common.{div-add-mod', mul-one, div-le_self, mul_right_comm, div-mul-le_self, mul-div_cancel, arith, lit<, lit≤, pow_pos, pow_mono}
+use Rattle.std.proofs.Common.{pow-add, shl_lt, ne_eqb, le-leb}
 use native.Mathlib.Nat.{add-mul-div_right, div-eq_of_lt}
 use native.Mathlib.Nat.{eq_of_mul-eq-mul_right}
 use lib.Pow.{field}
+use lib.Bits.{and_mask, bit_and}
 use lib.Arith.{digits_div, digits_mod}
-use lib.Ieee.{Float, nan, inf, fin, binary64, up, down, round, odd, of_fields, of_bits, nan_bits}
+use lib.Ieee.{Float, nan, inf, fin, binary64, up, down, round, odd, ne, is_nan, of_fields, of_bits, nan_bits}
 use lib.Ieee.Fits.{round-fits, down_pos}
 use lib.Ieee.Bits.{of_bits-fits}
 use lib.Ieee.Exact.{HasValue, odd_sign, round_exact}
@@ -43,6 +47,17 @@ sign b = leb (2 ^ 63) b
 -- the exponent's field of a pattern
 abbrev pub expo : ℕ → ℕ
 expo b = b / 2 ^ 52 % 2 ^ 11
+
+-- the field as the code reads it
+pub expo_is : (b : ℕ) → bit_and (b / 2 ^ 52) 2047 ≡ expo b
+expo_is b = and_mask (b / 2 ^ 52) 11
+
+-- a value that equals itself is a number
+pub no_nan_of : (x : Float) → ne x x ≡ false → T (not (is_nan x))
+unfolding is_nan ne
+no_nan_of nan h = subst T h tt
+no_nan_of (inf s) h = tt
+no_nan_of (fin s m e) h = tt
 
 pub of_bits_is : (b : ℕ) → of_bits binary64 b ≡ of_fields binary64 (sign b) (expo b) (b % 2 ^ 52)
 unfolding of_bits

@@ -1,6 +1,9 @@
 -- The remainder of a binary64 value by 65,536, from its bits: with those below 65,536 cleared they are the bits of a multiple of 65,536, and what the value
 -- is over that is exact. Assumes nothing.
-use Rattle.std.proofs.Common.{◌≡◌, ℕ, zero, suc, ◌+◌, ◌-◌, ◌*◌, ◌/◌, ◌%◌, ◌^◌, ◌<◌, ◌≤◌, Bool, true, false, cond, not, ◌&&◌, T, eqb, ltb, leb, ℤ, pos, negsuc, sym, refl, ap, ◌∙◌, subst, inl, inr, lt_of_lt_of_le, mod-lt, mod-eq_of_lt, mul_assoc, mul_comm, add-mul, one-mul, zero-mul, mul-one, mul-pos, mul_right_comm, div-add-mod', mul-lt-mul_of_pos_right, arith, lit<, pow_pos, pow_mono, pow-add, shl_lt, le-ltb, lt-ltb, eqb→eq}
+use Rattle.std.proofs.Common.{◌≡◌, ℕ, zero, suc, ◌+◌, ◌-◌, ◌*◌, ◌/◌, ◌%◌, ◌^◌, ◌<◌, ◌≤◌, Bool, true, false, cond, not, ◌&&◌, T, eqb, ltb, leb, ℤ, pos}
+use Rattle.std.proofs.Common.{negsuc, sym, refl, ap, ◌∙◌, subst, inl, inr, lt_of_lt_of_le, mod-lt, mod-eq_of_lt, mul_assoc, mul_comm, add-mul, one-mul}
+use Rattle.std.proofs.Common.{zero-mul, mul-one, mul-pos, mul_right_comm, div-add-mod', mul-lt-mul_of_pos_right, arith, lit<, pow_pos, pow_mono, pow-add}
+use Rattle.std.proofs.Common.{shl_lt, le-ltb, lt-ltb, eqb→eq}
 use native.Mathlib.Nat.{eq_of_mul-eq-mul_right, mul-mod_left, mul-add-mod_self_right, mul-div_cancel, mul_left_comm, zero-lt-suc, pow-succ', pow-suc, lt_irrefl}
 use Rattle.std.proofs.Math.Arith.{mod-mul}
 use lib.Ieee.{Float, nan, inf, fin, binary64, up, down, round, sum, add, sub, neg, rem, fits, of_fields, of_bits, nan_bits}
@@ -176,7 +179,8 @@ rem_low : (y : Float) (s : Bool) (q x : ℕ) → T (fits binary64 y) → HasValu
 rem_low y s q x F v Q X =
     let C : 0 < 2 ^ 1074 = pow_pos 1074 in
     let X' : 53 + x ≤ 1090 = omega arith in
-    let l : q * 2 ^ x < 2 ^ 16 * 2 ^ 1074 = subst (λ (z : ℕ). q * 2 ^ x < z) (pow-add 2 16 1074) (lt_of_lt_of_le (shl_lt 53 x Q) (pow_mono {i = 53 + x} {j = 1090} X')) in
+    let l : q * 2 ^ x < 2 ^ 16 * 2 ^ 1074 = subst (λ (z : ℕ). q * 2 ^ x < z) (pow-add 2 16 1074) (lt_of_lt_of_le (shl_lt 53 x Q) (pow_mono {i = 53 + x} {j
+    = 1090} X')) in
     let X'' : 53 + x ≤ 2098 = omega arith in
     let r : HasValue (round binary64 s (q * 2 ^ x) (2 ^ 1074)) s (q * 2 ^ x) (2 ^ 1074) =
     round_exact binary64 s (q * 2 ^ x) (2 ^ 1074) q x C Q (lt_of_lt_of_le (shl_lt 53 x Q) (pow_mono {i = 53 + x} {j = 2098} X'')) refl in
@@ -219,7 +223,8 @@ zero_left b a l v h =
     ∙ zero_of (sign b))
 
 -- from 2 ^ 69 up all is a multiple
-pub multiple_alone : (b : ℕ) → b < 2 ^ 64 → 1091 < expo b → (expo b ≡ 2047 → ⊥) → of_bits binary64 (b / 2 ^ 63 * 2 ^ 63) ≡ rem binary64 (of_bits binary64 b) cycle64
+pub multiple_alone : (b : ℕ) → b < 2 ^ 64 → 1091 < expo b → (expo b ≡ 2047 → ⊥) → of_bits binary64 (b / 2 ^ 63 * 2 ^ 63) ≡ rem binary64 (of_bits binary64
+    b) cycle64
 multiple_alone b l h n = go (expo b) refl
   where
     go : (f : ℕ) → expo b ≡ f → of_bits binary64 (b / 2 ^ 63 * 2 ^ 63) ≡ rem binary64 (of_bits binary64 b) cycle64
@@ -316,7 +321,8 @@ module _ (b k : ℕ) (l : b < 2 ^ 64) (is : k + expo b ≡ 1091) (K : k ≤ 52) 
   nothing_left e =
       zero_left b ((2 ^ 52 + b % 2 ^ 52) * 2 ^ scale) l whole (left ∙ ap (λ (z : ℕ). z * 2 ^ scale) (none_cleared e) ∙ zero-mul (2 ^ scale))
 
-  pub taken_off : (b / 2 ^ k * 2 ^ k ≡ b → ⊥) → sub binary64 (of_bits binary64 b) (of_bits binary64 (b / 2 ^ k * 2 ^ k)) ≡ rem binary64 (of_bits binary64 b) cycle64
+  pub taken_off : (b / 2 ^ k * 2 ^ k ≡ b → ⊥) → sub binary64 (of_bits binary64 b) (of_bits binary64 (b / 2 ^ k * 2 ^ k)) ≡ rem binary64 (of_bits binary64
+      b) cycle64
   taken_off n =
       let a = (2 ^ 52 + b % 2 ^ 52) * 2 ^ scale in
       let m = (2 ^ 52 + b % 2 ^ 52 / 2 ^ k * 2 ^ k) * 2 ^ scale in

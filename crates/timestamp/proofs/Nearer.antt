@@ -1,5 +1,8 @@
 -- The nearest whole number, a half away from zero: what is left of a value is exact, and the code compares it with a half. Assumes nothing.
-use Rattle.std.proofs.Common.{◌≡◌, ℕ, suc, ◌+◌, ◌-◌, ◌*◌, ◌/◌, ◌^◌, ◌<◌, ◌≤◌, Bool, true, false, cond, not, ◌&&◌, T, eqb, ltb, ℤ, pos, negsuc, sym, refl, ap, ◌∙◌, subst, inl, inr, true≢false, le_of_eq, lt_of_lt_of_le, lt_of_le_of_lt, mul-le-mul_right, mul_assoc, mul_comm, lt_of_mul-lt-mul_right, mul-lt-mul_of_pos_right, mul-pos, mul-one, not-le_of_lt, div-mul-le_self, le_of_mul-le-mul_right, sub-le, arith, lit<, pow_pos, pow_mono, pow-add, shl_lt, le-ltb, lt-ltb, eqb-true}
+use Rattle.std.proofs.Common.{◌≡◌, ℕ, suc, ◌+◌, ◌-◌, ◌*◌, ◌/◌, ◌^◌, ◌<◌, ◌≤◌, Bool, true, false, cond, not, ◌&&◌, T, eqb, ltb, ℤ, pos, negsuc, sym, refl}
+use Rattle.std.proofs.Common.{ap, ◌∙◌, subst, inl, inr, true≢false, le_of_eq, lt_of_lt_of_le, lt_of_le_of_lt, mul-le-mul_right, mul_assoc, mul_comm}
+use Rattle.std.proofs.Common.{lt_of_mul-lt-mul_right, mul-lt-mul_of_pos_right, mul-pos, mul-one, not-le_of_lt, div-mul-le_self, le_of_mul-le-mul_right}
+use Rattle.std.proofs.Common.{sub-le, arith, lit<, pow_pos, pow_mono, pow-add, shl_lt, le-ltb, lt-ltb, eqb-true}
 use mathlib.Core.Bool.{false≢true}
 use native.Mathlib.Nat.{mul-sub}
 use native.Mathlib.Nat.{lt-div-mul-add, div-eq_of_lt-le}

@@ -1,6 +1,7 @@
 -- RFC 1982 and the stamps of document 01: where the RFC defines a sum or a comparison, ours is the same, and ours goes further exactly on the pairs 2 ^ 15
 -- apart. Assumes nothing.
-use Rattle.std.proofs.Common.{◌≡◌, ℕ, ◌+◌, ◌-◌, ◌%◌, ◌<◌, Bool, true, false, cond, leb, sym, refl, ap, ◌∙◌, inl, inr, arith, le-ltb, lt-ltb, eq-eqb, ne_eqb, le-leb}
+use Rattle.std.proofs.Common.{◌≡◌, ℕ, ◌+◌, ◌-◌, ◌%◌, ◌<◌, Bool, true, false, cond, leb, sym, refl, ap, ◌∙◌, inl, inr, arith, le-ltb, lt-ltb, eq-eqb, ne_eqb}
+use Rattle.std.proofs.Common.{le-leb}
 use Rattle.timestamp.specs.declared.Ordering.{Ordering}
 use Rattle.timestamp.specs.declared.Ordering.TheVariants.{Less, Equal, Greater}
 use Rattle.timestamp.specs.Rfc1982.{defined, undefined_sum, serial_sum, Comparison, equal, less, greater, undefined_order, serial_less, serial_greater}

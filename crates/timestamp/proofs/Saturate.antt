@@ -1,5 +1,6 @@
 -- `to_signed 15`, Rust's `as i16`, at a value that the code has compared with the ends of the range. Assumes nothing.
-use Rattle.std.proofs.Common.{◌≡◌, ℕ, ◌+◌, ◌*◌, ◌/◌, ◌<◌, ◌≤◌, min, Bool, true, false, ◌&&◌, ◌||◌, T, eqb, ltb, pos, negsuc, neg_ℤ, sym, refl, ap, ◌∙◌, subst, div-lt_iff_lt-mul, le-div_iff_mul-le, arith, ltb-false, ltb-true, lt-ltb, eqb-true}
+use Rattle.std.proofs.Common.{◌≡◌, ℕ, ◌+◌, ◌*◌, ◌/◌, ◌<◌, ◌≤◌, min, Bool, true, false, ◌&&◌, ◌||◌, T, eqb, ltb, pos, negsuc, neg_ℤ, sym, refl, ap, ◌∙◌}
+use Rattle.std.proofs.Common.{subst, div-lt_iff_lt-mul, le-div_iff_mul-le, arith, ltb-false, ltb-true, lt-ltb, eqb-true}
 use lib.Ieee.{Float, nan, inf, fin, up, down, lt, le, eq, ne, to_signed}
 use lib.Ieee.Fits.{down_pos}
 use lib.Ieee.Compare.{differs_from_itself}

@@ -1,5 +1,6 @@
 -- The signed reading of 16 bits, out of a stamp and into one. Assumes nothing.
-use Rattle.std.proofs.Common.{◌≡◌, ℕ, zero, suc, ◌-◌, ◌<◌, ◌≤◌, Bool, true, false, not, T, leb, ℤ, pos, negsuc, ◌-ℤ◌, nat_abs, sym, refl, ap, ◌∙◌, subst, zero-le, arith, le→leb, T_not, to_z-of_z, w16, Fits, SFits, to_z, of_z, le-ltb, lt-ltb}
+use Rattle.std.proofs.Common.{◌≡◌, ℕ, zero, suc, ◌-◌, ◌<◌, ◌≤◌, Bool, true, false, not, T, leb, ℤ, pos, negsuc, ◌-ℤ◌, nat_abs, sym, refl, ap, ◌∙◌, subst}
+use Rattle.std.proofs.Common.{zero-le, arith, le→leb, T_not, to_z-of_z, w16, Fits, SFits, to_z, of_z, le-ltb, lt-ltb}
 use lib.Signed.{le_z, non_neg}
 use mir.Facts.{to_z_pos}
 use Rattle.timestamp.specs.Timestamps.{signed_of, bits_of}
@@ -62,9 +63,19 @@ module _ (v : ℤ) (f : SFits w16 v) (t : le_z (pos 0) (to_z w16 (of_z w16 v)) �
   unfolding y
   back = to_z-of_z {w = w16} high_fits
 
-  pub high_in : (T (non_neg (to_z w16 (of_z w16 (negsuc 0 -ℤ to_z w16 (of_z w16 v))))) × Fits w16 (nat_abs (to_z w16 (of_z w16 (negsuc 0 -ℤ to_z w16 (of_z w16 v))))))
+  pub high_in : (T (non_neg (to_z w16 (of_z w16 (negsuc 0 -ℤ to_z w16 (of_z w16 v))))) × Fits w16 (nat_abs (to_z w16 (of_z w16 (negsuc 0 -ℤ to_z w16 (of_z
+      w16 v))))))
   unfolding High y
-  high_in = subst (λ (z : ℤ). T (non_neg z) × Fits w16 (nat_abs z)) (sym back) (subst T (sym (high v f t).1) tt, record { fits = omega (arith, (high v f t).2) })
+  high_in = subst (λ (z : ℤ). T (non_neg z) × Fits w16 (nat_abs z)) (sym back) (
+    subst T (sym (high v f t).1) tt,
+    record {
+      fits = omega (
+        arith,
+        (high v f
+            t).2,
+      );
+    },
+  )
 
   pub high_le : nat_abs (to_z w16 (of_z w16 (negsuc 0 -ℤ to_z w16 (of_z w16 v)))) ≤ 65535
   unfolding High y

@@ -1,5 +1,9 @@
 -- From the whole part of a value to the whole number above, below or nearest: what the code's comparisons and additions of 1 give. Assumes nothing.
-use Rattle.std.proofs.Common.{◌≡◌, ℕ, zero, suc, ◌+◌, ◌-◌, ◌*◌, ◌/◌, ◌%◌, ◌^◌, ◌<◌, ◌≤◌, min, Bool, true, false, cond, ◌&&◌, T, eqb, ltb, leb, ℤ, pos, negsuc, neg_ℤ, sym, refl, ap, ◌∙◌, subst, inl, inr, true≢false, le_trans, le_of_eq, lt_of_lt_of_le, le_of_lt, mul-le-mul_right, mul_assoc, mul_comm, mul-lt-mul_of_pos_right, mul-pos, one-mul, zero-mul, mul-one, div-le_self, mul_right_comm, div-mul-le_self, mul-div_cancel, arith, lit<, eqb→eq, ltb→lt, leb→le, pow_pos, pow-add, ltb-false, ltb-true, le-ltb, lt-ltb}
+use Rattle.std.proofs.Common.{◌≡◌, ℕ, zero, suc, ◌+◌, ◌-◌, ◌*◌, ◌/◌, ◌%◌, ◌^◌, ◌<◌, ◌≤◌, min, Bool, true, false, cond, ◌&&◌, T, eqb, ltb, leb, ℤ, pos}
+use Rattle.std.proofs.Common.{negsuc, neg_ℤ, sym, refl, ap, ◌∙◌, subst, inl, inr, true≢false, le_trans, le_of_eq, lt_of_lt_of_le, le_of_lt}
+use Rattle.std.proofs.Common.{mul-le-mul_right, mul_assoc, mul_comm, mul-lt-mul_of_pos_right, mul-pos, one-mul, zero-mul, mul-one, div-le_self}
+use Rattle.std.proofs.Common.{mul_right_comm, div-mul-le_self, mul-div_cancel, arith, lit<, eqb→eq, ltb→lt, leb→le, pow_pos, pow-add, ltb-false, ltb-true}
+use Rattle.std.proofs.Common.{le-ltb, lt-ltb}
 use mathlib.Core.Bool.{false≢true}
 use native.Mathlib.Nat.{lt-div-mul-add, div-eq_of_lt-le}
 use lib.Ieee.{Float, nan, inf, fin, binary64, up, down, round, sum, add, sub, neg, lt, below, fits, to_signed}

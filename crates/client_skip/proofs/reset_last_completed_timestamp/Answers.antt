@@ -16,7 +16,12 @@ right-full c = search (mapped_length, c.well_formed.0.1.1.0.1.1.1.0.1.1.0.1.1.0.
 
 pub reset_side-b-requires : goal.reset_side-b-requires
 reset_side-b-requires c =
-    omega (arith, c.requires, along_near c.args.s c.args.stamp (left-full c.before.before.before.before.before.before.before.before.before.before) (right-full c.before.before.before.before.before.before.before.before.before.before) c.reset_along-a.ensures)
+    omega (
+      arith,
+      c.requires,
+      along_near c.args.s c.args.stamp (left-full c.before.before.before.before.before.before.before.before.before.before)
+          (right-full c.before.before.before.before.before.before.before.before.before.before) c.reset_along-a.ensures,
+    )
 
 pub returns : goal.returns
 returns c =

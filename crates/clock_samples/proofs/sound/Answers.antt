@@ -38,7 +38,8 @@ pub returns-in-NoOffset : goal.returns-in-NoOffset
 returns-in-NoOffset c =
     let clock : Clock = clock_at c.args.samples.now c.args.c in
     let below : clock.len < samples_to_store_of c.args.settings = omega (arith, c.samples_to_store.ensures, c.if-n-samples_to_store.false) in
-    let last : offset_ok clock.offset ≡ sound_clock c.args.settings clock = verdict_offset c.args.settings clock below c.if-n-gt-MOST_SAMPLES.false (holds c.if-not-all_sound.false c.all_sound.ensures)
+    let last : offset_ok clock.offset ≡ sound_clock c.args.settings clock = verdict_offset c.args.settings clock below c.if-n-gt-MOST_SAMPLES.false (holds
+    c.if-not-all_sound.false c.all_sound.ensures)
     (holds c.if-not-timer_sound.false c.timer_sound.ensures) in
     sym (ap offset_ok c.in-NoOffset.is) ∙ last
 
@@ -46,6 +47,7 @@ pub returns-in-Seconds : goal.returns-in-Seconds
 returns-in-Seconds c =
     let clock : Clock = clock_at c.args.samples.now c.args.c in
     let below : clock.len < samples_to_store_of c.args.settings = omega (arith, c.samples_to_store.ensures, c.if-n-samples_to_store.false) in
-    let last : offset_ok clock.offset ≡ sound_clock c.args.settings clock = verdict_offset c.args.settings clock below c.if-n-gt-MOST_SAMPLES.false (holds c.if-not-all_sound.false c.all_sound.ensures)
+    let last : offset_ok clock.offset ≡ sound_clock c.args.settings clock = verdict_offset c.args.settings clock below c.if-n-gt-MOST_SAMPLES.false (holds
+    c.if-not-all_sound.false c.all_sound.ensures)
     (holds c.if-not-timer_sound.false c.timer_sound.ensures) in
     c.sample_sound.ensures ∙ sym (ap offset_ok c.in-Seconds.is) ∙ last

@@ -28,7 +28,8 @@ high = fin false 1 (pos 32)
 
 pub returns-then-size-gt9218868437227405312 : goal.returns-then-size-gt9218868437227405312
 unfolding inbox_time_of
-returns-then-size-gt9218868437227405312 c = picked (of_bits binary64 c.args.bits) false (ap time_ok (is_nan_lem c.args.bits c.if-size-gt9218868437227405312.true) ∙ nan_out)
+returns-then-size-gt9218868437227405312 c = picked (of_bits binary64 c.args.bits) false (ap time_ok (is_nan_lem c.args.bits
+    c.if-size-gt9218868437227405312.true) ∙ nan_out)
 
 pub float_from_bits-x : goal.float_from_bits-x
 float_from_bits-x c = no_nan c.args.bits c.if-size-gt9218868437227405312.false

@@ -1,11 +1,11 @@
 -- `remainder` meets its contract: the bits below 65,536 are shifted out, and zeros in, and what is over them is left (proofs/Multiple.antt). Assumes nothing.
-use Rattle.std.proofs.Common.{◌≡◌, ℕ, ◌+◌, ◌-◌, ◌/◌, ◌*◌, ◌%◌, ◌^◌, ◌<◌, ◌≤◌, true, false, not, T, sym, ap, ◌∙◌, subst, arith}
-use lib.Bits.{and_mask, bit_and}
-use lib.Ieee.{Float, nan, inf, fin, binary64, ne, is_nan, fits, to_bits, of_bits, nan_bits, rem, sub}
+use Rattle.std.proofs.Common.{◌≡◌, ℕ, ◌+◌, ◌-◌, ◌/◌, ◌*◌, ◌%◌, ◌^◌, ◌<◌, ◌≤◌, true, not, T, sym, ap, ◌∙◌, subst, arith}
+use lib.Bits.{bit_and}
+use lib.Ieee.{Float, binary64, ne, fits, to_bits, of_bits, nan_bits, rem, sub}
 use lib.Ieee.Bits.{of_bits-to_bits, to_bits-lt}
 use lib.Ieee.Compare.{differs_from_itself}
 use Rattle.timestamp.specs.FloatTimestamps.{cycle64}
-use Rattle.timestamp.proofs.Cleared.{expo, shifted_back}
+use Rattle.timestamp.proofs.Cleared.{expo, expo_is, no_nan_of, shifted_back}
 use Rattle.timestamp.proofs.Patterns.{no_nan}
 use Rattle.timestamp.proofs.Multiple.{below_cycle, no_remainder, multiple_alone, kept_no_nan, nothing_left, taken_off}
 use Rattle.timestamp.proofs.remainder.Goals as goal
@@ -15,16 +15,10 @@ nan-left : (x : Float) → ne x x ≡ true → x ≡ rem binary64 x cycle64
 unfolding rem
 nan-left x h = let e = differs_from_itself x (subst T (sym h) tt) in e ∙ ap (λ (z : Float). rem binary64 z cycle64) (sym e)
 
-number : (x : Float) → ne x x ≡ false → T (not (is_nan x))
-unfolding is_nan ne
-number nan h = subst T h tt
-number (inf s) h = tt
-number (fin s m e) h = tt
-
 held : (c : Start) → T (fits binary64 c.args.x)
 held c = subst T (sym c.well_formed.0.1) tt
 
--- the bits, and their exponent's field as the code has it
+-- the bits
 bits : Start → ℕ
 bits c = to_bits binary64 c.args.x
 
@@ -36,26 +30,23 @@ within : (c : Start) → bits c < 2 ^ 64
 unfolding bits
 within c = to_bits-lt binary64 c.args.x (held c)
 
-field : (c : Start) → bit_and (bits c / 2 ^ 52) 2047 ≡ expo (bits c)
-field c = and_mask (bits c / 2 ^ 52) 11
-
 pub returns-then-x : goal.returns-then-x
 returns-then-x c = nan-left c.args.x c.if-x.true
 
 pub float_to_bits-bits : goal.float_to_bits-bits
-float_to_bits-bits c = number c.args.x c.if-x.false
+float_to_bits-bits c = no_nan_of c.args.x c.if-x.false
 
 pub returns-then-exponent-lt1039 : goal.returns-then-exponent-lt1039
 unfolding bits
 returns-then-exponent-lt1039 c =
     let s = c.before.before in
-    subst (λ (z : Float). z ≡ rem binary64 z cycle64) (is s) (below_cycle (bits s) (omega (arith, field s, c.if-exponent-lt1039.true)))
+    subst (λ (z : Float). z ≡ rem binary64 z cycle64) (is s) (below_cycle (bits s) (omega (arith, expo_is (bits s), c.if-exponent-lt1039.true)))
 
 pub returns-then-exponent-eq2047 : goal.returns-then-exponent-eq2047
 unfolding bits
 returns-then-exponent-eq2047 c =
     let s = c.before.before.before in
-    subst (λ (z : Float). sub binary64 z z ≡ rem binary64 z cycle64) (is s) (no_remainder (bits s) (sym (field s) ∙ c.if-exponent-eq2047.true))
+    subst (λ (z : Float). sub binary64 z z ≡ rem binary64 z cycle64) (is s) (no_remainder (bits s) (sym (expo_is (bits s)) ∙ c.if-exponent-eq2047.true))
 
 -- the sign's bit alone is no NaN's pattern, and is within 64 bits
 sign_no_nan : (b : ℕ) → b < 2 ^ 64 → T (not (nan_bits binary64 (b / 2 ^ 63 * 2 ^ 63 % 2 ^ 64)))
@@ -70,7 +61,7 @@ unfolding bits
 returns-then-exponent-gt1091 c =
     let s = c.before.before.before.before in
     ap (of_bits binary64) (shifted_back (bits s) 63 (within s))
-    ∙ multiple_alone (bits s) (within s) (omega (arith, field s, c.if-exponent-gt1091.true)) (λ e. c.if-exponent-eq2047.false (field s ∙ e))
+    ∙ multiple_alone (bits s) (within s) (omega (arith, expo_is (bits s), c.if-exponent-gt1091.true)) (λ e. c.if-exponent-eq2047.false (expo_is (bits s) ∙ e))
     ∙ ap (λ (z : Float). rem binary64 z cycle64) (is s)
 
 pub float_from_bits-result-then-multiple-bits : goal.float_from_bits-result-then-multiple-bits
@@ -88,7 +79,7 @@ module _ (c : Else-exponent-gt1091) where
 
   k-is : k + expo (bits s) ≡ 1091
   unfolding s bits
-  k-is = omega (arith, field s, c.if-exponent-gt1091.false)
+  k-is = omega (arith, expo_is (bits s), c.if-exponent-gt1091.false)
 
   few : k ≤ 52
   few = omega (arith, c.if-exponent-lt1039.false)

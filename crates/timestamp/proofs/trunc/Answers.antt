@@ -1,11 +1,10 @@
 -- `trunc` meets its contract: the bits below the point are shifted out, and zeros in (proofs/Cleared.antt). Assumes nothing.
-use Rattle.std.proofs.Common.{◌≡◌, ℕ, ◌/◌, ◌^◌, ◌<◌, true, false, not, T, sym, ap, ◌∙◌, subst, inl, inr, arith}
-use lib.Bits.{and_mask, bit_and}
-use lib.Ieee.{Float, nan, inf, fin, binary64, ne, is_nan, fits, to_bits, of_bits}
+use Rattle.std.proofs.Common.{◌≡◌, ℕ, ◌^◌, ◌<◌, true, T, sym, ap, ◌∙◌, subst, inl, inr, arith}
+use lib.Ieee.{Float, binary64, ne, fits, to_bits, of_bits}
 use lib.Ieee.Bits.{of_bits-to_bits, to_bits-lt}
 use lib.Ieee.Compare.{differs_from_itself}
 use Rattle.timestamp.specs.Whole.{trunc_of}
-use Rattle.timestamp.proofs.Cleared.{expo, Clears, clears_lt, shifted_whole, shifted_no_nan, large}
+use Rattle.timestamp.proofs.Cleared.{expo_is, no_nan_of, Clears, clears_lt, shifted_whole, shifted_no_nan, large}
 use Rattle.timestamp.proofs.trunc.Goals as goal
 use Rattle.timestamp.proofs.trunc.Goals.{Joined-below_one, Start, then-below_one, else-below_one}
 
@@ -13,16 +12,10 @@ nan-stays : (x : Float) → ne x x ≡ true → x ≡ trunc_of x
 unfolding trunc_of
 nan-stays x h = let e = differs_from_itself x (subst T (sym h) tt) in e ∙ ap trunc_of (sym e)
 
-number : (x : Float) → ne x x ≡ false → T (not (is_nan x))
-unfolding is_nan ne
-number nan h = subst T h tt
-number (inf s) h = tt
-number (fin s m e) h = tt
-
 held : (c : Start) → T (fits binary64 c.args.x)
 held c = subst T (sym c.well_formed.0.1) tt
 
--- the bits, and their exponent's field as the code has it
+-- the bits
 bits : Start → ℕ
 bits c = to_bits binary64 c.args.x
 
@@ -34,20 +27,17 @@ within : (c : Start) → bits c < 2 ^ 64
 unfolding bits
 within c = to_bits-lt binary64 c.args.x (held c)
 
-field : (c : Start) → bit_and (bits c / 2 ^ 52) 2047 ≡ expo (bits c)
-field c = and_mask (bits c / 2 ^ 52) 11
-
 pub returns-then-x : goal.returns-then-x
 returns-then-x c = nan-stays c.args.x c.if-x.true
 
 pub float_to_bits-bits : goal.float_to_bits-bits
-float_to_bits-bits c = number c.args.x c.if-x.false
+float_to_bits-bits c = no_nan_of c.args.x c.if-x.false
 
 pub returns-then-exponent-gt1075 : goal.returns-then-exponent-gt1075
 unfolding bits
 returns-then-exponent-gt1075 c =
     let s = c.before.before in
-    sym (is s) ∙ large (bits s) (omega (arith, field s, c.if-exponent-gt1075.true)) ∙ ap trunc_of (is s)
+    sym (is s) ∙ large (bits s) (omega (arith, expo_is (bits s), c.if-exponent-gt1075.true)) ∙ ap trunc_of (is s)
 
 -- ---- up to 2 ^ 53
 module _ (c : Joined-below_one) where
@@ -58,10 +48,10 @@ module _ (c : Joined-below_one) where
   clears : Clears (bits s) c.if-below_one.cleared
   unfolding s bits
   clears = elim c.if-below_one.branch [
-    | then-below_one w ↦ inl (omega (arith, field s, w.if-below_one.true), omega (arith, w.cleared-is))
+    | then-below_one w ↦ inl (omega (arith, expo_is (bits s), w.if-below_one.true), omega (arith, w.cleared-is))
     | else-below_one w ↦ inr (
-      omega (arith, field s, w.if-below_one.false),
-      omega (arith, field s, w.if-below_one.false, c.if-exponent-gt1075.false, w.cleared-is),
+      omega (arith, expo_is (bits s), w.if-below_one.false),
+      omega (arith, expo_is (bits s), w.if-below_one.false, c.if-exponent-gt1075.false, w.cleared-is),
     )
   ]
 

@@ -1,9 +1,7 @@
 -- `issue` meets its contract: refused before the buffers are looked at, refused by them or by the stage, or received. Assumes nothing.
 use borrow.Author.Rules.{rules}
 use native.Mathlib.Omega.{arith}
-use mathlib.Core.Path.{◌≡◌, refl}
-use lib.ListN.{length}
-use Rattle.command.proofs.Lists.{mapped_length}
+use mathlib.Core.Path.{refl}
 use Rattle.session_in_place.proofs.IssueWays.{issue_refused, ready_of_lem, issue_late, issue_accepted}
 use Rattle.session_in_place.proofs.issuing.issue.Goals as goal
 
@@ -11,35 +9,8 @@ pub returns-then-n-ne-ACCEPTED : goal.returns-then-n-ne-ACCEPTED
 returns-then-n-ne-ACCEPTED c = issue_refused _ _ refl c.sound.ensures c.has_worlds.ensures
     c.of_issue-n.ensures c.if-n-ne-ACCEPTED.true c.refuse_issue.ensures
 
-pub slice_bounds-receive_command-end : goal.slice_bounds-receive_command-end
-slice_bounds-receive_command-end c =
-    let left-full : length c.args.session.worlds.left.commands.entries ≡ 64 = search (mapped_length, c.well_formed.0.1.1.1.1.1.0.1.1.0.1.1.0.1.1.0.1.0.1) in
-    search (
-      rules,
-      left-full,
-    )
-
-pub slice_bounds-receive_command-end-2 : goal.slice_bounds-receive_command-end-2
-slice_bounds-receive_command-end-2 c =
-    let right-full : length c.args.session.worlds.right.commands.entries ≡ 64 = search (mapped_length, c.well_formed.0.1.1.1.1.1.0.1.1.1.0.1.1.0.1.1.0.1.0.1) in
-    search (
-      rules,
-      right-full,
-    )
-
-pub slice_bounds-receive_command-end-3 : goal.slice_bounds-receive_command-end-3
-slice_bounds-receive_command-end-3 c =
-    let base-full : length c.args.session.worlds.base.entries ≡ 64 = search (mapped_length, c.well_formed.0.1.1.1.1.1.0.1.1.1.1.1.0.1.1.0.1.0.1) in
-    search (
-      rules,
-      base-full,
-    )
-
 pub receive_command-a-requires : goal.receive_command-a-requires
 receive_command-a-requires c =
-    let left-full : length c.args.session.worlds.left.commands.entries ≡ 64 = search (mapped_length, c.well_formed.0.1.1.1.1.1.0.1.1.0.1.1.0.1.1.0.1.0.1) in
-    let right-full : length c.args.session.worlds.right.commands.entries ≡ 64 = search (mapped_length, c.well_formed.0.1.1.1.1.1.0.1.1.1.0.1.1.0.1.1.0.1.0.1) in
-    let base-full : length c.args.session.worlds.base.entries ≡ 64 = search (mapped_length, c.well_formed.0.1.1.1.1.1.0.1.1.1.1.1.0.1.1.0.1.0.1) in
     ready_of_lem
     c.args.session
     c.args.handle refl
@@ -48,9 +19,9 @@ receive_command-a-requires c =
     c.of_issue-n.ensures
     c.if-n-ne-ACCEPTED.false
     (record {
-      left = left-full;
-      right = right-full;
-      base = base-full;
+      left = search rules;
+      right = search rules;
+      base = search rules;
     }) c.state_of-s.ensures
     c.unarrived.ensures c.midpoints.ensures
 
