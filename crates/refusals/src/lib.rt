@@ -1,49 +1,99 @@
-// The numbers under which calls are turned down, the order in which each call is judged, and the limits. A call hands
-// in what its tests found and gets the number that it answers, or 0. It answers to no file of crystalorb, which has no such numbers.
+// Why calls are turned down, under which numbers, the order in which each call is judged, and the limits. A call hands in what its tests found
+// and gets its verdict. It answers to no file of crystalorb, which has no such numbers.
 #![tactic(auto)]
 
 ghost use Rattle.std.specs.Prelude.{◌≡◌};
-ghost use Rattle.refusals.specs.Refusals.{open_refusal_by, once_refusal_by, syncing_refusal_by, arrival_refusal_by, end_refusal_by, issue_refusal_by};
-ghost use Rattle.refusals.specs.Refusals.{report_refusal_by};
+ghost use Rattle.refusals.specs.Refusals.{number_of, number_in, required, open_verdict_by, once_verdict_by, syncing_verdict_by};
+ghost use Rattle.refusals.specs.Refusals.{arrival_verdict_by, end_verdict_by, issue_verdict_by, report_verdict_by};
 
-// Nothing refuses.
-pub const ACCEPTED: u32 = 0;
-// Settings that are out of their ranges.
-pub const SETTINGS: u32 = 1;
-// Delta or seconds that are out of their ranges.
-pub const TIMES: u32 = 2;
-// An inbox of over 4,096 words.
-pub const LENGTH: u32 = 3;
-// A word of wrong kind, place or spare bits.
-pub const WORD: u32 = 4;
-// An inbox that ends inside a message.
-pub const CUT: u32 = 5;
-// A clock time that is not finite or beyond 2^32.
-pub const CLOCK_TIME: u32 = 6;
-// The handle of an issue over 24 bits.
-pub const HANDLE: u32 = 7;
-// Sample bytes, a sample or the answer buffer of the hosts' mean call.
-pub const SAMPLES: u32 = 8;
-// An unsound session.
-pub const UNSOUND: u32 = 20;
-// A command or a snapshot, or a report, while the clock syncs.
-pub const SYNCING: u32 = 21;
-// Another client id.
-pub const OTHER_CLIENT: u32 = 22;
-// A command for a buffer that takes it but holds 64.
-pub const FULL: u32 = 23;
-// An issue before the session is Ready.
-pub const NOT_READY: u32 = 24;
-// A 66th frame in one update.
-pub const FRAMES: u32 = 25;
-// Worlds in a state in which the Rust stops.
-pub const STATUS: u32 = 26;
-// A tween weight outside 0 to 1.
-pub const WEIGHT: u32 = 27;
-// Words that exceed the tape.
-pub const TAPE: u32 = 28;
-// A span or a part of a frame rate that is out of its range.
-pub const SPAN: u32 = 31;
+// Why a call is turned down.
+#[derive(Clone, Copy, PartialEq, Eq)]
+pub enum Refusal {
+    // Settings that are out of their ranges.
+    Settings,
+    // Delta or seconds that are out of their ranges.
+    Times,
+    // An inbox of over 4,096 words.
+    Length,
+    // A word of wrong kind, place or spare bits.
+    Word,
+    // An inbox that ends inside a message.
+    Cut,
+    // A clock time that is not finite or beyond 2^32.
+    ClockTime,
+    // The handle of an issue over 24 bits.
+    Handle,
+    // Sample bytes, a sample or the answer buffer of the hosts' mean call.
+    Samples,
+    // An unsound session.
+    Unsound,
+    // A command or a snapshot, or a report, while the clock syncs.
+    Syncing,
+    // Another client id.
+    OtherClient,
+    // A command for a buffer that takes it but holds 64.
+    Full,
+    // An issue before the session is Ready.
+    NotReady,
+    // A 66th frame in one update.
+    Frames,
+    // Worlds in a state in which the Rust stops.
+    Status,
+    // A tween weight outside 0 to 1.
+    Weight,
+    // Words that exceed the tape.
+    Tape,
+    // A span or a part of a frame rate that is out of its range.
+    Span,
+}
+
+// What a call is judged to be: accepted, or turned down.
+pub type Verdict = Result<(), Refusal>;
+
+impl Refusal {
+    // The number under which hosts are told of it.
+    pub fn number(self) -> u32
+        ensures { result ≡ number_of self }
+    {
+        match self {
+            Refusal::Settings => 1,
+            Refusal::Times => 2,
+            Refusal::Length => 3,
+            Refusal::Word => 4,
+            Refusal::Cut => 5,
+            Refusal::ClockTime => 6,
+            Refusal::Handle => 7,
+            Refusal::Samples => 8,
+            Refusal::Unsound => 20,
+            Refusal::Syncing => 21,
+            Refusal::OtherClient => 22,
+            Refusal::Full => 23,
+            Refusal::NotReady => 24,
+            Refusal::Frames => 25,
+            Refusal::Status => 26,
+            Refusal::Weight => 27,
+            Refusal::Tape => 28,
+            Refusal::Span => 31,
+        }
+    }
+}
+
+// The number of a verdict: 0 where nothing refuses.
+pub fn number(verdict: Verdict) -> u32
+    ensures { result ≡ number_in verdict }
+{
+    match verdict {
+        Ok(()) => 0,
+        Err(refusal) => refusal.number(),
+    }
+}
+
+// A fact that must hold, or the call is turned down.
+pub fn require(fact: bool, refusal: Refusal) -> Verdict
+    ensures { result ≡ required fact refusal }
+{
+    if fact { Ok(()) } else { Err(refusal) }
+}
 
 // An inbox has at most so many words.
 pub const MOST_WORDS: usize = 4096;
@@ -83,107 +133,67 @@ pub enum Stop {
     StatusStops,
 }
 
-// The refusal of an open, by whether its settings pass.
-pub fn of_open(passes: bool) -> u32
-    ensures { result ≡ open_refusal_by passes }
+// The verdict on an open, by whether its settings pass.
+pub fn of_open(passes: bool) -> Verdict
+    ensures { result ≡ open_verdict_by passes }
 {
-    if passes {
-        return ACCEPTED;
-    }
-    SETTINGS
+    require(passes, Refusal::Settings)
 }
 
-// The refusal of an update before anything of it is played.
-pub fn at_once(times: bool, inbox: u32, sound: bool) -> u32
-    ensures { result ≡ once_refusal_by times inbox sound }
+// The verdict on an update before anything of it is played.
+pub fn at_once(times: bool, inbox: Verdict, sound: bool) -> Verdict
+    ensures { result ≡ once_verdict_by times inbox sound }
 {
-    if times {
-        if inbox != ACCEPTED {
-            return inbox;
-        }
-        if sound {
-            return ACCEPTED;
-        }
-        return UNSOUND;
-    }
-    TIMES
+    require(times, Refusal::Times)?;
+    inbox?;
+    require(sound, Refusal::Unsound)
 }
 
-// The refusal by what arrived while the clock syncs.
-pub fn while_syncing(arrived: bool, other: bool) -> u32
-    ensures { result ≡ syncing_refusal_by arrived other }
+// The verdict by what arrived while the clock syncs.
+pub fn while_syncing(arrived: bool, other: bool) -> Verdict
+    ensures { result ≡ syncing_verdict_by arrived other }
 {
-    if arrived {
-        return SYNCING;
-    }
-    if other {
-        return OTHER_CLIENT;
-    }
-    ACCEPTED
+    require(!arrived, Refusal::Syncing)?;
+    require(!other, Refusal::OtherClient)
 }
 
-// The refusal by what arrived once worlds exist.
-pub fn by_arrivals(other: bool, full: bool) -> u32
-    ensures { result ≡ arrival_refusal_by other full }
+// The verdict by what arrived once worlds exist.
+pub fn by_arrivals(other: bool, full: bool) -> Verdict
+    ensures { result ≡ arrival_verdict_by other full }
 {
-    if other {
-        return OTHER_CLIENT;
-    }
-    if full {
-        return FULL;
-    }
-    ACCEPTED
+    require(!other, Refusal::OtherClient)?;
+    require(!full, Refusal::Full)
 }
 
-// The refusal of an update whose frames have ended.
-pub fn at_end(stop: Stop, weight: bool, fits: bool) -> u32
-    ensures { result ≡ end_refusal_by stop weight fits }
+// The verdict on an update whose frames have ended.
+pub fn at_end(stop: Stop, weight: bool, fits: bool) -> Verdict
+    ensures { result ≡ end_verdict_by stop weight fits }
 {
     match stop {
         Stop::Done => {
-            if weight {
-                if fits {
-                    return ACCEPTED;
-                }
-                return TAPE;
-            }
-            WEIGHT
+            require(weight, Refusal::Weight)?;
+            require(fits, Refusal::Tape)
         }
-        Stop::TooManyFrames => FRAMES,
-        Stop::StatusStops => STATUS,
+        Stop::TooManyFrames => Err(Refusal::Frames),
+        Stop::StatusStops => Err(Refusal::Status),
     }
 }
 
-// The refusal of an issue.
-pub fn of_issue(handle: bool, sound: bool, worlds: bool, full: bool, ready: bool) -> u32
-    ensures { result ≡ issue_refusal_by handle sound worlds full ready }
+// The verdict on an issue.
+pub fn of_issue(handle: bool, sound: bool, worlds: bool, full: bool, ready: bool) -> Verdict
+    ensures { result ≡ issue_verdict_by handle sound worlds full ready }
 {
-    if handle {
-        if sound {
-            if worlds {
-                if full {
-                    return FULL;
-                }
-                if ready {
-                    return ACCEPTED;
-                }
-            }
-            return NOT_READY;
-        }
-        return UNSOUND;
-    }
-    HANDLE
+    require(handle, Refusal::Handle)?;
+    require(sound, Refusal::Unsound)?;
+    require(worlds, Refusal::NotReady)?;
+    require(!full, Refusal::Full)?;
+    require(ready, Refusal::NotReady)
 }
 
-// The refusal of a report.
-pub fn of_report(sound: bool, worlds: bool) -> u32
-    ensures { result ≡ report_refusal_by sound worlds }
+// The verdict on a report.
+pub fn of_report(sound: bool, worlds: bool) -> Verdict
+    ensures { result ≡ report_verdict_by sound worlds }
 {
-    if sound {
-        if worlds {
-            return ACCEPTED;
-        }
-        return SYNCING;
-    }
-    UNSOUND
+    require(sound, Refusal::Unsound)?;
+    require(worlds, Refusal::Syncing)
 }
