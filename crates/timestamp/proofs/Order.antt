@@ -2,7 +2,7 @@
 use Rattle.std.proofs.Common.{◌≡◌, ℕ, zero, suc, ◌+◌, ◌-◌, ◌%◌, ◌<◌, ◌≤◌, true, ◌&&◌, leb, pos, negsuc, refl, ap, ◌∙◌, inl, inr, arith, le-leb}
 use lib.Signed.{le_z}
 use borrow.Author.Tests.{lt-leb}
-use Rattle.timestamp.specs.declared.Ordering.TheVariants.{Less, Equal, Greater}
+use Rattle.std.specs.declared.cmp.Ordering.TheVariants.{Less, Equal, Greater}
 use Rattle.timestamp.specs.Timestamps.{difference_of, signed_of, sign_of, order_of, in_range}
 use Rattle.timestamp.proofs.Basics.{split}
 use Rattle.timestamp.proofs.Signed.{signed_low, signed_high}

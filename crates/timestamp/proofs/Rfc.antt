@@ -2,8 +2,8 @@
 -- apart. Assumes nothing.
 use Rattle.std.proofs.Common.{◌≡◌, ℕ, ◌+◌, ◌-◌, ◌%◌, ◌<◌, Bool, true, false, cond, leb, sym, refl, ap, ◌∙◌, inl, inr, arith, le-ltb, lt-ltb, eq-eqb, ne_eqb}
 use Rattle.std.proofs.Common.{le-leb}
-use Rattle.timestamp.specs.declared.Ordering.{Ordering}
-use Rattle.timestamp.specs.declared.Ordering.TheVariants.{Less, Equal, Greater}
+use Rattle.std.specs.declared.cmp.Ordering.{Ordering}
+use Rattle.std.specs.declared.cmp.Ordering.TheVariants.{Less, Equal, Greater}
 use Rattle.timestamp.specs.Rfc1982.{defined, undefined_sum, serial_sum, Comparison, equal, less, greater, undefined_order, serial_less, serial_greater}
 use Rattle.timestamp.specs.Rfc1982.{compared}
 use Rattle.timestamp.specs.Timestamps.{sum_of, difference_of, order_of}

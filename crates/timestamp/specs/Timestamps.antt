@@ -1,8 +1,8 @@
 -- Stamps as document 01 has them, under "src/timestamp.rs". A stamp is given by its 16 bits, a natural number below 65,536.
 -- Definitions only. Assumes nothing.
 use Rattle.std.specs.Prelude.{ℕ, zero, suc, ◌+◌, ◌-◌, ◌%◌, Bool, cond, ◌&&◌, ℤ, pos, negsuc, int_le, nat_lt}
-use Rattle.timestamp.specs.declared.Ordering.{Ordering}
-use Rattle.timestamp.specs.declared.Ordering.TheVariants.{Less, Equal, Greater}
+use Rattle.std.specs.declared.cmp.Ordering.{Ordering}
+use Rattle.std.specs.declared.cmp.Ordering.TheVariants.{Less, Equal, Greater}
 
 -- a stamp and a number of frames: the sum wraps modulo 65,536
 abbrev pub sum_of : ℕ → ℕ → ℕ

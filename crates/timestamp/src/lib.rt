@@ -10,47 +10,39 @@ ghost use Rattle.timestamp.specs.Timestamps.{sum_of, difference_of, signed_of, b
 ghost use Rattle.timestamp.specs.Whole.{trunc_of, ceil_of, floor_of, round_of};
 ghost use Rattle.timestamp.specs.FloatTimestamps.{from_unwrapped, from_seconds, float_difference_of, as_seconds, float_of, stamp_of, ceil_stamp_of, cycle64};
 
-// The stamp of a frame: 16 bits, read as a signed number by `value` alone.
-#[derive(Clone, Copy)]
-pub struct Timestamp(pub u16);
+use std::cmp::Ordering;
 
-// How the first of two stamps stands to the second.
-#[derive(Clone, Copy)]
-pub enum Ordering {
-    Less,
-    Equal,
-    Greater,
-}
+// The stamp of a frame: 16 bits, read as a signed number by `value` alone.
+#[derive(Clone, Copy, PartialEq, Eq)]
+pub struct Timestamp(pub u16);
 
 impl Timestamp {
     // The stamp n frames later, modulo 65,536.
     pub fn add(self, n: u16) -> Timestamp
         ensures { result.0 ≡ sum_of self.0 n }
     {
-        Timestamp(std::num::wrapping_add_u16(self.0, n))
+        Timestamp(self.0.wrapping_add(n))
     }
 
     // How many frames the stamp is after the other, modulo 65,536.
     pub fn sub(self, other: Timestamp) -> Timestamp
         ensures { result.0 ≡ difference_of self.0 other.0 }
     {
-        Timestamp(std::num::wrapping_sub_u16(self.0, other.0))
+        Timestamp(self.0.wrapping_sub(other.0))
     }
 
     // The stamp n frames earlier, modulo 65,536.
     pub fn sub_frames(self, n: u16) -> Timestamp
         ensures { result.0 ≡ difference_of self.0 n }
     {
-        Timestamp(std::num::wrapping_sub_u16(self.0, n))
+        Timestamp(self.0.wrapping_sub(n))
     }
 
     // The order of two stamps: the sign of their signed difference. Of two that are 32,768 apart each is less than the other.
     pub fn cmp(self, other: Timestamp) -> Ordering
         ensures { result ≡ order_of self.0 other.0 }
     {
-        let a = self.0;
-        let b = other.0;
-        let d = std::num::wrapping_sub_u16(a, b);
+        let d = self.sub(other).0;
         if d == 0 {
             Ordering::Equal
         } else if d < 32768 {
@@ -64,11 +56,8 @@ impl Timestamp {
     pub fn in_comparable_range(self, midpoint: Timestamp) -> bool
         ensures { result ≡ in_range midpoint.0 self.0 }
     {
-        let d = std::num::wrapping_sub_u16(self.0, midpoint.0);
-        if d <= 16382 {
-            return true;
-        }
-        d >= 49153
+        let d = self.sub(midpoint).0;
+        d <= 16382 || d >= 49153
     }
 
     // The stamp as a signed number.
