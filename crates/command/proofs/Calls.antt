@@ -1,5 +1,5 @@
 -- The operations by their cases: what each way through the code gives is what the definition says. Assumes nothing.
-use mathlib.Core.Path.{◌≡◌, refl, sym, ap, ◌∙◌}
+use mathlib.Core.Path.{◌≡◌, refl, ap, ◌∙◌}
 use mathlib.Core.List.{List, [], ◌∷◌, ◌++◌, append_assoc}
 use mathlib.Core.Bool.{Bool, true, false, not}
 use Prim.Native.Nat.{ℕ, ◌+◌, ◌≤◌, ◌<◌}
@@ -11,12 +11,9 @@ use Rattle.tape.specs.Tape.{Puts}
 use Rattle.tape.proofs.Writing.{puts_as}
 use Rattle.command.specs.Entries.{Entry}
 use Rattle.command.specs.declared.CommandBuffer.{CommandBuffer}
-use Rattle.command.specs.declared.Insertion.{Insertion}
-use Rattle.command.specs.declared.Moved.{Moved}
-use Rattle.command.specs.declared.Drained.{Drained}
 use Rattle.command.specs.declared.Outcome.TheVariants.{Taken, OutOfRange, Full}
 use Rattle.command.specs.Lists.{filter_b}
-use Rattle.command.specs.Buffer.{held, laid, in_range_of, due_of, later_than, placed_of, inserted_of, leaving, around, dropped_of, moved_of, taken_of, rest_of}
+use Rattle.command.specs.Buffer.{Insertion, Moved, Drained, held, laid, in_range_of, due_of, later_than, placed_of, inserted_of, leaving, around, dropped_of, moved_of, taken_of, rest_of}
 use Rattle.command.specs.Buffer.{drained_of, emptied_of, drained_all_of, command_words, Applies, AppliesAll}
 use Rattle.command.specs.Ranks.{rank_within, sifted_of, HasRoom}
 use Rattle.command.proofs.Lists.{filter_ext, filter_all, filter-ledger, filter_short}
@@ -32,18 +29,13 @@ room_kept {b} {q} t {m} {lo} {hi} slots e =
     record { whole = clean [] t e; room = rw (held_of [] t e) (omega (arith, filter_short (rank_within m lo hi) (held b), held_few b slots)) }
 
 module _ (b : CommandBuffer) (m : Timestamp) (lo hi : ℕ) {n : ℕ} (counted : n ≡ length (filter_b (λ e. not (rank_within m lo hi e)) (held b))) where
-  pub sifted_none : n ≡ 0 → ◌≡◌ {A = Drained} (record { buffer = b; count = 0 }) (sifted_of b m lo hi)
+  pub sifted_none : n ≡ 0 → ◌≡◌ {A = Drained} (record { buffer = b; count = n }) (sifted_of b m lo hi)
   unfolding sifted_of
   sifted_none z =
-      let none : length (filter_b (λ e. not (rank_within m lo hi e)) (held b)) ≡ 0 = omega arith in
-      ap (λ (q : CommandBuffer). record { buffer = q; count = 0 })
-      (leaving_none (filter_b (λ e. not (rank_within m lo hi e)) (held b)) (filter_b (rank_within m lo hi) (held b)) b none)
-      ∙ ap (λ (k : ℕ). record {
-        buffer = leaving (filter_b (λ e. not (rank_within m lo hi e)) (held b)) (filter_b (rank_within m lo hi) (held b)) b;
-        count
-            = k;
-      })
-      (sym none)
+      let gone : List Entry = filter_b (λ e. not (rank_within m lo hi e)) (held b) in
+      let stay : List Entry = filter_b (rank_within m lo hi) (held b) in
+      ap (λ (q : CommandBuffer). record { buffer = q; count = n }) (leaving_none gone stay b (omega (arith, counted, z)))
+      ∙ ap (λ (k : ℕ). record { buffer = leaving gone stay b; count = k }) counted
 
   pub sifted_some : (n ≡ 0 → ⊥) → {q : CommandBuffer} → q ≡ laid (filter_b (rank_within m lo hi) (held b)) b.timestamp
       → ◌≡◌ {A = Drained} (record { buffer = q; count = n }) (sifted_of b m lo hi)
@@ -92,25 +84,24 @@ unfolding taken_of
 taken_is b s lo hi el eh = filter_ext (rank_within s lo hi) (due_of s) (span_due s lo hi el eh) (held b)
 
 -- a drain to the tape
-pub applies_is : (b : CommandBuffer) (s : Timestamp) {side place next : ℕ} {was last : List ℕ} {lo hi lo2 hi2 : ℕ} → lo ≡ 0 → hi ≡ 32769 → lo2 ≡ 32769
-    → hi2 ≡ 65536 → Puts was place (command_words side (filter_b (rank_within s lo hi) (held b))) next last → {r : Drained} → r ≡ sifted_of b s lo2 hi2
-    → Applies b s side place was (record { buffer = r.buffer; at = next }) last
-applies_is b s {side} {place} {next} {was} {last} {lo} {hi} el eh el2 eh2 p {r} e =
+pub applies_is : (b : CommandBuffer) (s : Timestamp) {side place next count : ℕ} {was last : List ℕ} {lo hi : ℕ} {left : CommandBuffer} → lo ≡ 0 → hi ≡ 32769
+    → Puts was place (command_words side (filter_b (rank_within s lo hi) (held b))) next last
+    → ◌≡◌ {A = Drained} (record { buffer = left; count = count }) (drained_of b s) → Applies b s side place was (record { buffer = left; at = next }) last
+applies_is b s {side} {place} {next} {count} {was} {last} {lo} {hi} el eh p e =
     let u : Puts was place (command_words side (taken_of b s)) next last = puts_as (ap (command_words side) (taken_is b s lo hi el eh)) p in
     record {
-      buffer = ap (λ (d : Drained). d.buffer) (drained_is b s el2 eh2 e);
+      buffer = ap (λ (d : Drained). d.buffer) e;
       at = omega (arith, u.at, words-length side (taken_of b s));
       tape = u.tape;
     }
 
 -- ---- a drain of everything
 
-pub emptied_none : (b : CommandBuffer) {n : ℕ} → n ≡ length (held b) → n ≡ 0 → ◌≡◌ {A = Drained} (record { buffer = b; count = 0 }) (drained_all_of b)
+pub emptied_none : (b : CommandBuffer) {n : ℕ} → n ≡ length (held b) → n ≡ 0 → ◌≡◌ {A = Drained} (record { buffer = b; count = n }) (drained_all_of b)
 unfolding emptied_of
-emptied_none b e z =
-    let none : length (held b) ≡ 0 = omega arith in
-    ap (λ (q : CommandBuffer). record { buffer = q; count = 0 }) (leaving_none (held b) [] b none)
-    ∙ ap (λ (k : ℕ). record { buffer = leaving (held b) [] b; count = k }) (sym none)
+emptied_none b {n} e z =
+    ap (λ (q : CommandBuffer). record { buffer = q; count = n }) (leaving_none (held b) [] b (omega (arith, e, z)))
+    ∙ ap (λ (k : ℕ). record { buffer = leaving (held b) [] b; count = k }) e
 
 pub emptied_some : (b : CommandBuffer) {n : ℕ} → n ≡ length (held b) → (n ≡ 0 → ⊥) → {q : CommandBuffer} → q ≡ laid [] b.timestamp
     → ◌≡◌ {A = Drained} (record { buffer = q; count = n }) (drained_all_of b)
@@ -119,10 +110,10 @@ emptied_some b {n} e z {q} f =
     ap (λ (k : ℕ). record { buffer = q; count = k }) e
     ∙ ap (λ (r : CommandBuffer). record { buffer = r; count = length (held b) }) (f ∙ leaving_some (held b) [] b (λ h. z (e ∙ h)))
 
-pub applies_all_is : (b : CommandBuffer) (t : Timestamp) {side place next : ℕ} {was last : List ℕ} {lo hi : ℕ} → lo ≡ 0 → hi ≡ 65536
-    → Puts was place (command_words side (filter_b (rank_within t lo hi) (held b))) next last → {r : Drained} → r ≡ drained_all_of b
-    → AppliesAll b side place was (record { buffer = r.buffer; at = next }) last
-applies_all_is b t {side} {place} {next} {was} {last} {lo} {hi} el eh p {r} e =
+pub applies_all_is : (b : CommandBuffer) (t : Timestamp) {side place next count : ℕ} {was last : List ℕ} {lo hi : ℕ} {left : CommandBuffer} → lo ≡ 0
+    → hi ≡ 65536 → Puts was place (command_words side (filter_b (rank_within t lo hi) (held b))) next last
+    → ◌≡◌ {A = Drained} (record { buffer = left; count = count }) (drained_all_of b) → AppliesAll b side place was (record { buffer = left; at = next }) last
+applies_all_is b t {side} {place} {next} {count} {was} {last} {lo} {hi} el eh p e =
     let u : Puts was place (command_words side (held b)) next last =
     puts_as (ap (command_words side) (filter_all (rank_within t lo hi) (span_all t lo hi el eh) (held b))) p in
     record {
@@ -143,18 +134,24 @@ module _ (b : CommandBuffer) (e : Entry) where
     unfolding inserted_of
     inserted_full f = simp (h, le-ltb (length (held b)) 64 f)
 
-    pub inserted_taken : length (held b) < 64 → {next : ℕ} → next ≡ rank_in b.timestamp e + 1 → {lo hi : ℕ} → lo ≡ 0 → hi ≡ 65536
-        → {q : CommandBuffer} → q ≡ laid ((filter_b (rank_within b.timestamp lo next) (held b) ++ (e ∷ [])) ++ filter_b
-        (rank_within b.timestamp next hi) (held b)) b.timestamp → ◌≡◌ {A = Insertion} (record { outcome = Taken; buffer = q }) (inserted_of b e)
-    unfolding inserted_of placed_of
-    inserted_taken f {next} en {lo} {hi} el eh {q} eq =
-        let m = b.timestamp in
-        let before : filter_b (rank_within m lo next) (held b) ≡ filter_b (λ x. not (later_than m e x)) (held b) =
-        filter_ext (rank_within m lo next) (λ x. not (later_than m e x)) (span_up_to m e lo next el en) (held b) in
-        let after : filter_b (rank_within m next hi) (held b) ≡ filter_b (later_than m e) (held b) =
-        filter_ext (rank_within m next hi) (later_than m e)
-        (λ x. span_from m next hi eh x ∙ ap not (span_up_to m e 0 next refl en x) ∙ not_not (later_than m e x)) (held b) in
-        simp (h, lt-ltb (length (held b)) 64 f) (ap (λ (x : CommandBuffer). record { outcome = Taken; buffer = x }) (rw (before, after, append_assoc) at eq))
+    pub inserted_taken : length (held b) < 64 → {q : CommandBuffer} → q ≡ laid (placed_of b.timestamp e (held b)) b.timestamp
+        → ◌≡◌ {A = Insertion} (record { outcome = Taken; buffer = q }) (inserted_of b e)
+    unfolding inserted_of
+    inserted_taken f {q} eq = simp (h, lt-ltb (length (held b)) 64 f) (ap (λ (x : CommandBuffer). record { outcome = Taken; buffer = x }) eq)
+
+  -- those not later, e, and those that are later
+  pub placed_is : {next : ℕ} → next ≡ rank_in b.timestamp e + 1 → {lo hi : ℕ} → lo ≡ 0 → hi ≡ 65536
+      → {q : CommandBuffer} → q ≡ laid ((filter_b (rank_within b.timestamp lo next) (held b) ++ (e ∷ [])) ++ filter_b
+      (rank_within b.timestamp next hi) (held b)) b.timestamp → q ≡ laid (placed_of b.timestamp e (held b)) b.timestamp
+  unfolding placed_of
+  placed_is {next} en {lo} {hi} el eh {q} eq =
+      let m = b.timestamp in
+      let before : filter_b (rank_within m lo next) (held b) ≡ filter_b (λ x. not (later_than m e x)) (held b) =
+      filter_ext (rank_within m lo next) (λ x. not (later_than m e x)) (span_up_to m e lo next el en) (held b) in
+      let after : filter_b (rank_within m next hi) (held b) ≡ filter_b (later_than m e) (held b) =
+      filter_ext (rank_within m next hi) (later_than m e)
+      (λ x. span_from m next hi eh x ∙ ap not (span_up_to m e 0 next refl en x) ∙ not_not (later_than m e x)) (held b) in
+      rw (before, after, append_assoc) at eq
 
   -- room for e after those not later, and for those that are later after e
   module _ (few : length (held b) < 64) (next : ℕ) where

@@ -1,6 +1,7 @@
 pub mod Lists
 pub mod Entries
 pub mod Holding
+pub mod Extending
 pub mod Ranks
 pub mod Applying
 pub mod Calls

@@ -10,12 +10,32 @@ use Rattle.tape.specs.Tape.{written}
 use Rattle.command.specs.Lists.{filter_b, pad}
 use Rattle.command.specs.Entries.{Entry, stamp_in, handle_in}
 use Rattle.command.specs.declared.CommandBuffer.{CommandBuffer}
-use Rattle.command.specs.declared.Insertion.{Insertion}
-use Rattle.command.specs.declared.Moved.{Moved}
-use Rattle.command.specs.declared.Drained.{Drained}
-use Rattle.command.specs.declared.Applied.{Applied}
 use Rattle.command.specs.declared.Outcome.{Outcome}
 use Rattle.command.specs.declared.Outcome.TheVariants.{Taken, OutOfRange, Full}
+
+-- ---- what operations come to
+
+-- an insertion: what became of the entry, and the buffer after it
+pub record Insertion : Type 0 where
+  pub outcome : Outcome
+  pub buffer : CommandBuffer
+
+-- a move of the midpoint: the buffer after it, and how many entries it drops
+pub record Moved : Type 0 where
+  pub buffer : CommandBuffer
+  pub dropped : ℕ
+
+-- a drain: the buffer after it, and how many entries it takes
+pub record Drained : Type 0 where
+  pub buffer : CommandBuffer
+  pub count : ℕ
+
+-- a drain to the tape: the buffer after it, and the next place on the tape
+pub record Applied : Type 0 where
+  pub buffer : CommandBuffer
+  pub at : ℕ
+
+-- ---- the entries
 
 -- the entries of a buffer, oldest first
 abbrev pub held : CommandBuffer → List Entry

@@ -6,9 +6,8 @@ use Rattle.timestamp.specs.declared.Timestamp.{Timestamp}
 use Rattle.timestamp.specs.Timestamps.{difference_of, sum_of}
 use Rattle.command.specs.Entries.{Entry, stamp_in, plain_entry}
 use Rattle.command.specs.declared.CommandBuffer.{CommandBuffer}
-use Rattle.command.specs.declared.Drained.{Drained}
 use Rattle.command.specs.Lists.{filter_b}
-use Rattle.command.specs.Buffer.{held, laid, leaving, moved_of, taken_of}
+use Rattle.command.specs.Buffer.{Drained, held, laid, leaving, moved_of, taken_of}
 
 -- the rank of a stamp around m: their signed difference, plus 32,768
 unfoldable pub rank_of : ℕ → ℕ → ℕ

@@ -9,7 +9,7 @@ ghost use Rattle.refusals.specs.Limits.{buffer_room};
 ghost use Rattle.tape.specs.Tape.{Puts};
 ghost use Rattle.command.specs.Lists.{filter_b};
 ghost use Rattle.command.specs.Entries.{entry_of, stamp_in, handle_in, plain_entry};
-ghost use Rattle.command.specs.Buffer.{held, laid, in_range_of, inserted_of, moved_of, drained_of, drained_all_of, command_words, Applies, AppliesAll};
+ghost use Rattle.command.specs.Buffer.{held, laid, in_range_of, placed_of, inserted_of, moved_of, drained_of, drained_all_of, command_words, Applies, AppliesAll};
 ghost use Rattle.command.specs.Soundness.{sound_buffer};
 ghost use Rattle.command.specs.Ranks.{rank_of, rank_within, sifted_of, waits_of, sound_rank, HasRoom};
 
@@ -49,34 +49,6 @@ pub enum Outcome {
     Full,
 }
 
-// The answer of `insert`.
-#[derive(Clone, Copy)]
-pub struct Insertion {
-    pub outcome: Outcome,
-    pub buffer: CommandBuffer,
-}
-
-// The answer of a move of the midpoint, with the number of entries that it drops.
-#[derive(Clone, Copy)]
-pub struct Moved {
-    pub buffer: CommandBuffer,
-    pub dropped: usize,
-}
-
-// The answer of a drain, with the number of entries that it takes.
-#[derive(Clone, Copy)]
-pub struct Drained {
-    pub buffer: CommandBuffer,
-    pub count: usize,
-}
-
-// The answer of a drain to the tape, with the next place on it.
-#[derive(Clone, Copy)]
-pub struct Applied {
-    pub buffer: CommandBuffer,
-    pub at: usize,
-}
-
 // The entry of a command: the stamp of the frame that it is for, times 2^32, and its handle.
 pub fn entry_of(stamp: Timestamp, handle: u32) -> u64
     ensures { result ≡ entry_of stamp handle }
@@ -106,148 +78,166 @@ fn is_plain(entry: u64) -> bool
     entry < ENTRY_ROOM && handle_of(entry) < refusals::HANDLE_ROOM
 }
 
-// A buffer that holds nothing.
-pub fn new(timestamp: Timestamp) -> CommandBuffer
-    ensures { result ≡ laid [] timestamp }
-{
-    CommandBuffer {
-        entries: [0; 64],
-        len: 0,
-        timestamp,
+impl CommandBuffer {
+    // A buffer that holds nothing.
+    pub fn new(timestamp: Timestamp) -> CommandBuffer
+        ensures { result ≡ laid [] timestamp }
+    {
+        CommandBuffer {
+            entries: [0; 64],
+            len: 0,
+            timestamp,
+        }
     }
-}
 
-// How many entries a buffer holds.
-pub fn held_count(buffer: CommandBuffer) -> usize
-    ensures { result ≡ length (held buffer) }
-{
-    buffer.len.min(refusals::BUFFER_ROOM)
-}
-
-// The entries of a buffer, oldest first.
-fn entries_of(buffer: &CommandBuffer) -> &[u64]
-    ensures held { result.now ≡ held buffer.now }
-    ensures few { length result.now ≤ buffer_room }
-{
-    let n = buffer.len.min(refusals::BUFFER_ROOM);
-    &buffer.entries[..n]
-}
-
-// Moves the midpoint and keeps exactly the entries in the new range.
-pub fn update_timestamp(buffer: CommandBuffer, t: Timestamp) -> Moved
-    ensures { result ≡ moved_of buffer t }
-{
-    let mut moved = buffer;
-    moved.timestamp = t;
-    let kept = sift(moved, t, RANGE_FROM, RANGE_END);
-    Moved {
-        buffer: kept.buffer,
-        dropped: kept.count,
+    // The entries that it holds, oldest first.
+    pub fn held(&self) -> &[u64]
+        ensures held { result.now ≡ held self.now }
+        ensures few { length result.now ≤ buffer_room }
+    {
+        &self.entries[..self.len.min(refusals::BUFFER_ROOM)]
     }
-}
 
-// Whether a step to a stamp leaves the buffer as it is: nothing is due, and nothing leaves the range. One that holds nothing is not read.
-pub fn waits(buffer: CommandBuffer, t: Timestamp) -> bool
-    ensures { result ≡ waits_of buffer t }
-{
-    buffer.len == 0 || count_outside(entries_of(&buffer), t, FIRST_AFTER, RANGE_END) == 0
-}
+    // How many entries it holds.
+    pub fn held_count(&self) -> usize
+        ensures { result ≡ length (held self.now) }
+    {
+        self.held().len()
+    }
 
-// Takes an entry that is in range, if there is room, after all entries that are not later than it.
-pub fn insert(buffer: CommandBuffer, entry: u64) -> Insertion
-    ensures { result ≡ inserted_of buffer entry }
-{
-    let m = buffer.timestamp;
-    if !in_range(entry, m) {
-        return Insertion {
-            outcome: Outcome::OutOfRange,
-            buffer,
-        };
+    // Moves the midpoint and keeps exactly the entries in the new range. Gives how many it drops.
+    pub fn update_timestamp(&mut self, t: Timestamp) -> usize
+        ensures { record { buffer = self.new; dropped = result } ≡ moved_of self.old t }
+    {
+        self.timestamp = t;
+        self.sift(t, RANGE_FROM, RANGE_END)
     }
-    if refusals::BUFFER_ROOM <= buffer.len {
-        return Insertion {
-            outcome: Outcome::Full,
-            buffer,
-        };
-    }
-    let next = rank_in(entry, m) + 1;
-    let before = extend(new(m), buffer, m, 0, next);
-    let with = push(before, entry);
-    let all = extend(with, buffer, m, next, RANKS);
-    Insertion {
-        outcome: Outcome::Taken,
-        buffer: all,
-    }
-}
 
-// Takes the entries whose signed difference to s is at most 0.
-pub fn drain_up_to(buffer: CommandBuffer, s: Timestamp) -> Drained
-    ensures { result ≡ drained_of buffer s }
-{
-    sift(buffer, s, FIRST_AFTER, RANKS)
-}
+    // Whether a step to a stamp leaves the buffer as it is: nothing is due, and nothing leaves the range. One that holds nothing is not read.
+    pub fn waits(&self, t: Timestamp) -> bool
+        ensures { result ≡ waits_of self.now t }
+    {
+        self.len == 0 || count_outside(self.held(), t, FIRST_AFTER, RANGE_END) == 0
+    }
 
-// Takes the same entries, and puts the command word of each on the tape, for the left (0) or the right (1) world, oldest first.
-pub fn apply_up_to(
-    buffer: CommandBuffer,
-    s: Timestamp,
-    side: u32,
-    tape: &mut [u32],
-    at: usize,
-) -> Applied
-    requires { at < 4000000000 }
-    ensures { Applies buffer s side at tape.old result tape.new }
-{
-    let next = apply_between(entries_of(&buffer), s, 0, FIRST_AFTER, side, tape, at);
-    Applied {
-        buffer: sift(buffer, s, FIRST_AFTER, RANKS).buffer,
-        at: next,
+    // Takes an entry that is in range, if there is room, after all entries that are not later than it.
+    pub fn insert(&mut self, entry: u64) -> Outcome
+        ensures { record { outcome = result; buffer = self.new } ≡ inserted_of self.old entry }
+    {
+        if !in_range(entry, self.timestamp) {
+            return Outcome::OutOfRange;
+        }
+        if refusals::BUFFER_ROOM <= self.len {
+            return Outcome::Full;
+        }
+        self.place(entry);
+        Outcome::Taken
     }
-}
 
-// Takes every entry.
-pub fn drain_all(buffer: CommandBuffer) -> Drained
-    ensures { result ≡ drained_all_of buffer }
-{
-    let n = held_count(buffer);
-    if n == 0 {
-        return Drained { buffer, count: 0 };
+    // Takes the entries whose signed difference to s is at most 0. Gives how many it takes.
+    pub fn drain_up_to(&mut self, s: Timestamp) -> usize
+        ensures { record { buffer = self.new; count = result } ≡ drained_of self.old s }
+    {
+        self.sift(s, FIRST_AFTER, RANKS)
     }
-    Drained {
-        buffer: new(buffer.timestamp),
-        count: n,
-    }
-}
 
-// Takes every entry, and puts the command word of each on the tape, oldest first.
-pub fn apply_all(buffer: CommandBuffer, side: u32, tape: &mut [u32], at: usize) -> Applied
-    requires { at < 4000000000 }
-    ensures { AppliesAll buffer side at tape.old result tape.new }
-{
-    let t = buffer.timestamp;
-    let next = apply_between(entries_of(&buffer), t, 0, RANKS, side, tape, at);
-    Applied {
-        buffer: drain_all(buffer).buffer,
-        at: next,
+    // Takes the same entries, and puts the command word of each on the tape, for the left (0) or the right (1) world, oldest first. Gives the
+    // next place on the tape.
+    pub fn apply_up_to(&mut self, s: Timestamp, side: u32, tape: &mut [u32], at: usize) -> usize
+        requires { at < 4000000000 }
+        ensures { Applies self.old s side at tape.old (record { buffer = self.new; at = result }) tape.new }
+    {
+        let next = apply_between(self.held(), s, 0, FIRST_AFTER, side, tape, at);
+        self.drain_up_to(s);
+        next
     }
-}
 
-// Whether a buffer is sound: at most 64 entries, in order and in range, every handle within 24 bits, and no spare bit set.
-pub fn sound(buffer: CommandBuffer) -> bool
-    ensures { result ≡ sound_buffer buffer }
-{
-    if refusals::BUFFER_ROOM < buffer.len {
-        return false;
+    // Takes every entry. Gives how many it takes.
+    pub fn drain_all(&mut self) -> usize
+        ensures { record { buffer = self.new; count = result } ≡ drained_all_of self.old }
+    {
+        let count = self.held_count();
+        if count > 0 {
+            *self = CommandBuffer::new(self.timestamp);
+        }
+        count
     }
-    let mut lo = 0;
-    for e in entries_of(&buffer) {
-        let k = rank_in(*e, buffer.timestamp);
-        if !entry_sound(k, lo, *e) {
+
+    // Takes every entry, and puts the command word of each on the tape, oldest first. Gives the next place on the tape.
+    pub fn apply_all(&mut self, side: u32, tape: &mut [u32], at: usize) -> usize
+        requires { at < 4000000000 }
+        ensures { AppliesAll self.old side at tape.old (record { buffer = self.new; at = result }) tape.new }
+    {
+        let next = apply_between(self.held(), self.timestamp, 0, RANKS, side, tape, at);
+        self.drain_all();
+        next
+    }
+
+    // Whether it is sound: at most 64 entries, in order and in range, every handle within 24 bits, and no spare bit set.
+    pub fn is_sound(&self) -> bool
+        ensures { result ≡ sound_buffer self.now }
+    {
+        if refusals::BUFFER_ROOM < self.len {
             return false;
         }
-        lo = k;
+        let mut lo = 0;
+        for e in self.held() {
+            let k = rank_in(*e, self.timestamp);
+            if !entry_sound(k, lo, *e) {
+                return false;
+            }
+            lo = k;
+        }
+        true
     }
-    true
+
+    // Takes an entry, where there is room, after all that are not later than it.
+    fn place(&mut self, entry: u64)
+        requires { length (held self.old) < buffer_room }
+        ensures { self.new ≡ laid (placed_of self.old.timestamp entry (held self.old)) self.old.timestamp }
+    {
+        let was = *self;
+        let m = self.timestamp;
+        let next = rank_in(entry, m) + 1;
+        *self = CommandBuffer::new(m);
+        self.extend(&was, m, 0, next);
+        self.push(entry);
+        self.extend(&was, m, next, RANKS);
+    }
+
+    // Takes one entry more, at the end.
+    fn push(&mut self, entry: u64)
+        requires { (self.old ≡ laid (held self.old) self.old.timestamp) × (length (held self.old) + 1 ≤ buffer_room) }
+        ensures { self.new ≡ laid (held self.old ++ (entry ∷ [])) self.old.timestamp }
+    {
+        self.entries[self.len] = entry;
+        self.len += 1;
+    }
+
+    // Takes the entries of another buffer whose rank around m is lo or more and below hi, at the end.
+    fn extend(&mut self, other: &CommandBuffer, m: Timestamp, lo: u32, hi: u32)
+        requires { HasRoom self.old other.now m lo hi }
+        ensures { self.new ≡ laid (held self.old ++ filter_b (rank_within m lo hi) (held other.now)) self.old.timestamp }
+    {
+        for e in other.held() {
+            if ranks_between(*e, m, lo, hi) {
+                self.push(*e);
+            }
+        }
+    }
+
+    // Keeps exactly the entries whose rank around m is lo or more and below hi. Gives how many go.
+    fn sift(&mut self, m: Timestamp, lo: u32, hi: u32) -> usize
+        ensures { record { buffer = self.new; count = result } ≡ sifted_of self.old m lo hi }
+    {
+        let count = count_outside(self.held(), m, lo, hi);
+        if count > 0 {
+            let was = *self;
+            *self = CommandBuffer::new(self.timestamp);
+            self.extend(&was, m, lo, hi);
+        }
+        count
+    }
 }
 
 // Whether an entry of rank k is in range and not before rank lo, and has no spare bit set.
@@ -287,38 +277,6 @@ pub fn ranks_between(entry: u64, m: Timestamp, lo: u32, hi: u32) -> bool
     lo <= k && k < hi
 }
 
-// One entry more, at the end.
-fn push(b: CommandBuffer, e: u64) -> CommandBuffer
-    requires { (b ≡ laid (held b) b.timestamp) × (length (held b) + 1 ≤ buffer_room) }
-    ensures { result ≡ laid (held b ++ (e ∷ [])) b.timestamp }
-{
-    let mut out = b;
-    let k = out.len;
-    out.entries[k] = e;
-    out.len = k + 1;
-    out
-}
-
-// The entries of b whose rank around m is lo or more and below hi, at the end of those of a.
-fn extend(a: CommandBuffer, b: CommandBuffer, m: Timestamp, lo: u32, hi: u32) -> CommandBuffer
-    requires { HasRoom a b m lo hi }
-    ensures { result ≡ laid (held a ++ filter_b (rank_within m lo hi) (held b)) a.timestamp }
-{
-    let mut out = a.entries;
-    let mut k = a.len;
-    for e in entries_of(&b) {
-        if ranks_between(*e, m, lo, hi) {
-            out[k] = *e;
-            k += 1;
-        }
-    }
-    CommandBuffer {
-        entries: out,
-        len: k,
-        timestamp: a.timestamp,
-    }
-}
-
 // How many entries have a rank around m below lo, or hi or more.
 fn count_outside(entries: &[u64], m: Timestamp, lo: u32, hi: u32) -> usize
     ensures { result ≡ length (filter_b (λ e. not (rank_within m lo hi e)) entries.now) }
@@ -328,20 +286,6 @@ fn count_outside(entries: &[u64], m: Timestamp, lo: u32, hi: u32) -> usize
         .copied()
         .filter(|e| !ranks_between(*e, m, lo, hi))
         .count()
-}
-
-// The buffer of which exactly the entries stay whose rank around m is lo or more and below hi, and how many go.
-fn sift(b: CommandBuffer, m: Timestamp, lo: u32, hi: u32) -> Drained
-    ensures { result ≡ sifted_of b m lo hi }
-{
-    let count = count_outside(entries_of(&b), m, lo, hi);
-    if count == 0 {
-        return Drained { buffer: b, count };
-    }
-    Drained {
-        buffer: extend(new(b.timestamp), b, m, lo, hi),
-        count,
-    }
 }
 
 // Puts the command words of the entries whose rank around m is lo or more and below hi, in their order.

@@ -1,13 +1,13 @@
--- `sound` meets its contract. The loop's invariant: the answer for the buffer is the answer for what is left, the last entry's rank given. Assumes nothing.
+-- `is_sound` meets its contract. The loop's invariant: the answer for the buffer is the answer for what is left, the last entry's rank given. Assumes nothing.
 use mathlib.Core.Path.{sym, ◌∙◌}
 use Rattle.command.proofs.Soundness.{sound_long, test_none, test_end, test_no, test_yes}
-use Rattle.command.proofs.sound.Goals as goal
+use Rattle.command.proofs.CommandBuffer.is_sound.Goals as goal
 
-pub returns-then-buffer-gt-BUFFER_ROOM : goal.returns-then-buffer-gt-BUFFER_ROOM
-returns-then-buffer-gt-BUFFER_ROOM c = sound_long _ c.if-buffer-gt-BUFFER_ROOM.true
+pub returns-then-self-gt-BUFFER_ROOM : goal.returns-then-self-gt-BUFFER_ROOM
+returns-then-self-gt-BUFFER_ROOM c = sound_long _ c.if-self-gt-BUFFER_ROOM.true
 
 pub loop-e-init : goal.loop-e-init
-loop-e-init c = test_none _ c.if-buffer-gt-BUFFER_ROOM.false c.entries_of-e-items.ensures.held
+loop-e-init c = test_none _ c.if-self-gt-BUFFER_ROOM.false c.held-e-items.ensures.held
 
 pub returns-then-not-entry_sound : goal.returns-then-not-entry_sound
 returns-then-not-entry_sound c =

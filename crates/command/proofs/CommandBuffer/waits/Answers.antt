@@ -1,0 +1,11 @@
+-- `waits` meets its contract: an empty buffer waits, and of any other the entries that do not are counted. Assumes nothing.
+use mathlib.Core.Path.{refl, ◌∙◌}
+use borrow.Author.Tests.{eq-eqb}
+use Rattle.command.proofs.Waiting.{waits_empty, waits_counted}
+use Rattle.command.proofs.CommandBuffer.waits.Goals as goal
+
+pub returns-then-self-eq0 : goal.returns-then-self-eq0
+returns-then-self-eq0 c = eq-eqb _ _ c.if-self-eq0.true ∙ waits_empty _ _ c.if-self-eq0.true
+
+pub returns-else-self-eq0 : goal.returns-else-self-eq0
+returns-else-self-eq0 c = waits_counted _ _ refl refl (rw c.held.ensures.held at c.count_outside.ensures)
