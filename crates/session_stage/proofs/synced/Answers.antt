@@ -13,7 +13,7 @@ unfolding of_bits
 returns-then-is_ready c =
     c.session_with.ensures
     ∙ synced_at _ _ _ c.server_seconds-time.ensures c.is_ready.ensures
-    c.if-is_ready.true c.in-At.is c.from_seconds.ensures c.new-worlds.ensures
+    c.if-is_ready.true c.in-Some.is c.from_seconds.ensures c.new-worlds.ensures
 
 pub returns : goal.returns
 returns c = synced_not _ _ _ c.is_ready.ensures c.if-is_ready.false

@@ -4,15 +4,15 @@ use Rattle.session_state.specs.declared.Stage.{Stage}
 use Rattle.session_state.specs.Sound.{connected_of, no_offset}
 use Rattle.session_state.proofs.connected.Goals as goal
 
-pub returns-in-NoOffset : goal.returns-in-NoOffset
+pub returns-in-None : goal.returns-in-None
 unfolding connected_of
-returns-in-NoOffset c =
-    sym (ap (λ (x : Stage). connected_of x c.args.c) c.in-SyncingClock.is ∙ ap no_offset c.in-NoOffset.is)
+returns-in-None c =
+    sym (ap (λ (x : Stage). connected_of x c.args.c) c.in-SyncingClock.is ∙ ap no_offset c.in-None.is)
 
-pub returns-in-Seconds : goal.returns-in-Seconds
+pub returns-in-Some : goal.returns-in-Some
 unfolding connected_of
-returns-in-Seconds c =
-    sym (ap (λ (x : Stage). connected_of x c.args.c) c.in-SyncingClock.is ∙ ap no_offset c.in-Seconds.is)
+returns-in-Some c =
+    sym (ap (λ (x : Stage). connected_of x c.args.c) c.in-SyncingClock.is ∙ ap no_offset c.in-Some.is)
 
 pub returns-in-SyncingInitialState : goal.returns-in-SyncingInitialState
 unfolding connected_of

@@ -3,10 +3,10 @@ use mathlib.Core.Path.{ap, sym}
 use Rattle.session_state.specs.Sound.{queued_sound}
 use Rattle.session_state.proofs.queued_sound.Goals as goal
 
-pub returns-in-Nothing : goal.returns-in-Nothing
+pub returns-in-None : goal.returns-in-None
 unfolding queued_sound
-returns-in-Nothing c = sym (ap queued_sound c.in-Nothing.is)
+returns-in-None c = sym (ap queued_sound c.in-None.is)
 
-pub returns-in-Held : goal.returns-in-Held
+pub returns-in-Some : goal.returns-in-Some
 unfolding queued_sound
-returns-in-Held c = sym (ap queued_sound c.in-Held.is)
+returns-in-Some c = sym (ap queued_sound c.in-Some.is)
