@@ -192,7 +192,8 @@ pub simulated_short : (m : ℕ) (s : Scene) → Few s.worlds → Short (65 + m *
 simulated_short = simulated_by short_steps
 
 -- what a frame begins with
-pub opened_short : (t : ReconciliationStatus) (q : Option QueuedSnapshot) (p : Float) (s : Scene) → status_of s.worlds ≡ t → Few s.worlds → Short 64 (opened_of t q p s)
+pub opened_short : (t : ReconciliationStatus) (q : Option QueuedSnapshot) (p : Float) (s : Scene) → status_of s.worlds ≡ t → Few s.worlds
+    → Short 64 (opened_of t q p s)
 opened_short t q p s = opened_by_lem (parts_by short_moves (record { m = 0; progress = p })) t q s
 
 -- a frame, with m catch-up steps at most

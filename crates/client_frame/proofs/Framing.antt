@@ -1,5 +1,5 @@
 -- What the code of a frame comes to, over plain values: one rule for each return. Assumes nothing.
-use Rattle.std.proofs.Common.{◌≡◌, ℕ, ◌+◌, ◌%◌, ◌^◌, ◌<◌, ◌≤◌, Bool, true, false, cond, ltb, List, pos, sym, refl, ap, ◌∙◌, le-ltb, lt-ltb, eq-eqb, ne_eqb}
+use Rattle.std.proofs.Common.{◌≡◌, ℕ, ◌+◌, ◌%◌, ◌^◌, Bool, true, false, cond, List, pos, sym, refl, ap, ◌∙◌, eq-eqb, ne_eqb}
 use Rattle.std.specs.Prelude.{Option, Some, None}
 use lib.Ieee.{Float, fin, binary64, add, lt}
 use Rattle.timestamp.specs.declared.Timestamp.{Timestamp}
@@ -43,8 +43,8 @@ unfolding loaded_queued
 queued_none s q side was place e = rw e (plays_still s was place)
 
 -- a queued snapshot is loaded
-pub queued_held : (s : Scene) (q : Option QueuedSnapshot) (side : ℕ) {t : Timestamp} {h : ℕ} {was last : List ℕ} {place : ℕ} {r : Shown}
-    → q ≡ Some (record { stamp = t; handle = h }) → Plays (loaded_of s side t h) was place r last → Plays (loaded_queued s q side) was place r last
+pub queued_held : (s : Scene) (q : Option QueuedSnapshot) (side : ℕ) {x : QueuedSnapshot} {was last : List ℕ} {place : ℕ} {r : Shown}
+    → q ≡ Some x → Plays (loaded_of s side x.stamp x.handle) was place r last → Plays (loaded_queued s q side) was place r last
 unfolding loaded_queued
 queued_held s q side e p = rw e p
 
@@ -173,21 +173,6 @@ show_plays m b s h k = plays_then (published_by b) h k
 
 -- ---- refusal 26
 
--- a snapshot that lies at or before the old stamp
-pub far_behind : (q : Option QueuedSnapshot) (o : Timestamp) {t : Timestamp} {h d : ℕ} → q ≡ Some (record { stamp = t; handle = h }) → d ≡ difference_of o.0 t.0 → d < 32768 → false ≡ too_far_of q o
-unfolding too_far_of
-far_behind q o e hd l = rw (e, ← hd, lt-ltb _ _ l) refl
-
--- one that lies ahead of it
-pub far_ahead : (q : Option QueuedSnapshot) (o : Timestamp) {t : Timestamp} {h d : ℕ} → q ≡ Some (record { stamp = t; handle = h }) → d ≡ difference_of o.0 t.0 → 32768 ≤ d → ltb d 65535 ≡ too_far_of q o
-unfolding too_far_of
-far_ahead q o e hd l = rw (e, ← hd, le-ltb _ _ l) refl
-
--- none
-pub far_none : (q : Option QueuedSnapshot) (o : Timestamp) → q ≡ None → false ≡ too_far_of q o
-unfolding too_far_of
-far_none q o e = rw e refl
-
 module _ (t : ReconciliationStatus) (q : Option QueuedSnapshot) (w e : ClientWorldSimulations) where
   pub stops_awaiting : t ≡ AwaitingSnapshot → false ≡ stops_of t q w e
   unfolding stops_of
@@ -223,8 +208,8 @@ module _ (t : ReconciliationStatus) (q : Option QueuedSnapshot) (w e : ClientWor
 -- ---- the frame
 
 -- one frame: its status, the snapshot that it loads, its beginning, its steps and what it publishes, and whether it stops
-pub frame_plays : (rules : Rules) (s : Scene) {t : ReconciliationStatus} {q : Option QueuedSnapshot} {b stop : Bool} {was mid last : List ℕ} {place : ℕ} {a r : Shown}
-    → t ≡ status_of s.worlds → q ≡ loads_of t s.worlds.snapshots.queued → Plays (opened_of t q rules.progress s) was place a mid
+pub frame_plays : (rules : Rules) (s : Scene) {t : ReconciliationStatus} {q : Option QueuedSnapshot} {b stop : Bool} {was mid last : List ℕ}
+    {place : ℕ} {a r : Shown} → t ≡ status_of s.worlds → q ≡ loads_of t s.worlds.snapshots.queued → Plays (opened_of t q rules.progress s) was place a mid
     → b ≡ blended_by t q → Plays (shown_of rules.m b a.scene) mid a.at r last
     → stop ≡ stops_of t q s.worlds r.scene.worlds → Frames (frame_of rules s) (frame_stops rules s) was place
     (record { scene = r.scene; at = r.at; stops = stop }) last

@@ -1,6 +1,6 @@
 -- One frame: document 01, "src/client.rs". What its status opens it with, a step of the old world, the catching up of the new one, what is published, and
 -- refusal 26. Definitions only. Assumes nothing.
-use Rattle.std.specs.Prelude.{◌≡◌, ℕ, zero, suc, ◌+◌, ◌%◌, ◌^◌, Bool, true, false, cond, List, ◌==◌, nat_lt, Float, Option, Some, None}
+use Rattle.std.specs.Prelude.{◌≡◌, ℕ, zero, suc, ◌+◌, ◌%◌, ◌^◌, Bool, true, false, cond, List, ◌==◌, nat_lt, Float, Option, Some, None, is_none}
 use Rattle.std.specs.Float.{binary64}
 use Rattle.std.specs.Float.Ieee.{add}
 use Rattle.timestamp.specs.Floats.{clamped_of}
@@ -87,8 +87,7 @@ simulated_of m s = and_then (stepped_side s (old_side_of s.worlds)) (λ t. caugh
 
 -- a frame of this status that loads q publishes by the weight; any other publishes the old world
 abbrev pub blended_by : ReconciliationStatus → Option QueuedSnapshot → Bool
-blended_by AwaitingSnapshot None = true
-blended_by AwaitingSnapshot (Some q) = false
+blended_by AwaitingSnapshot q = is_none q
 blended_by (Blending t) q = true
 blended_by (Fastforwarding Healthy) q = false
 blended_by (Fastforwarding Obsolete) q = false

@@ -1,6 +1,6 @@
 -- A level frame, by what inner functions of the code ask and give. No contract of a call cites this module: a level frame is a frame, of which Frame of
 -- client_frame is the definition. Definitions only. Assumes nothing.
-use Rattle.std.specs.Prelude.{ℕ, Bool, true, false, not, ◌&&◌, List, [], ◌∷◌, ◌==◌, Float, Option, Some, None}
+use Rattle.std.specs.Prelude.{ℕ, Bool, true, false, not, ◌&&◌, List, [], ◌∷◌, ◌==◌, Float, Option, is_none}
 use Rattle.std.specs.Float.{binary64}
 use Rattle.std.specs.Float.Ieee.{add}
 use Rattle.tape.specs.Words.{step_word}
@@ -21,8 +21,7 @@ world_waits w = waits_of w.commands (next_stamp (world_stamp_of w))
 
 -- a frame of this status, with q queued, leaves both worlds level: it blends, or it awaits and nothing is queued
 abbrev pub level_by : ReconciliationStatus → Option QueuedSnapshot → Bool
-level_by AwaitingSnapshot None = true
-level_by AwaitingSnapshot (Some q) = false
+level_by AwaitingSnapshot q = is_none q
 level_by (Blending t) q = true
 level_by (Fastforwarding h) q = false
 

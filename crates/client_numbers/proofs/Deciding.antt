@@ -112,7 +112,8 @@ simulates m u =
 
 -- ---- what a frame opens with, publishes, and whether it stops
 
-opens_as : (t : ReconciliationStatus) (q : Option QueuedSnapshot) (p : Float) (s : Scene) → done_opening (opens_with t q s.worlds.weight p) s ≡ opened_of t (loads_of t q) p s
+opens_as : (t : ReconciliationStatus) (q : Option QueuedSnapshot) (p : Float) (s : Scene)
+    → done_opening (opens_with t q s.worlds.weight p) s ≡ opened_of t (loads_of t q) p s
 unfolding done_opening opened_of loaded_queued blended_on
 opens_as AwaitingSnapshot None p s = refl
 opens_as AwaitingSnapshot (Some q) p s = refl

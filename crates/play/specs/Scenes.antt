@@ -1,6 +1,6 @@
 -- The scene that numbers, ledgers and three lent buffers stand for, and what a frame and a skip of it leave in the code's hands.
 -- Definitions only. Assumes nothing.
-use Rattle.std.specs.Prelude.{ℕ, Bool, cond, List, ◌≡◌, eqb, Option}
+use Rattle.std.specs.Prelude.{ℕ, Bool, cond, List, ◌≡◌, eqb, Float, Option}
 use Rattle.timestamp.specs.declared.Timestamp.{Timestamp}
 use Rattle.tape.specs.Tape.{Puts}
 use Rattle.command.specs.declared.CommandBuffer.{CommandBuffer}
