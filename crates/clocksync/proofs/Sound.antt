@@ -245,7 +245,8 @@ module _ (s : Settings) (pass : passes_of s ≡ true) (c : Clock) (full : length
   unfolding all
   all_length = length-append (held_of c) (x ∷ []) ∙ omega (arith, ap length held_is, length-take c.len c.samples, full, p.held)
 
-  laid_parts : (o : Option Float) (ys : List Float) → length ys < samples_to_store_of s → offset_ok o ≡ true → AllWithin (2 ^ 33) ys → Parts s (sampled_of c o ys)
+  laid_parts : (o : Option Float) (ys : List Float) → length ys < samples_to_store_of s → offset_ok o ≡ true → AllWithin (2 ^ 33) ys
+      → Parts s (sampled_of c o ys)
   laid_parts o ys h k w = record {
     fewer = h;
     held = omega (arith, h, (store_few s pass).1);
