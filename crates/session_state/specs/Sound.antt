@@ -1,6 +1,6 @@
 -- A sound session: document 01, "Turned down by the session", the sentence "Sound".
 -- Definitions only. Assumes nothing.
-use Rattle.std.specs.Prelude.{Bool, true, false, cond, ◌&&◌, eqb, ltb, Float, Option, Some, None}
+use Rattle.std.specs.Prelude.{Bool, true, false, cond, ◌&&◌, eqb, ltb, Float, Option, Some, None, is_none}
 use Rattle.std.specs.Float.Ieee.{eq}
 use Rattle.timestamp.specs.Floats.{zero64, one64, between}
 use Rattle.refusals.specs.Limits.{handle_room}
@@ -40,14 +40,9 @@ worlds_sound w = buffers_sound w && (queued_sound w.snapshots.queued && (weight_
 unfoldable pub overshoot_sound : Float → Float → Bool
 overshoot_sound overshoot timestep = between zero64 timestep overshoot
 
--- there is no offset
-abbrev pub no_offset : Option Float → Bool
-no_offset None = true
-no_offset (Some x) = false
-
 -- offset and id present once worlds exist, no offset before
 unfoldable pub connected_of : Stage → Clock → Bool
-connected_of SyncingClock c = no_offset c.offset
+connected_of SyncingClock c = is_none c.offset
 connected_of SyncingInitialState c = ready_of c
 connected_of Ready c = ready_of c
 
