@@ -20,8 +20,7 @@ use Rattle.settings.specs.Settings.{passes_of}
 use Rattle.command.specs.Entries.{Entry}
 use Rattle.command.specs.Slots.{buffer_at, AllSlots}
 use Rattle.command.specs.Soundness.{sound_buffer}
-use Rattle.clocksync.specs.declared.Offset.{Offset}
-use Rattle.clocksync.specs.declared.Offset.TheVariants.{NoOffset, Seconds}
+use Rattle.std.specs.Prelude.{Option, Some, None}
 use Rattle.clocksync.specs.declared.Clock.{Clock}
 use Rattle.clocksync.specs.declared.Heard.{Heard}
 use Rattle.clocksync.specs.Clock.{ticked_of, settled_of, server_seconds_of, sound_clock}
@@ -122,13 +121,13 @@ scanned s seconds words h e =
 -- ---- the clock
 
 -- the server's time by an offset
-pub server_none : (o : Offset) (seconds : Float) → o ≡ NoOffset → seconds ≡ server_time_by (server_seconds_of o seconds) seconds
-server_none o seconds e = sym (ap (λ (x : Offset). server_time_by (server_seconds_of x seconds) seconds) e)
+pub server_none : (o : Option Float) (seconds : Float) → o ≡ None → seconds ≡ server_time_by (server_seconds_of o seconds) seconds
+server_none o seconds e = sym (ap (λ (x : Option Float). server_time_by (server_seconds_of x seconds) seconds) e)
 
-pub server_at_lem : (o : Offset) (seconds x : Float) → o ≡ Seconds x → add binary64 seconds x ≡ server_time_by (server_seconds_of o seconds) seconds
-server_at_lem o seconds x e = sym (ap (λ (y : Offset). server_time_by (server_seconds_of y seconds) seconds) e)
+pub server_at_lem : (o : Option Float) (seconds x : Float) → o ≡ Some x → add binary64 seconds x ≡ server_time_by (server_seconds_of o seconds) seconds
+server_at_lem o seconds x e = sym (ap (λ (y : Option Float). server_time_by (server_seconds_of y seconds) seconds) e)
 
-pub settles : (c : Settings) (was : List Float) (n : ClockNumbers) (h : Heard) {o : Offset} {k : ℕ} {r : ClockNumbers} {last : List Float}
+pub settles : (c : Settings) (was : List Float) (n : ClockNumbers) (h : Heard) {o : Option Float} {k : ℕ} {r : ClockNumbers} {last : List Float}
     → o ≡ (settled_of c (clock_at was n) h).offset → Pushes c was n h k last → r ≡ settled_numbers n o k h.id → Settles c was n h r last
 settles c was n h {o} {k} {r} {last} ho hp hr =
     record { room = hp.room; clock = (λ i. clock_at last (hr i)) ∙ (λ i. clock_at last (settled_numbers n (ho i) k h.id)) ∙ hp.clock }
@@ -223,7 +222,7 @@ module _ (c : Settings) (s : State) (delta seconds : Float) (words : List ℕ) (
       refused_lent _ c s ss whole len (record { samples = room; slots = hr.slots }) e h
       (worlds_refused whole delta seconds words refl hs.heard refl got_is hn len e (h.replies whole))
 
-  module _ (e : n ≡ 0) {t : TickedNumbers} (ht : (xs : List Float) → ticked_at xs t ≡ ticked_of (clock_at xs s.clock) c.period delta) {o : Offset}
+  module _ (e : n ≡ 0) {t : TickedNumbers} (ht : (xs : List Float) → ticked_at xs t ≡ ticked_of (clock_at xs s.clock) c.period delta) {o : Option Float}
       (ho : o ≡ (settled_of c (clock_at ss t.clock) scan.heard).offset) {x : Float} (hx : x ≡ server_time_by (server_seconds_of o seconds) seconds)
       {was mid : List ℕ} {v : Advanced} {l₂ r₂ b₂ : List Entry}
       (hv : RunsAt (λ y. unended_of c y s.overshoot delta (add binary64 x c.lag)) (numbers_in s.worlds scan.snapshots.queued) (books_of z)

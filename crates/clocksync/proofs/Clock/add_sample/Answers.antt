@@ -17,5 +17,5 @@ returns c =
     let full : length c.args.self.samples ≡ 64 = search rules in
     let a = c.args in
     added_full a.settings a.self a.x full c.least-n.ensures c.laid_from-all.ensures
-    c.samples_to_store.ensures c.if-count-samples_to_store.false c.samples_to_discard.ensures c.mean_of-mean.ensures c.synced-offset.ensures
-    c.laid_from-rest.ensures
+    c.samples_to_store.ensures c.if-count-samples_to_store.false c.samples_to_discard.ensures c.mean_of-mean.ensures c.synced.ensures
+    c.laid_from.ensures
