@@ -145,7 +145,8 @@ impl CommandBuffer {
     // next place on the tape.
     pub fn apply_up_to(&mut self, s: Timestamp, side: u32, tape: &mut [u32], at: usize) -> usize
         requires { at < 4000000000 }
-        ensures { Applies self.old s side at tape.old (record { buffer = self.new; at = result }) tape.new }
+        ensures applied { Applies self.old s side at tape.old (record { buffer = self.new; at = result }) tape.new }
+        ensures few { result ≤ at + buffer_room }
     {
         let next = apply_between(self.held(), s, 0, FIRST_AFTER, side, tape, at);
         self.drain_up_to(s);
@@ -166,7 +167,8 @@ impl CommandBuffer {
     // Takes every entry, and puts the command word of each on the tape, oldest first. Gives the next place on the tape.
     pub fn apply_all(&mut self, side: u32, tape: &mut [u32], at: usize) -> usize
         requires { at < 4000000000 }
-        ensures { AppliesAll self.old side at tape.old (record { buffer = self.new; at = result }) tape.new }
+        ensures applied { AppliesAll self.old side at tape.old (record { buffer = self.new; at = result }) tape.new }
+        ensures few { result ≤ at + buffer_room }
     {
         let next = apply_between(self.held(), self.timestamp, 0, RANKS, side, tape, at);
         self.drain_all();

@@ -14,14 +14,10 @@ use Rattle.tape.specs.Words.{step_word, snapshot_word}
 use Rattle.tape.proofs.Writing.{puts_none, puts_then, puts_as}
 use Rattle.command.specs.declared.CommandBuffer.{CommandBuffer}
 use Rattle.command.specs.Entries.{Entry}
-use Rattle.command.specs.declared.Applied.{Applied}
-use Rattle.command.specs.declared.Moved.{Moved}
-use Rattle.command.specs.declared.Insertion.{Insertion}
-use Rattle.command.specs.Buffer.{held, laid, inserted_of, moved_of, taken_of, rest_of, emptied_of, command_words, Applies, AppliesAll}
+use Rattle.command.specs.Buffer.{Applied, Moved, Insertion, held, laid, inserted_of, moved_of, taken_of, rest_of, emptied_of, command_words, Applies, AppliesAll}
 use Rattle.command.proofs.Applying.{words-length}
 use Rattle.simulation.specs.declared.Simulation.{Simulation}
-use Rattle.simulation.specs.declared.Scheduled.{Scheduled}
-use Rattle.simulation.specs.World.{world_with, next_stamp, new_world, scheduled_of, step_of, resets_back, reset_of, Does, load_of, Loads}
+use Rattle.simulation.specs.World.{Scheduled, world_with, next_stamp, new_world, scheduled_of, step_of, resets_back, reset_of, Does, load_of, Loads}
 
 -- a new world
 pub new_is : (t : Timestamp) {b : CommandBuffer} → b ≡ laid [] t → world_with b false ≡ new_world t
@@ -51,7 +47,7 @@ moved_by place n a h = omega arith
 pub step_does : (w : Simulation) (side : ℕ) {place : ℕ} {was mid last : List ℕ} {next : Timestamp} {a : Applied} {p word : ℕ} {m : Moved}
     → next.0 ≡ sum_of w.commands.timestamp.0 1 → Applies w.commands next side place was a mid → word ≡ step_word side
     → Puts mid a.at (word ∷ []) p last → m ≡ moved_of a.buffer next
-    → Does (step_of w side) was place (record { world = world_with m.buffer w.init; at = p; applied = a.at - place; leftout = m.dropped }) last
+    → Does (step_of w side) was place (world_with m.buffer w.init) (record { at = p; applied = a.at - place; leftout = m.dropped }) last
 unfolding step_of
 step_does w side {place} {was} {mid} {last} {next} {a} {p} {word} {m} hn ha hw hp hm =
     let e : next ≡ next_stamp w.commands.timestamp = ap (λ (n : ℕ). record { 0 = n }) hn in
@@ -71,7 +67,7 @@ pub load_does : (w : Simulation) (base : CommandBuffer) (t : Timestamp) (side ha
     → word ≡ snapshot_word side handle → Puts was place (word ∷ []) p last → m ≡ moved_of base t → copied ≡ length (held base)
     → replaced ≡ length (held w.commands)
     → Loads (load_of w base t) side handle was place
-    (record { world = world_with m.buffer true; at = p; copied = copied; replaced = replaced; leftout = m.dropped }) last
+    (world_with m.buffer true) (record { at = p; copied = copied; replaced = replaced; leftout = m.dropped }) last
 unfolding load_of
 load_does w base t side handle hw hp hm hc hr =
     record {
@@ -90,7 +86,7 @@ back_is t now h = ap is_lt h
 -- a reset that goes back
 pub reset_back : (w : Simulation) (t : Timestamp) (side : ℕ) {place : ℕ} {was last : List ℕ} {m : Moved} {a : Applied}
     → resets_back t w.commands.timestamp ≡ true → m ≡ moved_of w.commands t → AppliesAll m.buffer side place was a last
-    → Does (reset_of w t side) was place (record { world = world_with a.buffer w.init; at = a.at; applied = a.at - place; leftout = m.dropped }) last
+    → Does (reset_of w t side) was place (world_with a.buffer w.init) (record { at = a.at; applied = a.at - place; leftout = m.dropped }) last
 unfolding reset_of
 reset_back w t side {place} {was} {last} {m} {a} hb hm ha =
     rw hb
@@ -104,7 +100,7 @@ reset_back w t side {place} {was} {last} {m} {a} hb hm ha =
 -- a reset that does not
 pub reset_on : (w : Simulation) (t : Timestamp) (side : ℕ) {place : ℕ} {was : List ℕ} {m : Moved}
     → resets_back t w.commands.timestamp ≡ false → m ≡ moved_of w.commands t
-    → Does (reset_of w t side) was place (record { world = world_with m.buffer w.init; at = place; applied = 0; leftout = m.dropped }) was
+    → Does (reset_of w t side) was place (world_with m.buffer w.init) (record { at = place; applied = 0; leftout = m.dropped }) was
 unfolding reset_of
 reset_on w t side {place} {was} {m} hb hm =
     rw hb

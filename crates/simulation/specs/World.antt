@@ -7,12 +7,12 @@ use Rattle.timestamp.specs.Timestamps.{sum_of, order_of}
 use Rattle.tape.specs.Tape.{Puts}
 use Rattle.tape.specs.Words.{step_word, snapshot_word}
 use Rattle.command.specs.declared.CommandBuffer.{CommandBuffer}
+use Rattle.command.specs.declared.Outcome.{Outcome}
 use Rattle.command.specs.Entries.{Entry}
 use Rattle.command.specs.Buffer.{held, laid, inserted_of, moved_of, taken_of, rest_of, emptied_of, command_words}
 use Rattle.simulation.specs.declared.Simulation.{Simulation}
 use Rattle.simulation.specs.declared.Stepped.{Stepped}
 use Rattle.simulation.specs.declared.Loaded.{Loaded}
-use Rattle.simulation.specs.declared.Scheduled.{Scheduled}
 
 -- a world of given commands, and whether a snapshot has initialised it
 abbrev pub world_with : CommandBuffer → Bool → Simulation
@@ -25,6 +25,11 @@ next_stamp t = record { 0 = sum_of t.0 1 }
 -- a world that nothing has been loaded into, with the stamp t
 abbrev pub new_world : Timestamp → Simulation
 new_world t = world_with (laid [] t) false
+
+-- a world that was offered a command, and what its buffer did with it
+pub record Scheduled : Type 0 where
+  pub world : Simulation
+  pub outcome : Outcome
 
 -- a command is offered to a world's buffer
 unfoldable pub scheduled_of : Simulation → Entry → Scheduled
@@ -70,9 +75,9 @@ flushed_of w t side =
 unfoldable pub reset_of : Simulation → Timestamp → ℕ → Done
 reset_of w t side = cond (resets_back t w.commands.timestamp) (flushed_of w t side) (kept_of w t)
 
--- a step or a reset as the code leaves it: its words are on the tape from a place on
-pub record Does (d : Done) (was : List ℕ) (place : ℕ) (r : Stepped) (last : List ℕ) : Type 0 where
-  pub world : r.world ≡ d.world
+-- a step or a reset as the code leaves it: the world w, and its words are on the tape from a place on
+pub record Does (d : Done) (was : List ℕ) (place : ℕ) (w : Simulation) (r : Stepped) (last : List ℕ) : Type 0 where
+  pub world : w ≡ d.world
   pub applied : r.applied ≡ d.applied
   pub leftout : r.leftout ≡ d.leftout
   pub puts : Puts was place d.words r.at last
@@ -94,9 +99,9 @@ load_of w base t =
       leftout = (moved_of base t).dropped;
     }
 
--- a load as the code leaves it: the snapshot's word is on the tape
-pub record Loads (l : Load) (side handle : ℕ) (was : List ℕ) (place : ℕ) (r : Loaded) (last : List ℕ) : Type 0 where
-  pub world : r.world ≡ l.world
+-- a load as the code leaves it: the world w, and the snapshot's word is on the tape
+pub record Loads (l : Load) (side handle : ℕ) (was : List ℕ) (place : ℕ) (w : Simulation) (r : Loaded) (last : List ℕ) : Type 0 where
+  pub world : w ≡ l.world
   pub copied : r.copied ≡ l.copied
   pub replaced : r.replaced ≡ l.replaced
   pub leftout : r.leftout ≡ l.leftout

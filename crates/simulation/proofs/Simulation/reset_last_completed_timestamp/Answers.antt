@@ -1,0 +1,11 @@
+-- `reset_last_completed_timestamp` meets its contract: the move, and where it goes back the drain of what remains. Assumes nothing.
+use mathlib.Core.Path.{sym, ◌∙◌}
+use Rattle.simulation.proofs.Rules.{reset_back, reset_on}
+use Rattle.simulation.proofs.Simulation.reset_last_completed_timestamp.Goals as goal
+
+pub returns-then-back : goal.returns-then-back
+returns-then-back c =
+    reset_back _ _ _ (sym c.resets_back-back.ensures ∙ c.if-back.true) c.update_timestamp-leftout.ensures c.apply_all-after.ensures.applied
+
+pub returns : goal.returns
+returns c = reset_on _ _ _ (sym c.resets_back-back.ensures ∙ c.if-back.false) c.update_timestamp-leftout.ensures

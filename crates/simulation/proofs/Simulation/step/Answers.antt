@@ -1,0 +1,7 @@
+-- `step` meets its contract: the drain, the step's word, and the move. Assumes nothing.
+use Rattle.simulation.proofs.Rules.{step_does}
+use Rattle.simulation.proofs.Simulation.step.Goals as goal
+
+pub returns : goal.returns
+returns c =
+    step_does _ _ c.add-next.ensures c.apply_up_to-after.ensures.applied c.step_word.ensures c.put-place.ensures c.update_timestamp-leftout.ensures
