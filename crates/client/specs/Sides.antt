@@ -13,7 +13,6 @@ use Rattle.client.specs.declared.Published.{Published}
 use Rattle.client.specs.declared.ClientWorldSimulations.{ClientWorldSimulations}
 use Rattle.client.specs.declared.Ledger.{Ledger}
 use Rattle.client.specs.declared.Scene.{Scene}
-use Rattle.client.specs.declared.Shown.{Shown}
 use Rattle.client.specs.Ledgers.{applies}
 
 -- the side of the new world
@@ -139,7 +138,7 @@ and_then p f = record { scene = (f p.scene).scene; words = p.words ++ (f p.scene
 unfoldable pub done_at : Scene → ℕ → Done → Played
 done_at s side d = record { scene = put_of s side d.world d.applied d.leftout; words = d.words }
 
--- what happened, as the code leaves it: its words are on the tape from a place on
-pub record Plays (p : Played) (was : List ℕ) (place : ℕ) (r : Shown) (last : List ℕ) : Type 0 where
-  pub scene : r.scene ≡ p.scene
-  pub puts : Puts was place p.words r.at last
+-- what happened, as the code leaves it: the scene s, and its words are on the tape from a place to before the place `next`
+pub record Plays (p : Played) (was : List ℕ) (place : ℕ) (s : Scene) (next : ℕ) (last : List ℕ) : Type 0 where
+  pub scene : s ≡ p.scene
+  pub puts : Puts was place p.words next last

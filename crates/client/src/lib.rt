@@ -1,6 +1,6 @@
 // The two worlds of a client, their sides and ledgers, and the status of their reconciliation with the server's snapshots: what `ClientWorldSimulations` of
-// src/client.rs of crystalorb holds. What happens to them is in crates of its own: client_receive, client_load, client_frame, client_level, client_publish
-// and client_skip. Everything goes in by value and comes back.
+// src/client.rs of crystalorb holds. What happens to them is in crates of its own: client_receive, client_load, client_frame, client_publish and client_skip.
+// It is done to a `Scene` in place.
 #![tactic(auto)]
 
 ghost use Rattle.std.specs.Prelude.{◌≡◌};
@@ -86,47 +86,28 @@ pub struct Scene {
     pub steps: u32,
 }
 
-// A scene and the next place on the tape.
-#[derive(Clone, Copy)]
-pub struct Shown {
-    pub scene: Scene,
-    pub at: usize,
-}
-
-// A scene after a frame, and whether the Rust would have stopped in it.
-#[derive(Clone, Copy)]
-pub struct Framed {
-    pub scene: Scene,
-    pub at: usize,
-    pub stops: bool,
-}
-
-// A scene after a command was received, and whether a buffer that takes it was full.
-#[derive(Clone, Copy)]
-pub struct Received {
-    pub scene: Scene,
-    pub full: bool,
-}
-
-// The worlds of a client whose first stamp is `stamp`. The base's stamp starts at 0.
-pub fn new(stamp: Timestamp) -> ClientWorldSimulations
-    ensures { result ≡ new_worlds_of stamp }
-{
-    ClientWorldSimulations {
-        left: simulation::new(stamp),
-        right: simulation::new(stamp),
-        new: 0,
-        base: command::new(Timestamp(0)),
-        snapshots: Snapshots {
-            queued: None,
-            lastqueued: None,
-            lastreceived: None,
-        },
-        weight: 1.0,
-        published: Published {
-            before: None,
-            after: None,
-            time: None,
-        },
+impl ClientWorldSimulations {
+    // The worlds of a client whose first stamp is `stamp`. The base's stamp starts at 0.
+    #[tactic(auto, unfolding(crate::specs::Sides::new_worlds_of))]
+    pub fn new(stamp: Timestamp) -> ClientWorldSimulations
+        ensures { result ≡ new_worlds_of stamp }
+    {
+        ClientWorldSimulations {
+            left: Simulation::new(stamp),
+            right: Simulation::new(stamp),
+            new: 0,
+            base: CommandBuffer::new(Timestamp(0)),
+            snapshots: Snapshots {
+                queued: None,
+                lastqueued: None,
+                lastreceived: None,
+            },
+            weight: 1.0,
+            published: Published {
+                before: None,
+                after: None,
+                time: None,
+            },
+        }
     }
 }

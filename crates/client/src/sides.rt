@@ -1,111 +1,88 @@
 // The two sides: which world is old and which is new, by a number, and a ledger for each. (src/old_new.rs of crystalorb.)
-ghost use Rattle.std.specs.Prelude.{◌≡◌};
-ghost use Rattle.client.specs.Sides.{new_side_of, old_side_of, world_of, with_world, world_stamp_of, old_stamp_of, new_stamp_of, ledger_of, with_ledger};
-ghost use Rattle.client.specs.Sides.{put_of};
+ghost use Rattle.std.specs.Prelude.{◌≡◌, ◌<◌};
+ghost use Rattle.client.specs.Sides.{new_side_of, old_side_of, world_of, world_stamp_of, old_stamp_of, new_stamp_of, done_at, Plays};
+ghost use Rattle.simulation.specs.World.{step_of, reset_of};
 
-use super::{ClientWorldSimulations, Ledger, Scene, ledgers};
+use super::{ClientWorldSimulations, Scene};
 use simulation::Simulation;
 use timestamp::Timestamp;
 
-// The side of the new world: 0 for left, 1 for right.
-pub fn new_side(w: ClientWorldSimulations) -> u32
-    ensures { result ≡ new_side_of w }
-{
-    let n = w.new;
-    if n == 0 {
-        return 0;
+impl ClientWorldSimulations {
+    // The side of the new world: 0 for left, 1 for right.
+    #[tactic(auto, unfolding(crate::specs::Sides::new_side_of))]
+    pub fn new_side(&self) -> u32
+        ensures { result ≡ new_side_of self.now }
+    {
+        if self.new == 0 { 0 } else { 1 }
     }
-    1
-}
 
-// The side of the old world.
-pub fn old_side(w: ClientWorldSimulations) -> u32
-    ensures { result ≡ old_side_of w }
-{
-    let n = w.new;
-    if n == 0 {
-        return 1;
+    // The side of the old world.
+    #[tactic(auto, unfolding(crate::specs::Sides::old_side_of))]
+    pub fn old_side(&self) -> u32
+        ensures { result ≡ old_side_of self.now }
+    {
+        if self.new == 0 { 1 } else { 0 }
     }
-    0
-}
 
-// The world of a side.
-pub fn get_side(w: ClientWorldSimulations, side: u32) -> Simulation
-    ensures { result ≡ world_of w side }
-{
-    if side == 0 {
-        return w.left;
+    // The world of a side.
+    #[tactic(auto, unfolding(crate::specs::Sides::world_of))]
+    pub fn get_side(&self, side: u32) -> &Simulation
+        ensures { result.now ≡ world_of self.now side }
+    {
+        if side == 0 { &self.left } else { &self.right }
     }
-    w.right
-}
 
-// The worlds with another one at a side.
-pub fn set_side(w: ClientWorldSimulations, side: u32, s: Simulation) -> ClientWorldSimulations
-    ensures { result ≡ with_world w side s }
-{
-    let mut t = w;
-    if side == 0 {
-        t.left = s;
-        return t;
+    // The stamp of the old world, which is the client's.
+    #[tactic(auto, unfolding(crate::specs::Sides::old_stamp_of))]
+    pub fn last_completed_timestamp(&self) -> Timestamp
+        ensures { result ≡ old_stamp_of self.now }
+    {
+        self.get_side(self.old_side()).stamp()
     }
-    t.right = s;
-    t
-}
 
-// The stamp of a world's last completed frame.
-pub fn stamp_of(s: Simulation) -> Timestamp
-    ensures { result ≡ world_stamp_of s }
-{
-    let b = s.commands;
-    b.timestamp
-}
-
-// The stamp of the old world, which is the client's.
-pub fn last_completed_timestamp(w: ClientWorldSimulations) -> Timestamp
-    ensures { result ≡ old_stamp_of w }
-{
-    stamp_of(get_side(w, old_side(w)))
-}
-
-// The stamp of the new world.
-pub fn new_timestamp(w: ClientWorldSimulations) -> Timestamp
-    ensures { result ≡ new_stamp_of w }
-{
-    stamp_of(get_side(w, new_side(w)))
-}
-
-// The ledger of a side.
-pub fn get_ledger(s: Scene, side: u32) -> Ledger
-    ensures { result ≡ ledger_of s side }
-{
-    if side == 0 {
-        return s.left;
+    // The stamp of the new world.
+    #[tactic(auto, unfolding(crate::specs::Sides::new_stamp_of))]
+    pub fn new_timestamp(&self) -> Timestamp
+        ensures { result ≡ new_stamp_of self.now }
+    {
+        self.get_side(self.new_side()).stamp()
     }
-    s.right
 }
 
-// The scene with another ledger at a side.
-pub fn set_ledger(s: Scene, side: u32, l: Ledger) -> Scene
-    ensures { result ≡ with_ledger s side l }
-{
-    let mut t = s;
-    if side == 0 {
-        t.left = l;
-        return t;
+impl Scene {
+    // The world of a side steps. Gives the next place on the tape.
+    pub fn step_side(&mut self, side: u32, tape: &mut [u32], at: usize) -> usize
+        requires { at < 3000000000 }
+        ensures { Plays (done_at self.old side (step_of (world_of self.old.worlds side) side)) tape.old at self.new result tape.new }
+    {
+        if side == 0 {
+            let done = self.worlds.left.step(side, tape, at);
+            self.left.count(done.applied, done.leftout);
+            return done.at;
+        }
+        let done = self.worlds.right.step(side, tape, at);
+        self.right.count(done.applied, done.leftout);
+        done.at
     }
-    t.right = l;
-    t
-}
 
-// A world that was stepped or reset is put back at its side, with what it applied and left out.
-pub fn put_stepped(s: Scene, side: u32, d: simulation::Stepped) -> Scene
-    ensures { result ≡ put_of s side d.world d.applied d.leftout }
-{
-    let w = s.worlds;
-    let sim = d.world;
-    let put = set_side(w, side, sim);
-    let l = ledgers::count(get_ledger(s, side), d.applied, d.leftout);
-    let mut t = s;
-    t.worlds = put;
-    set_ledger(t, side, l)
+    // The world of a side is set to a stamp. Gives the next place on the tape.
+    pub fn reset_side(&mut self, side: u32, stamp: Timestamp, tape: &mut [u32], at: usize) -> usize
+        requires { at < 3000000000 }
+        ensures { Plays (done_at self.old side (reset_of (world_of self.old.worlds side) stamp side)) tape.old at self.new result tape.new }
+    {
+        if side == 0 {
+            let done = self
+                .worlds
+                .left
+                .reset_last_completed_timestamp(stamp, side, tape, at);
+            self.left.count(done.applied, done.leftout);
+            return done.at;
+        }
+        let done = self
+            .worlds
+            .right
+            .reset_last_completed_timestamp(stamp, side, tape, at);
+        self.right.count(done.applied, done.leftout);
+        done.at
+    }
 }

@@ -2,9 +2,7 @@
 ghost use Rattle.std.specs.Prelude.{◌≡◌};
 ghost use Rattle.client.specs.Status.{later_of, overshot_of, newer_of, status_of};
 
-use super::{
-    ClientWorldSimulations, FastforwardingHealth, QueuedSnapshot, ReconciliationStatus, sides,
-};
+use super::{ClientWorldSimulations, FastforwardingHealth, QueuedSnapshot, ReconciliationStatus};
 use timestamp::Timestamp;
 
 // Whether the first stamp is later than the second.
@@ -28,24 +26,26 @@ pub fn is_snapshot_newer(queued: Option<QueuedSnapshot>, new: Timestamp) -> bool
     queued.is_some_and(|q| is_later(q.stamp, new))
 }
 
-// The status: equal stamps blend or await by the weight; else the new world is ahead, or behind a newer snapshot, or catching up.
-pub fn infer_current_reconciliation_status(w: ClientWorldSimulations) -> ReconciliationStatus
-    ensures { result ≡ status_of w }
-{
-    let old = sides::last_completed_timestamp(w);
-    let new = sides::new_timestamp(w);
-    if new == old {
-        let t = w.weight;
-        if t < 1.0 {
-            return ReconciliationStatus::Blending(t);
+impl ClientWorldSimulations {
+    // The status: equal stamps blend or await by the weight; else the new world is ahead, or behind a newer snapshot, or catching up.
+    pub fn infer_current_reconciliation_status(&self) -> ReconciliationStatus
+        ensures { result ≡ status_of self.now }
+    {
+        let old = self.last_completed_timestamp();
+        let new = self.new_timestamp();
+        if new == old {
+            let t = self.weight;
+            if t < 1.0 {
+                return ReconciliationStatus::Blending(t);
+            }
+            return ReconciliationStatus::AwaitingSnapshot;
         }
-        return ReconciliationStatus::AwaitingSnapshot;
+        if is_overshot(new, old) {
+            return ReconciliationStatus::Fastforwarding(FastforwardingHealth::Overshot);
+        }
+        if is_snapshot_newer(self.snapshots.queued, new) {
+            return ReconciliationStatus::Fastforwarding(FastforwardingHealth::Obsolete);
+        }
+        ReconciliationStatus::Fastforwarding(FastforwardingHealth::Healthy)
     }
-    if is_overshot(new, old) {
-        return ReconciliationStatus::Fastforwarding(FastforwardingHealth::Overshot);
-    }
-    if is_snapshot_newer(w.snapshots.queued, new) {
-        return ReconciliationStatus::Fastforwarding(FastforwardingHealth::Obsolete);
-    }
-    ReconciliationStatus::Fastforwarding(FastforwardingHealth::Healthy)
 }

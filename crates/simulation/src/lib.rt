@@ -46,6 +46,13 @@ impl Simulation {
         }
     }
 
+    // The stamp of its last completed frame.
+    pub fn stamp(&self) -> Timestamp
+        ensures { result ≡ self.now.commands.timestamp }
+    {
+        self.commands.timestamp
+    }
+
     // Offers a command to the world's buffer.
     pub fn schedule_command(&mut self, entry: u64) -> Outcome
         ensures { record { world = self.new; outcome = result } ≡ scheduled_of self.old entry }

@@ -2,7 +2,7 @@
 use Rattle.std.proofs.Common.{sym, refl, ◌∙◌}
 use lib.Ieee.{of_bits}
 use Rattle.client.proofs.Judging.{status_is}
-use Rattle.client.proofs.status.infer_current_reconciliation_status.Goals as goal
+use Rattle.client.proofs.ClientWorldSimulations.infer_current_reconciliation_status.Goals as goal
 
 pub returns-then-t : goal.returns-then-t
 unfolding of_bits
