@@ -1,5 +1,6 @@
 // The two sides: which world is old and which is new, by a number, and a ledger for each. (src/old_new.rs of crystalorb.)
-ghost use Rattle.std.specs.Prelude.{◌≡◌, ◌<◌};
+ghost use Rattle.std.specs.Prelude.{◌≡◌, ◌+◌, ◌<◌, ◌≤◌};
+ghost use Rattle.refusals.specs.Limits.{buffer_room};
 ghost use Rattle.client.specs.Sides.{new_side_of, old_side_of, world_of, world_stamp_of, old_stamp_of, new_stamp_of, done_at, Plays};
 ghost use Rattle.simulation.specs.World.{step_of, reset_of};
 
@@ -53,7 +54,8 @@ impl Scene {
     // The world of a side steps. Gives the next place on the tape.
     pub fn step_side(&mut self, side: u32, tape: &mut [u32], at: usize) -> usize
         requires { at < 3000000000 }
-        ensures { Plays (done_at self.old side (step_of (world_of self.old.worlds side) side)) tape.old at self.new result tape.new }
+        ensures plays { Plays (done_at self.old side (step_of (world_of self.old.worlds side) side)) tape.old at self.new result tape.new }
+        ensures few { result ≤ at + buffer_room + 1 }
     {
         if side == 0 {
             let done = self.worlds.left.step(side, tape, at);
@@ -68,7 +70,8 @@ impl Scene {
     // The world of a side is set to a stamp. Gives the next place on the tape.
     pub fn reset_side(&mut self, side: u32, stamp: Timestamp, tape: &mut [u32], at: usize) -> usize
         requires { at < 3000000000 }
-        ensures { Plays (done_at self.old side (reset_of (world_of self.old.worlds side) stamp side)) tape.old at self.new result tape.new }
+        ensures plays { Plays (done_at self.old side (reset_of (world_of self.old.worlds side) stamp side)) tape.old at self.new result tape.new }
+        ensures few { result ≤ at + buffer_room }
     {
         if side == 0 {
             let done = self

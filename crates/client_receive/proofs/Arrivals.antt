@@ -5,36 +5,19 @@ use Prim.Native.Nat.{ℕ}
 use lib.Dec.{eqb}
 use Rattle.timestamp.specs.declared.Timestamp.{Timestamp}
 use Rattle.command.specs.Entries.{Entry}
-use Rattle.command.specs.declared.Insertion.{Insertion}
-use Rattle.command.specs.declared.Outcome.{Outcome}
-use Rattle.command.specs.Buffer.{inserted_of, taken_by}
-use Rattle.simulation.specs.declared.Scheduled.{Scheduled}
-use Rattle.simulation.specs.World.{scheduled_of}
+use Rattle.command.specs.Buffer.{Insertion, inserted_of, taken_by}
+use Rattle.simulation.specs.World.{Scheduled, scheduled_of}
 use Rattle.std.specs.Prelude.{Option, Some}
 use Rattle.client.specs.declared.Snapshots.{Snapshots}
 use Rattle.client.specs.declared.Ledger.{Ledger}
 use Rattle.client.specs.declared.Scene.{Scene}
-use Rattle.client.specs.declared.Received.{Received}
 use Rattle.client.specs.Ledgers.{takes}
 use Rattle.client.specs.Sides.{new_side_of, old_side_of, world_of, with_world, with_ledger, ledger_of, with_left, with_right, with_base, with_worlds}
 use Rattle.client.specs.Sides.{with_ledgers}
 use Rattle.client_receive.specs.Inner.{any_full}
-use Rattle.client_receive.specs.Receive.{full_by, offered_base, offered_side, received_of, from_future_of, fresh_of, noted_of, snapshots_by, snapshots_of}
+use Rattle.client_receive.specs.Receive.{Received, full_by, offered_base, offered_side, received_of, from_future_of, fresh_of, noted_of, snapshots_by, snapshots_of}
 
 -- ---- commands
-
--- a full one of three
-pub full_first : (b l r : Outcome) {f : Bool} → f ≡ full_by b → f ≡ true → true ≡ any_full b l r
-unfolding any_full
-full_first b l r hf e = λ i. sym (sym hf ∙ e) i || (full_by l || full_by r)
-
-pub full_second : (b l r : Outcome) {f g : Bool} → f ≡ full_by b → f ≡ false → g ≡ full_by l → g ≡ true → true ≡ any_full b l r
-unfolding any_full
-full_second b l r hf e hg d = λ i. sym (sym hf ∙ e) i || (sym (sym hg ∙ d) i || full_by r)
-
-pub full_third : (b l r : Outcome) {f g h : Bool} → f ≡ full_by b → f ≡ false → g ≡ full_by l → g ≡ false → h ≡ full_by r → h ≡ any_full b l r
-unfolding any_full
-full_third b l r hf e hg d hh = hh ∙ (λ i. sym (sym hf ∙ e) i || (sym (sym hg ∙ d) i || full_by r))
 
 or_swap : (a b : Bool) → a || b ≡ b || a
 or_swap true true = refl

@@ -11,10 +11,14 @@ use Rattle.client.specs.declared.QueuedSnapshot.{QueuedSnapshot}
 use Rattle.client.specs.declared.Snapshots.{Snapshots}
 use Rattle.client.specs.declared.ClientWorldSimulations.{ClientWorldSimulations}
 use Rattle.client.specs.declared.Scene.{Scene}
-use Rattle.client.specs.declared.Received.{Received}
 use Rattle.client.specs.Ledgers.{takes}
 use Rattle.client.specs.Sides.{new_side_of, old_side_of, world_of, with_world, with_base, with_snapshots, with_worlds, with_ledger, ledger_of, old_stamp_of}
 use Rattle.client.specs.Status.{later_of}
+
+-- a scene after a command was received, and whether a buffer that takes it was full
+pub record Received : Type 0 where
+  pub scene : Scene
+  pub full : Bool
 
 -- a buffer takes the command but holds 64: refusal 23
 abbrev pub full_by : Outcome → Bool

@@ -7,10 +7,7 @@ ghost use Rattle.client.specs.Ledgers.{takes};
 ghost use Rattle.client_receive.specs.Inner.{any_full};
 ghost use Rattle.client_receive.specs.Receive.{full_by, received_of, from_future_of, fresh_of, noted_of, snapshots_of};
 
-use client::{
-    ClientWorldSimulations, Ledger, QueuedSnapshot, Received, Scene, Snapshots, ledgers, sides,
-    status,
-};
+use client::{QueuedSnapshot, Scene, Snapshots, status};
 use command::Outcome;
 use timestamp::Timestamp;
 
@@ -18,11 +15,7 @@ use timestamp::Timestamp;
 pub fn is_full(o: Outcome) -> bool
     ensures { result ≡ full_by o }
 {
-    match o {
-        Outcome::Taken => false,
-        Outcome::OutOfRange => false,
-        Outcome::Full => true,
-    }
+    matches!(o, Outcome::Full)
 }
 
 // How many entries an insertion put in.
@@ -31,66 +24,29 @@ pub fn taken_by(o: Outcome) -> usize
 {
     match o {
         Outcome::Taken => 1,
-        Outcome::OutOfRange => 0,
-        Outcome::Full => 0,
+        Outcome::OutOfRange | Outcome::Full => 0,
     }
 }
 
 // Whether one of three insertions found its buffer full.
+#[tactic(auto, unfolding(crate::specs::Inner::any_full))]
 pub(crate) fn any_full(base: Outcome, left: Outcome, right: Outcome) -> bool
     ensures { result ≡ any_full base left right }
 {
-    if is_full(base) {
-        return true;
-    }
-    if is_full(left) {
-        return true;
-    }
-    is_full(right)
+    is_full(base) || is_full(left) || is_full(right)
 }
 
-// A ledger with what an insertion put in.
-pub(crate) fn take(l: Ledger, o: Outcome) -> Ledger
-    ensures { result ≡ takes l (taken_by o) }
+// A command goes to the base, the old and the new world. Gives whether one of them takes it but has no room: refusal 23. None of the three looks
+// at another, so left and right need not be told apart.
+pub fn receive_command(scene: &mut Scene, entry: u64) -> bool
+    ensures { record { scene = scene.new; full = result } ≡ received_of scene.old entry }
 {
-    ledgers::count_taken(l, taken_by(o))
-}
-
-// A command goes to the base, the old and the new world. `full` says whether one of them takes it but has no room: refusal 23. None of the
-// three looks at another, so left and right need not be told apart, and the scene is laid out once.
-pub fn receive_command(s: Scene, entry: u64) -> Received
-    ensures { result ≡ received_of s entry }
-{
-    let w = s.worlds;
-    let held = w.base;
-    let i = command::insert(held, entry);
-    let a = simulation::schedule_command(w.left, entry);
-    let b = simulation::schedule_command(w.right, entry);
-    let base = i.buffer;
-    let left = a.world;
-    let right = b.world;
-    let snapshots = w.snapshots;
-    let published = w.published;
-    let of_base = i.outcome;
-    let of_left = a.outcome;
-    let of_right = b.outcome;
-    Received {
-        scene: Scene {
-            worlds: ClientWorldSimulations {
-                left,
-                right,
-                new: w.new,
-                base,
-                snapshots,
-                weight: w.weight,
-                published,
-            },
-            left: take(s.left, of_left),
-            right: take(s.right, of_right),
-            steps: s.steps,
-        },
-        full: any_full(of_base, of_left, of_right),
-    }
+    let base = scene.worlds.base.insert(entry);
+    let left = scene.worlds.left.schedule_command(entry);
+    let right = scene.worlds.right.schedule_command(entry);
+    scene.left.count_taken(taken_by(left));
+    scene.right.count_taken(taken_by(right));
+    any_full(base, left, right)
 }
 
 // Whether a snapshot is later than the client's stamp.

@@ -3,7 +3,8 @@
 // midpoint of the command buffer, as in the Rust. A side is 0 for the left world and 1 for the right one.
 #![tactic(auto)]
 
-ghost use Rattle.std.specs.Prelude.{◌≡◌, ◌<◌};
+ghost use Rattle.std.specs.Prelude.{◌≡◌, ◌+◌, ◌<◌, ◌≤◌};
+ghost use Rattle.refusals.specs.Limits.{buffer_room};
 ghost use Rattle.simulation.specs.World.{new_world, scheduled_of, step_of, resets_back, reset_of, load_of, Does, Loads};
 
 use command::{CommandBuffer, Outcome};
@@ -63,7 +64,8 @@ impl Simulation {
     // One frame: the commands up to it are applied, the world steps, and its stamp moves on.
     pub fn step(&mut self, side: u32, tape: &mut [u32], at: usize) -> Stepped
         requires { at < 3000000000 }
-        ensures { Does (step_of self.old side) tape.old at self.new result tape.new }
+        ensures does { Does (step_of self.old side) tape.old at self.new result tape.new }
+        ensures few { result.at ≤ at + buffer_room + 1 }
     {
         let next = self.commands.timestamp.add(1);
         let after = self.commands.apply_up_to(next, side, tape, at);
@@ -111,7 +113,8 @@ impl Simulation {
         at: usize,
     ) -> Stepped
         requires { at < 3000000000 }
-        ensures { Does (reset_of self.old stamp side) tape.old at self.new result tape.new }
+        ensures does { Does (reset_of self.old stamp side) tape.old at self.new result tape.new }
+        ensures few { result.at ≤ at + buffer_room }
     {
         let back = resets_back(stamp, self.commands.timestamp);
         let leftout = self.commands.update_timestamp(stamp);

@@ -1,19 +1,17 @@
 -- `load_snapshot` meets its contract: the drained base goes into the side, and the ledger counts it. Assumes nothing.
-use Rattle.tape.proofs.Writing.{puts-length}
-use Rattle.client_load.proofs.Loading.{load_plays}
+use lib.Ieee.{of_bits}
+use Rattle.client_load.specs.Load.{readied_with}
+use Rattle.client_load.proofs.Loading.{load_left, load_right}
 use Rattle.client_load.proofs.load_snapshot.Goals as goal
 
-pub shape_of-tape : goal.shape_of-tape
-shape_of-tape c = puts-length c.apply_completed_snapshot-r.ensures.puts
+pub returns-then-side-eq0 : goal.returns-then-side-eq0
+unfolding readied_with of_bits
+returns-then-side-eq0 c =
+    load_left c.args.scene.now c.args.side c.args.stamp c.args.handle c.drain_up_to.ensures c.if-side-eq0.true
+    c.apply_completed_snapshot-loaded.ensures c.count_load.ensures
 
 pub returns : goal.returns
+unfolding readied_with of_bits
 returns c =
-    load_plays _ _ _ _
-    c.drain_up_to-d.ensures
-    c.get_side.ensures
-    c.apply_completed_snapshot-r.ensures
-    c.readied-v.ensures
-    c.set_side-put.ensures
-    c.get_ledger.ensures
-    c.count_load-l.ensures
-    c.set_ledger.ensures
+    load_right c.args.scene.now c.args.side c.args.stamp c.args.handle c.drain_up_to.ensures c.if-side-eq0.false
+    c.apply_completed_snapshot-loaded-2.ensures c.count_load-2.ensures

@@ -1,8 +1,10 @@
 -- `receive_command` meets its contract: the base and both worlds are offered the command, and a full one of the three is told. Assumes nothing.
+use Rattle.std.proofs.Common.{ap, ◌∙◌}
+use Rattle.client.specs.Ledgers.{takes}
 use Rattle.client_receive.proofs.Arrivals.{received_is}
 use Rattle.client_receive.proofs.receive_command.Goals as goal
 
 pub returns : goal.returns
 returns c =
-    received_is _ _ c.insert-i.ensures c.schedule_command-a.ensures c.schedule_command-b.ensures
-    c.take.ensures c.take-2.ensures c.any_full.ensures
+    received_is c.args.scene.now c.args.entry c.insert-base.ensures c.schedule_command-left.ensures c.schedule_command-right.ensures
+    (c.count_taken.ensures ∙ ap (takes _) c.taken_by.ensures) (c.count_taken-2.ensures ∙ ap (takes _) c.taken_by-2.ensures) c.any_full.ensures
