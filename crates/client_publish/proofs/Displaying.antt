@@ -7,7 +7,7 @@ use lib.Ieee.{Float, fin, binary64, add, mul, le}
 use Rattle.timestamp.specs.declared.Timestamp.{Timestamp}
 use Rattle.timestamp.specs.Timestamps.{difference_of}
 use Rattle.timestamp.specs.FloatTimestamps.{float_of}
-use Rattle.command.specs.declared.Moved.{Moved}
+use Rattle.command.specs.Buffer.{Moved}
 use Rattle.command.specs.Buffer.{moved_of}
 use Rattle.std.specs.Prelude.{Option}
 use Rattle.client.specs.declared.Published.{Published}

@@ -4,7 +4,7 @@ ghost use Rattle.std.specs.Prelude.{◌≡◌};
 ghost use Rattle.client_publish.specs.Ending.{weight_ok, time_of, displayed_of, revised_of, post_update_of};
 ghost use Rattle.timestamp.specs.Floats.{tween_of};
 
-use client::{ClientWorldSimulations, Published, Snapshots, sides, status};
+use client::{ClientWorldSimulations, Published, status};
 use timestamp::{FloatTimestamp, Timestamp};
 
 // The weight of the state after the displayed time, not yet shaped.
@@ -60,18 +60,11 @@ pub fn revised(last: Option<Timestamp>, old: Timestamp, lag: u16) -> Option<Time
 }
 
 // What every update ends with: the displayed time at a shaped weight, the base's stamp, and the last queued stamp.
-pub fn post_update(w: ClientWorldSimulations, t: f64, lag: u16) -> ClientWorldSimulations
-    ensures { result ≡ post_update_of w t lag }
+pub fn post_update(worlds: &mut ClientWorldSimulations, t: f64, lag: u16)
+    ensures { worlds.exit.now ≡ post_update_of worlds.entry.now t lag }
 {
-    let old = sides::last_completed_timestamp(w);
-    let m = command::update_timestamp(w.base, old);
-    ClientWorldSimulations {
-        base: m.buffer,
-        snapshots: Snapshots {
-            lastqueued: revised(w.snapshots.lastqueued, old, lag),
-            ..w.snapshots
-        },
-        published: displayed(w.published, t),
-        ..w
-    }
+    let old = worlds.last_completed_timestamp();
+    worlds.published = displayed(worlds.published, t);
+    worlds.base.update_timestamp(old);
+    worlds.snapshots.lastqueued = revised(worlds.snapshots.lastqueued, old, lag);
 }

@@ -6,22 +6,18 @@ ghost use Rattle.client_publish.specs.Publish.{with_state, published_none, publi
 ghost use Rattle.client_publish.specs.Publish.{published_blended};
 ghost use Rattle.client_publish.specs.Inner.{States};
 
-use client::{ClientWorldSimulations, Published, Scene, sides};
+use client::Scene;
 use timestamp::Timestamp;
 
 pub mod ending;
 
 // The published states move on by one: the last one is now the one before.
-pub fn with_state(s: Scene, state: Option<Timestamp>) -> Scene
-    ensures { result ≡ with_state s state }
+pub fn with_state(scene: &mut Scene, state: Option<Timestamp>)
+    ensures { scene.new ≡ with_state scene.old state }
 {
-    let mut t = s;
-    t.worlds.published = Published {
-        before: s.worlds.published.after,
-        after: state,
-        time: s.worlds.published.time,
-    };
-    t
+    let published = &mut scene.worlds.published;
+    published.before = published.after;
+    published.after = state;
 }
 
 // The state that is published, and the next place on the tape. A scene is built from it once, by `with_state`.
@@ -32,20 +28,20 @@ pub struct Stated {
 }
 
 // Nothing is published: neither world has had a snapshot.
-pub(crate) fn publish_none(s: Scene, tape: &mut [u32], at: usize) -> Stated
+pub(crate) fn publish_none(s: &Scene, tape: &mut [u32], at: usize) -> Stated
     requires { at < 3000000000 }
-    ensures { States (published_none s) s tape.old at result tape.new }
+    ensures { States (published_none s.now) s.now tape.old at result tape.new }
 {
     let p = tape::put(tape, at, tape::none_word());
     Stated { state: None, at: p }
 }
 
 // The world of a side is published as it is.
-pub(crate) fn publish_side(s: Scene, side: u32, tape: &mut [u32], at: usize) -> Stated
+pub(crate) fn publish_side(s: &Scene, side: u32, tape: &mut [u32], at: usize) -> Stated
     requires { at < 3000000000 }
-    ensures { States (published_side s side) s tape.old at result tape.new }
+    ensures { States (published_side s.now side) s.now tape.old at result tape.new }
 {
-    let stamp = sides::stamp_of(sides::get_side(s.worlds, side));
+    let stamp = s.worlds.get_side(side).stamp();
     let p = tape::put(tape, at, tape::publish_word(side));
     Stated {
         state: Some(stamp),
@@ -54,11 +50,11 @@ pub(crate) fn publish_side(s: Scene, side: u32, tape: &mut [u32], at: usize) -> 
 }
 
 // A mix of both worlds is published, with the weight of the new one.
-pub(crate) fn publish_mix(s: Scene, weight: f64, tape: &mut [u32], at: usize) -> Stated
+pub(crate) fn publish_mix(s: &Scene, weight: f64, tape: &mut [u32], at: usize) -> Stated
     requires { at < 3000000000 }
-    ensures { States (published_mix s weight) s tape.old at result tape.new }
+    ensures { States (published_mix s.now weight) s.now tape.old at result tape.new }
 {
-    let stamp = sides::last_completed_timestamp(s.worlds);
+    let stamp = s.worlds.last_completed_timestamp();
     let p = tape::put_mix(tape, at, weight);
     Stated {
         state: Some(stamp),
@@ -67,12 +63,12 @@ pub(crate) fn publish_mix(s: Scene, weight: f64, tape: &mut [u32], at: usize) ->
 }
 
 // The old world is published, where a snapshot has initialised it.
-pub fn publish_old_state(s: Scene, tape: &mut [u32], at: usize) -> Stated
+pub fn publish_old_state(s: &Scene, tape: &mut [u32], at: usize) -> Stated
     requires { at < 3000000000 }
-    ensures { States (published_old s) s tape.old at result tape.new }
+    ensures { States (published_old s.now) s.now tape.old at result tape.new }
 {
-    let side = sides::old_side(s.worlds);
-    let old = sides::get_side(s.worlds, side);
+    let side = s.worlds.old_side();
+    let old = s.worlds.get_side(side);
     if old.init {
         return publish_side(s, side, tape, at);
     }
@@ -91,33 +87,31 @@ pub fn is_near_one(weight: f64) -> bool
 }
 
 // Both worlds are initialised: the old one at weight 0, the new one near weight 1, and a mix in between.
-pub(crate) fn publish_both(s: Scene, tape: &mut [u32], at: usize) -> Stated
+pub(crate) fn publish_both(s: &Scene, tape: &mut [u32], at: usize) -> Stated
     requires { at < 3000000000 }
-    ensures { States (published_both s) s tape.old at result tape.new }
+    ensures { States (published_both s.now) s.now tape.old at result tape.new }
 {
-    let w = s.worlds;
-    let t = w.weight;
+    let t = s.worlds.weight;
     if t == 0.0 {
-        return publish_side(s, sides::old_side(w), tape, at);
+        return publish_side(s, s.worlds.old_side(), tape, at);
     }
     if is_near_one(t) {
-        return publish_side(s, sides::new_side(w), tape, at);
+        return publish_side(s, s.worlds.new_side(), tape, at);
     }
     publish_mix(s, t, tape, at)
 }
 
 // The worlds are published by the weight; with the old one not initialised the new one, and nothing where that is not either.
-pub fn publish_blended_state(s: Scene, tape: &mut [u32], at: usize) -> Stated
+pub fn publish_blended_state(s: &Scene, tape: &mut [u32], at: usize) -> Stated
     requires { at < 3000000000 }
-    ensures { States (published_blended s) s tape.old at result tape.new }
+    ensures { States (published_blended s.now) s.now tape.old at result tape.new }
 {
-    let w = s.worlds;
-    let old = sides::get_side(w, sides::old_side(w));
+    let old = s.worlds.get_side(s.worlds.old_side());
     if old.init {
         return publish_both(s, tape, at);
     }
-    let side = sides::new_side(w);
-    let new = sides::get_side(w, side);
+    let side = s.worlds.new_side();
+    let new = s.worlds.get_side(side);
     if new.init {
         return publish_side(s, side, tape, at);
     }
