@@ -2,7 +2,6 @@
 use Rattle.std.proofs.Common.{◌≡◌, ℕ, ◌+◌, ◌*◌, ◌≤◌, Bool, true, false, cond, eqb, length, refl, ap, arith, length-append, Option}
 use lib.Ieee.{Float}
 use Rattle.timestamp.specs.declared.Timestamp.{Timestamp}
-use Rattle.tape.specs.Words.{mix_words, weight_words}
 use Rattle.command.specs.declared.CommandBuffer.{CommandBuffer}
 use Rattle.command.specs.Buffer.{held, moved_of, rest_of}
 use Rattle.command.proofs.Holding.{held_few}
@@ -17,7 +16,7 @@ use Rattle.client.specs.declared.Ledger.{Ledger}
 use Rattle.client.specs.declared.Scene.{Scene}
 use Rattle.client.specs.Sides.{world_of, with_world, with_ledger, put_of, Played, still, and_then, done_at}
 use Rattle.client.specs.Status.{status_of}
-use Rattle.client_publish.proofs.Telling.{Telling, of_none, of_side, of_mix, told}
+use Rattle.client_publish.proofs.Telling.{told_few}
 use Rattle.client_load.specs.Load.{readied_with, loaded_at, loaded_of}
 use Rattle.client_frame.specs.Frame.{opened_of, stepped_side, stepped_new, simulated_of, frame_of}
 use Rattle.client_frame.proofs.Induction.{Law, Chains, reset_at, Steps, Moves, stepped_new_by, simulated_by, opened_by_lem, parts_by, frame_by}
@@ -158,13 +157,6 @@ reset_short s side t h =
       few = few_put s side (reset_of w t side).world (reset_of w t side).applied (reset_of w t side).leftout h
           (omega (arith, reset_held w t side, few_at s.worlds side h));
     }
-
--- what is published is told in few words
-told_few : (w : Telling) → length (told w) ≤ 4
-unfolding mix_words weight_words
-told_few of_none = omega arith
-told_few (of_side side) = omega arith
-told_few (of_mix t) = omega arith
 
 -- so are the steps of worlds, and each move of a frame
 short_steps : Steps Shortly 65

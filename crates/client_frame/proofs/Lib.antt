@@ -1,5 +1,4 @@
 pub mod Induction
 pub mod Bounds
 pub mod Framing
-pub mod Waiting
 pub mod Catching

@@ -15,7 +15,7 @@ use Rattle.client.specs.declared.ReconciliationStatus.TheVariants.{AwaitingSnaps
 use Rattle.client.specs.declared.QueuedSnapshot.{QueuedSnapshot}
 use Rattle.client.specs.declared.ClientWorldSimulations.{ClientWorldSimulations}
 use Rattle.client.specs.declared.Scene.{Scene}
-use Rattle.client.specs.declared.Framed.{Framed}
+use Rattle.client_frame.specs.declared.Framed.{Framed}
 use Rattle.client.specs.Sides.{new_side_of, old_side_of, world_of, with_weight, with_worlds, old_stamp_of, new_stamp_of, Played, still}
 use Rattle.client.specs.Sides.{and_then, done_at, with_steps}
 use Rattle.client.specs.Status.{status_of}
@@ -141,8 +141,8 @@ frame_of rules s = and_then (frame_opened rules s) (shown_of rules.m (blended_by
 unfoldable pub frame_stops : Rules → Scene → Bool
 frame_stops rules s = stops_of (status_of s.worlds) (snapshot_of s) s.worlds (frame_of rules s).scene.worlds
 
--- a frame as the code leaves it
-pub record Frames (p : Played) (stops : Bool) (was : List ℕ) (place : ℕ) (r : Framed) (last : List ℕ) : Type 0 where
-  pub scene : r.scene ≡ p.scene
+-- a frame as the code leaves it, with the scene s
+pub record Frames (p : Played) (stops : Bool) (was : List ℕ) (place : ℕ) (s : Scene) (r : Framed) (last : List ℕ) : Type 0 where
+  pub scene : s ≡ p.scene
   pub stopped : r.stops ≡ stops
   pub puts : Puts was place p.words r.at last

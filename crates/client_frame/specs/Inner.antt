@@ -1,11 +1,20 @@
--- What inner functions of the code give: a world that steps apart from its scene is put back. No contract of a call cites this module.
+-- What inner functions of the code give. No contract of a call cites this module.
 -- Definitions only. Assumes nothing.
-use Rattle.std.specs.Prelude.{ℕ}
-use Rattle.simulation.specs.declared.Simulation.{Simulation}
-use Rattle.client.specs.declared.Ledger.{Ledger}
-use Rattle.client.specs.declared.Scene.{Scene}
-use Rattle.client.specs.Sides.{with_world, with_ledger, with_worlds, with_steps}
+use Rattle.std.specs.Prelude.{Bool, true, false, cond, ◌==◌, Option}
+use Rattle.timestamp.specs.declared.Timestamp.{Timestamp}
+use Rattle.timestamp.specs.Timestamps.{difference_of}
+use Rattle.client.specs.declared.QueuedSnapshot.{QueuedSnapshot}
+use Rattle.client.specs.declared.FastforwardingHealth.TheVariants.{Healthy, Obsolete, Overshot}
+use Rattle.client.specs.declared.ReconciliationStatus.{ReconciliationStatus}
+use Rattle.client.specs.declared.ReconciliationStatus.TheVariants.{AwaitingSnapshot, Fastforwarding, Blending}
+use Rattle.client.specs.declared.ClientWorldSimulations.{ClientWorldSimulations}
+use Rattle.client.specs.Status.{status_of}
+use Rattle.client_frame.specs.Frame.{is_obsolete, too_far_of}
 
--- the scene with a world and its ledger at a side, and another count of steps
-unfoldable pub put_back : Scene → ℕ → Simulation → Ledger → ℕ → Scene
-put_back s side w l n = with_ledger (with_steps (with_worlds s (with_world s.worlds side w)) n) side l
+-- refusal 26 by the stamps `old` and `new` that the worlds have before the frame, and the worlds e after it
+unfoldable pub stops_by : ReconciliationStatus → Option QueuedSnapshot → (old new : Timestamp) → (e : ClientWorldSimulations) → Bool
+stops_by AwaitingSnapshot q old new e = false
+stops_by (Blending t) q old new e = false
+stops_by (Fastforwarding Healthy) q old new e = cond (difference_of old.0 new.0 == 32768) true (is_obsolete (status_of e))
+stops_by (Fastforwarding Obsolete) q old new e = too_far_of q old
+stops_by (Fastforwarding Overshot) q old new e = false

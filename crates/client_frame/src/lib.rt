@@ -2,21 +2,19 @@
 // published.
 #![tactic(auto)]
 
-ghost use Rattle.std.specs.Prelude.{◌≡◌, ◌<◌, ◌≤◌, true};
-ghost use Rattle.refusals.specs.Limits.{most_steps};
+ghost use Rattle.std.specs.Prelude.{◌≡◌, ◌+◌, ◌*◌, ◌<◌, ◌≤◌};
+ghost use Rattle.refusals.specs.Limits.{most_steps, buffer_room};
 ghost use Rattle.client.specs.Sides.{Plays, old_stamp_of};
 ghost use Rattle.client_publish.specs.Inner.{States};
-ghost use Rattle.client_frame.specs.Frame.{loads_of, blended_on, reset_new, opened_of, stepped_side, caught_up_of, caught_of, simulated_of};
-ghost use Rattle.client_frame.specs.Frame.{blended_by, published_by, is_obsolete, too_far_of, stops_of, shown_of, frame_of, frame_stops, Frames};
+ghost use Rattle.client_frame.specs.Frame.{loads_of, loaded_queued, blended_on, reset_new, opened_of, caught_up_of, caught_of, simulated_of};
+ghost use Rattle.client_frame.specs.Frame.{blended_by, published_by, is_obsolete, too_far_of, shown_of, frame_of, frame_stops, Frames};
 ghost use Rattle.timestamp.specs.Floats.{clamped_of};
-ghost use Rattle.client_frame.specs.Inner.{put_back};
+ghost use Rattle.client_frame.specs.Inner.{stops_by};
 
 use client::{
-    ClientWorldSimulations, FastforwardingHealth, Framed, Ledger, QueuedSnapshot,
-    ReconciliationStatus, Scene, Shown, ledgers, sides, status,
+    ClientWorldSimulations, FastforwardingHealth, QueuedSnapshot, ReconciliationStatus, Scene,
 };
 use client_publish::Stated;
-use simulation::Simulation;
 use timestamp::Timestamp;
 
 // What a frame goes by: the most steps of the new world to catch up, and how far a blend's weight moves on.
@@ -24,6 +22,13 @@ use timestamp::Timestamp;
 pub struct Rules {
     pub m: u32,
     pub progress: f64,
+}
+
+// What a frame came to: the next place on the tape, and whether the Rust would have stopped in it.
+#[derive(Clone, Copy)]
+pub struct Framed {
+    pub at: usize,
+    pub stops: bool,
 }
 
 // The snapshot that a frame of this status loads.
@@ -55,96 +60,74 @@ pub fn clamp(x: f64) -> f64
 }
 
 // The weight moved on by one frame.
-pub(crate) fn blend_on(s: Scene, progress: f64) -> Scene
-    ensures { result ≡ blended_on s progress }
+pub(crate) fn blend_on(scene: &mut Scene, progress: f64)
+    ensures { scene.new ≡ blended_on scene.old progress }
 {
-    let w = s.worlds;
-    let t = w.weight;
-    let mut v = w;
-    v.weight = clamp(t + progress);
-    let mut r = s;
-    r.worlds = v;
-    r
+    scene.worlds.weight = clamp(scene.worlds.weight + progress);
 }
 
-// The new world is set to the old one's stamp.
-pub(crate) fn reset_new(s: Scene, tape: &mut [u32], at: usize) -> Shown
+// The new world is set to the old one's stamp. Gives the next place on the tape.
+pub(crate) fn reset_new(scene: &mut Scene, tape: &mut [u32], at: usize) -> usize
     requires { at < 3000000000 }
-    ensures { Plays (reset_new s) tape.old at result tape.new }
+    ensures plays { Plays (reset_new scene.old) tape.old at scene.new result tape.new }
+    ensures few { result ≤ at + buffer_room }
 {
-    let w = s.worlds;
-    let side = sides::new_side(w);
-    let old = sides::last_completed_timestamp(w);
-    let r = simulation::reset_last_completed_timestamp(
-        sides::get_side(w, side),
-        old,
-        side,
-        tape,
-        at,
-    );
-    Shown {
-        scene: sides::put_stepped(s, side, r),
-        at: r.at,
+    let side = scene.worlds.new_side();
+    let old = scene.worlds.last_completed_timestamp();
+    scene.reset_side(side, old, tape, at)
+}
+
+// The queued snapshot is loaded into a side, where there is one. Gives the next place on the tape.
+#[tactic(auto, unfolding(crate::specs::Frame::loaded_queued))]
+pub(crate) fn load_queued(
+    scene: &mut Scene,
+    queued: Option<QueuedSnapshot>,
+    side: u32,
+    tape: &mut [u32],
+    at: usize,
+) -> usize
+    requires { at < 3000000000 }
+    ensures plays { Plays (loaded_queued scene.old queued side) tape.old at scene.new result tape.new }
+    ensures few { result ≤ at + 1 }
+{
+    match queued {
+        None => at,
+        Some(q) => client_load::load_snapshot(scene, side, q.stamp, q.handle, tape, at),
     }
 }
 
 // What a frame begins with: awaiting, the sides are swapped for the queued snapshot; obsolete, it is loaded; overshot, the new world is reset.
+// Gives the next place on the tape.
+#[tactic(auto, unfolding(crate::specs::Frame::opened_of))]
 pub(crate) fn open(
-    s: Scene,
+    scene: &mut Scene,
     t: ReconciliationStatus,
     q: Option<QueuedSnapshot>,
     progress: f64,
     tape: &mut [u32],
     at: usize,
-) -> Shown
+) -> usize
     requires { at < 3000000000 }
-    ensures { Plays (opened_of t q progress s) tape.old at result tape.new }
+    ensures plays { Plays (opened_of t q progress scene.old) tape.old at scene.new result tape.new }
+    ensures few { result ≤ at + buffer_room }
 {
     match t {
-        ReconciliationStatus::AwaitingSnapshot => match q {
-            None => Shown { scene: s, at },
-            Some(snapshot) => client_load::load_snapshot(
-                s,
-                sides::old_side(s.worlds),
-                snapshot.stamp,
-                snapshot.handle,
-                tape,
-                at,
-            ),
-        },
-        ReconciliationStatus::Blending(_) => Shown {
-            scene: blend_on(s, progress),
-            at,
-        },
+        ReconciliationStatus::AwaitingSnapshot => {
+            let side = scene.worlds.old_side();
+            load_queued(scene, q, side, tape, at)
+        }
+        ReconciliationStatus::Blending(_) => {
+            blend_on(scene, progress);
+            at
+        }
         ReconciliationStatus::Fastforwarding(h) => match h {
-            FastforwardingHealth::Healthy => Shown { scene: s, at },
-            FastforwardingHealth::Obsolete => match q {
-                None => Shown { scene: s, at },
-                Some(snapshot) => client_load::load_snapshot(
-                    s,
-                    sides::new_side(s.worlds),
-                    snapshot.stamp,
-                    snapshot.handle,
-                    tape,
-                    at,
-                ),
-            },
-            FastforwardingHealth::Overshot => reset_new(s, tape, at),
+            FastforwardingHealth::Healthy => at,
+            FastforwardingHealth::Obsolete => {
+                let side = scene.worlds.new_side();
+                load_queued(scene, q, side, tape, at)
+            }
+            FastforwardingHealth::Overshot => reset_new(scene, tape, at),
         },
-    }
-}
-
-// The world of a side steps.
-pub(crate) fn step_side(s: Scene, side: u32, tape: &mut [u32], at: usize) -> Shown
-    requires { at < 3000000000 }
-    ensures { Plays (stepped_side s side) tape.old at result tape.new }
-{
-    let r = simulation::step(sides::get_side(s.worlds, side), side, tape, at);
-    let l = ledgers::count(sides::get_ledger(s, side), r.applied, r.leftout);
-    let world = r.world;
-    Shown {
-        scene: put_back(s, side, world, l, s.steps),
-        at: r.at,
     }
 }
 
@@ -155,101 +138,34 @@ pub(crate) fn has_caught_up(new: Timestamp, old: Timestamp) -> bool
     new.cmp(old).is_ge()
 }
 
-// The scene with a world and its ledger at a side, and another count of steps.
-pub(crate) fn put_back(s: Scene, side: u32, world: Simulation, l: Ledger, steps: u32) -> Scene
-    ensures { result ≡ put_back s side world l steps }
-{
-    let w = s.worlds;
-    let kept = w.base;
-    let snapshots = w.snapshots;
-    let published = w.published;
-    if side == 0 {
-        let right = w.right;
-        let other = s.right;
-        return Scene {
-            worlds: ClientWorldSimulations {
-                left: world,
-                right,
-                new: w.new,
-                base: kept,
-                snapshots,
-                weight: w.weight,
-                published,
-            },
-            left: l,
-            right: other,
-            steps,
-        };
-    }
-    let left = w.left;
-    let other = s.left;
-    Scene {
-        worlds: ClientWorldSimulations {
-            left,
-            right: world,
-            new: w.new,
-            base: kept,
-            snapshots,
-            weight: w.weight,
-            published,
-        },
-        left: other,
-        right: l,
-        steps,
-    }
-}
-
-// The new world steps until it has reached the old one's stamp, m times at most. It steps by itself and is put back at the end, so that a
-// step copies one world and not both. Where its buffer waits only its stamp moves, in place, so that such a step copies no world.
-pub(crate) fn catch_up(s: Scene, m: u32, tape: &mut [u32], at: usize) -> Shown
+// The new world steps until it has reached the old one's stamp, m times at most. Gives the next place on the tape.
+pub(crate) fn catch_up(scene: &mut Scene, m: u32, tape: &mut [u32], at: usize) -> usize
     requires { (at < 2500000000) × (m ≤ most_steps) }
-    ensures { Plays (caught_of m (old_stamp_of s.worlds) s) tape.old at result tape.new }
+    ensures plays { Plays (caught_of m (old_stamp_of scene.old.worlds) scene.old) tape.old at scene.new result tape.new }
+    ensures few { result ≤ at + m * 65 }
 {
-    let old = sides::last_completed_timestamp(s.worlds);
-    let side = sides::new_side(s.worlds);
-    let mut t = sides::get_side(s.worlds, side);
-    let mut l = sides::get_ledger(s, side);
-    let mut steps = s.steps;
-    let mut p = at;
-    let mut k: u32 = 0;
-    while k < m {
-        let stamp = sides::stamp_of(t);
-        if has_caught_up(stamp, old) {
-            return Shown {
-                scene: put_back(s, side, t, l, steps),
-                at: p,
-            };
+    let old = scene.worlds.last_completed_timestamp();
+    let mut next = at;
+    for _ in 0..m {
+        if has_caught_up(scene.worlds.new_timestamp(), old) {
+            return next;
         }
-        steps = std::num::wrapping_add_u32(steps, 1);
-        k += 1;
-        let next = stamp.add(1);
-        if command::waits(t.commands, next) {
-            let mut b = t.commands;
-            b.timestamp = next;
-            t.commands = b;
-            l = ledgers::count(l, 0, 0);
-            p = tape::put(tape, p, tape::step_word(side));
-        } else {
-            let r = simulation::step(t, side, tape, p);
-            let u = r.world;
-            t = u;
-            l = ledgers::count(l, r.applied, r.leftout);
-            p = r.at;
-        }
+        let side = scene.worlds.new_side();
+        next = scene.step_side(side, tape, next);
+        scene.steps = scene.steps.wrapping_add(1);
     }
-    Shown {
-        scene: put_back(s, side, t, l, steps),
-        at: p,
-    }
+    next
 }
 
-// The old world steps, and then the new one catches up.
-pub(crate) fn simulate_next_frame(s: Scene, m: u32, tape: &mut [u32], at: usize) -> Shown
+// The old world steps, and then the new one catches up. Gives the next place on the tape.
+pub(crate) fn simulate_next_frame(scene: &mut Scene, m: u32, tape: &mut [u32], at: usize) -> usize
     requires { (at < 2100000000) × (m ≤ most_steps) }
-    ensures { Plays (simulated_of m s) tape.old at result tape.new }
+    ensures plays { Plays (simulated_of m scene.old) tape.old at scene.new result tape.new }
+    ensures few { result ≤ at + 65 + m * 65 }
 {
-    let a = step_side(s, sides::old_side(s.worlds), tape, at);
-    catch_up(a.scene, m, tape, a.at)
+    let side = scene.worlds.old_side();
+    let next = scene.step_side(side, tape, at);
+    catch_up(scene, m, tape, next)
 }
 
 // Whether a frame of this status, that loads q, publishes by the weight and not the old world.
@@ -268,26 +184,25 @@ pub fn is_blended(t: ReconciliationStatus, q: Option<QueuedSnapshot>) -> bool
 }
 
 // The state that the frame publishes: by the weight, or the old world.
-pub(crate) fn publish_state(s: Scene, blended: bool, tape: &mut [u32], at: usize) -> Stated
+pub(crate) fn publish_state(scene: &Scene, blended: bool, tape: &mut [u32], at: usize) -> Stated
     requires { at < 3000000000 }
-    ensures { States (published_by blended s) s tape.old at result tape.new }
+    ensures { States (published_by blended scene.now) scene.now tape.old at result tape.new }
 {
     if blended {
-        return client_publish::publish_blended_state(s, tape, at);
+        return client_publish::publish_blended_state(scene, tape, at);
     }
-    client_publish::publish_old_state(s, tape, at)
+    client_publish::publish_old_state(scene, tape, at)
 }
 
-// What the frame publishes. The scene is built once, from the state.
-pub(crate) fn publish(s: Scene, blended: bool, tape: &mut [u32], at: usize) -> Shown
+// What the frame publishes. Gives the next place on the tape.
+pub(crate) fn publish(scene: &mut Scene, blended: bool, tape: &mut [u32], at: usize) -> usize
     requires { at < 3000000000 }
-    ensures { Plays (published_by blended s) tape.old at result tape.new }
+    ensures plays { Plays (published_by blended scene.old) tape.old at scene.new result tape.new }
+    ensures few { result ≤ at + 4 }
 {
-    let r = publish_state(s, blended, tape, at);
-    Shown {
-        scene: client_publish::with_state(s, r.state),
-        at: r.at,
-    }
+    let stated = publish_state(scene, blended, tape, at);
+    client_publish::with_state(scene, stated.state);
+    stated.at
 }
 
 // Whether a status is Fastforwarding with Obsolete.
@@ -315,53 +230,58 @@ pub fn loads_too_far(q: Option<QueuedSnapshot>, old: Timestamp) -> bool
     })
 }
 
-// Whether the Rust stops in a frame of this status that loads q and takes the worlds from w to e: refusal 26.
+// Whether the Rust stops in a frame of this status that loads q, begins with the stamps `old` and `new` of the worlds and leaves the worlds
+// `after`: refusal 26.
+#[tactic(auto, unfolding(crate::specs::Inner::stops_by))]
 pub(crate) fn stops(
     t: ReconciliationStatus,
     q: Option<QueuedSnapshot>,
-    w: ClientWorldSimulations,
-    e: ClientWorldSimulations,
+    old: Timestamp,
+    new: Timestamp,
+    after: &ClientWorldSimulations,
 ) -> bool
-    ensures { result ≡ stops_of t q w e }
+    ensures { result ≡ stops_by t q old new after.now }
 {
     match t {
         ReconciliationStatus::AwaitingSnapshot => false,
         ReconciliationStatus::Blending(_) => false,
         ReconciliationStatus::Fastforwarding(h) => match h {
             FastforwardingHealth::Healthy => {
-                let old = sides::last_completed_timestamp(w);
-                if old.sub(sides::new_timestamp(w)).0 == 32768 {
+                if old.sub(new).0 == 32768 {
                     return true;
                 }
-                is_obsolete(status::infer_current_reconciliation_status(e))
+                is_obsolete(after.infer_current_reconciliation_status())
             }
-            FastforwardingHealth::Obsolete => loads_too_far(q, sides::last_completed_timestamp(w)),
+            FastforwardingHealth::Obsolete => loads_too_far(q, old),
             FastforwardingHealth::Overshot => false,
         },
     }
 }
 
-// The worlds' steps and what is published.
-pub(crate) fn show(s: Scene, m: u32, blended: bool, tape: &mut [u32], at: usize) -> Shown
+// The worlds' steps and what is published. Gives the next place on the tape.
+pub(crate) fn show(scene: &mut Scene, m: u32, blended: bool, tape: &mut [u32], at: usize) -> usize
     requires { (at < 2100000000) × (m ≤ most_steps) }
-    ensures { Plays (shown_of m blended s) tape.old at result tape.new }
+    ensures plays { Plays (shown_of m blended scene.old) tape.old at scene.new result tape.new }
+    ensures few { result ≤ at + 69 + m * 65 }
 {
-    let a = simulate_next_frame(s, m, tape, at);
-    publish(a.scene, blended, tape, a.at)
+    let next = simulate_next_frame(scene, m, tape, at);
+    publish(scene, blended, tape, next)
 }
 
 // One frame.
-pub fn step(s: Scene, rules: Rules, tape: &mut [u32], at: usize) -> Framed
+pub fn step(scene: &mut Scene, rules: Rules, tape: &mut [u32], at: usize) -> Framed
     requires { (at < 2000000000) × (rules.m ≤ most_steps) }
-    ensures { Frames (frame_of rules s) (frame_stops rules s) tape.old at result tape.new }
+    ensures frames { Frames (frame_of rules scene.old) (frame_stops rules scene.old) tape.old at scene.new result tape.new }
+    ensures few { result.at ≤ at + 5000 }
 {
-    let t = status::infer_current_reconciliation_status(s.worlds);
-    let q = loads(t, s.worlds.snapshots.queued);
-    let a = open(s, t, q, rules.progress, tape, at);
-    let b = show(a.scene, rules.m, is_blended(t, q), tape, a.at);
+    let t = scene.worlds.infer_current_reconciliation_status();
+    let q = loads(t, scene.worlds.snapshots.queued);
+    let old = scene.worlds.last_completed_timestamp();
+    let new = scene.worlds.new_timestamp();
+    let opened = open(scene, t, q, rules.progress, tape, at);
+    let shown = show(scene, rules.m, is_blended(t, q), tape, opened);
     Framed {
-        scene: b.scene,
-        at: b.at,
-        stops: stops(t, q, s.worlds, b.scene.worlds),
+        at: shown,
+        stops: stops(t, q, old, new, &scene.worlds),
     }
 }

@@ -1,7 +1,7 @@
 // A snapshot is loaded into the worlds: `load_snapshot` of src/client.rs of crystalorb.
 #![tactic(auto)]
 
-ghost use Rattle.std.specs.Prelude.{◌≡◌, ◌<◌};
+ghost use Rattle.std.specs.Prelude.{◌≡◌, ◌+◌, ◌<◌};
 ghost use Rattle.client.specs.Sides.{Plays};
 ghost use Rattle.client_load.specs.Load.{readied_with, loaded_of};
 
@@ -19,7 +19,8 @@ pub fn load_snapshot(
     at: usize,
 ) -> usize
     requires { at < 3000000000 }
-    ensures { Plays (loaded_of scene.old side stamp handle) tape.old at scene.new result tape.new }
+    ensures plays { Plays (loaded_of scene.old side stamp handle) tape.old at scene.new result tape.new }
+    ensures one { result ≡ at + 1 }
 {
     scene.worlds.base.drain_up_to(stamp);
     scene.worlds.snapshots.queued = None;

@@ -2,11 +2,13 @@
 -- publishes. Assumes nothing.
 use mathlib.Core.Bool.{Bool, true, false, cond}
 use mathlib.Core.List.{List, [], ◌∷◌}
-use Prim.Native.Nat.{ℕ}
+use Prim.Native.Nat.{ℕ, ◌≤◌}
+use native.Mathlib.Omega.{arith}
+use lib.ListN.{length}
 use lib.IntN.{pos}
 use lib.Ieee.{Float, fin, eq}
 use Rattle.timestamp.specs.declared.Timestamp.{Timestamp}
-use Rattle.tape.specs.Words.{publish_word, mix_words, none_word}
+use Rattle.tape.specs.Words.{publish_word, mix_words, weight_words, none_word}
 use Rattle.std.specs.Prelude.{Option, Some, None}
 use Rattle.client.specs.declared.Scene.{Scene}
 use Rattle.client.specs.Sides.{new_side_of, old_side_of, world_of, world_stamp_of, old_stamp_of, Played}
@@ -23,6 +25,13 @@ abbrev pub told : Telling → List ℕ
 told of_none = none_word ∷ []
 told (of_side side) = publish_word side ∷ []
 told (of_mix weight) = mix_words weight
+
+-- at most four of them
+pub told_few : (w : Telling) → length (told w) ≤ 4
+unfolding mix_words weight_words
+told_few of_none = omega arith
+told_few (of_side side) = omega arith
+told_few (of_mix t) = omega arith
 
 -- a state is published from a scene, and told
 abbrev pub publishes : Scene → Option Timestamp → Telling → Played

@@ -3,4 +3,4 @@ use Rattle.client_frame.proofs.Framing.{blended_is}
 use Rattle.client_frame.proofs.blend_on.Goals as goal
 
 pub returns : goal.returns
-returns c = blended_is _ _ c.clamp.ensures
+returns c = blended_is c.args.scene.now c.args.progress c.clamp-scene.ensures

@@ -1,11 +1,6 @@
--- `catch_up` meets its contract. The invariant: what is left gives what the whole gives, the new world put back. The measure is how many steps are left.
--- Assumes nothing.
-use Rattle.std.proofs.Common.{◌-◌}
-use Rattle.client_frame.proofs.Catching.{Apart}
+-- `catch_up` meets its contract. The invariant: what is left gives what the whole gives. Assumes nothing.
+use Rattle.client_frame.proofs.Catching.{Catching}
 use Rattle.client_frame.proofs.catch_up.Given as goal
 
-abbrev pub invariant-loop-k : goal.invariant-loop-k
-invariant-loop-k l = Apart l.m l.old l.s l.initial.tape l.at l.side l.tape l.t l.l l.steps l.p l.k
-
-abbrev pub decreases-loop-k : goal.decreases-loop-k
-decreases-loop-k l = l.m - l.k
+abbrev pub invariant-loop : goal.invariant-loop
+invariant-loop l = Catching l.m l.old l.initial.scene l.initial.tape l.at l.tape l.scene l.next l.counter

@@ -1,6 +1,7 @@
--- `publish` meets its contract: the scene with the state that is published. Assumes nothing.
-use Rattle.client_frame.proofs.Framing.{stated_plays}
+-- `publish` meets its contract: four words at most. Assumes nothing.
+use Rattle.std.proofs.Common.{arith}
+use Rattle.client_frame.proofs.Framing.{publishes_few}
 use Rattle.client_frame.proofs.publish.Goals as goal
 
-pub returns : goal.returns
-returns c = stated_plays _ c.publish_state-r.ensures c.with_state.ensures
+pub returns-clause-few : goal.returns-clause-few
+returns-clause-few c = omega (arith, c.publish_state-stated.ensures.puts.at, publishes_few c.args.blended c.args.scene.now)
