@@ -12,7 +12,7 @@ use Rattle.tape.proofs.Writing.{puts_none, puts_as}
 use Rattle.settings.specs.declared.Settings.{Settings}
 use Rattle.settings.specs.Settings.{lag_frame_count_of}
 use Rattle.settings.specs.Tweening.{shaped_of}
-use Rattle.client.specs.declared.Shown.{Shown}
+use Rattle.client.specs.declared.Scene.{Scene}
 use Rattle.client.specs.declared.ClientWorldSimulations.{ClientWorldSimulations}
 use Rattle.client.specs.Sides.{old_stamp_of, and_then, Plays}
 use Rattle.client_skip.specs.Skip.{skipped_of}
@@ -61,14 +61,14 @@ not_skipped a server c h = ap (λ (b : Bool). cond b (skipped (run_by a []) serv
 
 -- a skip, by the calls that make it
 pub skip_made : (a : Advanced) (server : Float) (c : Settings) {was last : List ℕ} {target from difference overshoot : Float} {corrected : Timestamp}
-    {r : Shown}
+    {u : Scene} {next : ℕ}
     → skips_of (old_stamp_of a.scene.worlds) a.overshoot server c ≡ true
     → target ≡ from_seconds server c.timestep → corrected.0 ≡ bits_of (ceil_stamp_of target) → from ≡ float_of corrected.0
     → difference ≡ float_difference_of from target → overshoot ≡ as_seconds difference c.timestep
-    → Plays (skipped_of a.scene corrected) was a.at r last
-    → Skips a server c was (record { scene = r.scene; overshoot = overshoot; frames = a.frames; at = r.at; stop = a.stop }) last
+    → Plays (skipped_of a.scene corrected) was a.at u next last
+    → Skips a server c was (record { scene = u; overshoot = overshoot; frames = a.frames; at = next; stop = a.stop }) last
 unfolding skipped and_then corrected_of corrected_overshoot
-skip_made a server c {was} {last} {target} {from} {difference} {overshoot} {corrected} {r} h ht hc hf hd ho p =
+skip_made a server c {was} {last} {target} {from} {difference} {overshoot} {corrected} h ht hc hf hd ho p =
     let e : corrected ≡ corrected_of server c.timestep = ap (λ (n : ℕ). record { 0 = n }) (hc ∙ ap (λ (x : Float). bits_of (ceil_stamp_of x)) ht) in
     by_run a server c (skipped (run_by a []) server c) (is_skipped a server c h)
     (p.scene ∙ ap (λ (t : Timestamp). (skipped_of a.scene t).scene) e)

@@ -3,4 +3,3 @@ pub mod Keeping
 pub mod Ending
 pub mod Running
 pub mod Updating
-pub mod Levels

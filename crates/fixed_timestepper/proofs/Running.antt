@@ -11,7 +11,7 @@ use Rattle.tape.proofs.Writing.{puts_none, puts_then, puts_as, puts-length}
 use Rattle.settings.specs.declared.Settings.{Settings}
 use Rattle.settings.specs.Settings.{blend_progress_of}
 use Rattle.client.specs.declared.Scene.{Scene}
-use Rattle.client.specs.declared.Framed.{Framed}
+use Rattle.client_frame.specs.declared.Framed.{Framed}
 use Rattle.client_frame.specs.declared.Rules.{Rules}
 use Rattle.client_frame.specs.Frame.{frame_of, frame_stops, Frames}
 use Rattle.client_frame.proofs.Bounds.{Few, frame_short}
@@ -97,9 +97,9 @@ pub goes_at : (k : ℕ) (c : Settings) (s : Scene) (o : Float) → lt o zero64 �
 unfolding run_of
 goes_at k c s o h = ap (λ (b : Bool). while_below b s o (onward k c s o)) h
 
-module _ (c : Settings) (from : Scene) (start : Float) {was tape mid : List ℕ} {s : Scene} {o : Float} {p n : ℕ} {f : Framed}
+module _ (c : Settings) (from : Scene) (start : Float) {was tape mid : List ℕ} {s u : Scene} {o : Float} {p n : ℕ} {f : Framed}
     (r : Running c from start was tape s o p n) (below : lt o zero64 ≡ true) (few : n < 65) (small : c.m ≤ 64)
-    (h : Frames (frame c s) (frame_stops (rules_of c) s) tape p f mid) where
+    (h : Frames (frame c s) (frame_stops (rules_of c) s) tape p u f mid) where
   -- what is left after the frame
   after : Bool → Run
   after b = goes_on b (frame c s).scene (add binary64 o c.timestep) (run_of (65 - (n + 1)) c (frame c s).scene (add binary64 o c.timestep))
@@ -130,7 +130,7 @@ module _ (c : Settings) (from : Scene) (start : Float) {was tape mid : List ℕ}
 
   -- a frame that the Rust stops in
   pub running_stops : {x : Float} → f.stops ≡ true → x ≡ add binary64 o c.timestep
-      → Advances (run_of 65 c from start) was (record { scene = f.scene; overshoot = x; frames = n + 1; at = f.at; stop = StatusStops }) mid
+      → Advances (run_of 65 c from start) was (record { scene = u; overshoot = x; frames = n + 1; at = f.at; stop = StatusStops }) mid
   unfolding after
   running_stops hs hx =
       let j = joined (ended StatusStops (frame c s).scene (add binary64 o c.timestep))
@@ -144,12 +144,12 @@ module _ (c : Settings) (from : Scene) (start : Float) {was tape mid : List ℕ}
       }
 
   -- a frame after which the run goes on
-  pub running_on : {x : Float} → f.stops ≡ false → x ≡ add binary64 o c.timestep → Running c from start was mid f.scene x f.at (n + 1)
+  pub running_on : {x : Float} → f.stops ≡ false → x ≡ add binary64 o c.timestep → Running c from start was mid u x f.at (n + 1)
   unfolding after
   running_on {x} hs hx =
       let q = run_of (65 - (n + 1)) c (frame c s).scene (add binary64 o c.timestep) in
       let j = joined q (left_is ∙ ap (λ (b : Bool). framed (rules_of c) s (after b)) (sym h.stopped ∙ hs)) in
-      let e : run_of (65 - (n + 1)) c f.scene x ≡ q = λ i. run_of (65 - (n + 1)) c (h.scene i) (hx i) in
+      let e : run_of (65 - (n + 1)) c u x ≡ q = λ i. run_of (65 - (n + 1)) c (h.scene i) (hx i) in
       record {
         bound = omega arith;
         held = subst (λ (y : Scene). Few y.worlds) (sym h.scene) (frame_short (rules_of c) s r.held).few;
@@ -171,9 +171,9 @@ pub rules_as : (c : Settings) {p : Float} → p ≡ blend_progress_of c → ◌�
 rules_as c e = λ i. record { m = c.m; progress = e i }
 
 -- a frame by them
-pub framed_as : (c : Settings) (s : Scene) {rules : Rules} {was last : List ℕ} {place : ℕ} {f : Framed} → rules ≡ rules_of c
-    → Frames (frame_of rules s) (frame_stops rules s) was place f last → Frames (frame c s) (frame_stops (rules_of c) s) was place f last
-framed_as c s {rules} {was} {last} {place} {f} e h = subst (λ (r : Rules). Frames (frame_of r s) (frame_stops r s) was place f last) e h
+pub framed_as : (c : Settings) (s : Scene) {rules : Rules} {was last : List ℕ} {place : ℕ} {u : Scene} {f : Framed} → rules ≡ rules_of c
+    → Frames (frame_of rules s) (frame_stops rules s) was place u f last → Frames (frame c s) (frame_stops (rules_of c) s) was place u f last
+framed_as c s {rules} {was} {last} {place} {u} {f} e h = subst (λ (r : Rules). Frames (frame_of r s) (frame_stops r s) was place u f last) e h
 
 -- ---- how many words a run puts
 

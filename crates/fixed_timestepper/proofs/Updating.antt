@@ -3,21 +3,18 @@ use mathlib.Core.Path.{◌≡◌, refl, ap, sym, ◌∙◌, subst}
 use mathlib.Core.Bool.{Bool, true, false, cond}
 use mathlib.Core.List.{List, [], ◌++◌, append-nil}
 use Prim.Native.Nat.{ℕ}
-use lib.Ieee.{Float, binary64, add, sub}
+use lib.Ieee.{Float, binary64, sub}
 use Rattle.timestamp.specs.declared.Timestamp.{Timestamp}
 use Rattle.tape.specs.Tape.{Puts}
 use Rattle.tape.proofs.Writing.{puts_then, puts_as}
 use Rattle.settings.specs.declared.Settings.{Settings}
 use Rattle.client.specs.declared.Scene.{Scene}
 use Rattle.client.specs.Sides.{old_stamp_of, and_then}
-use Rattle.simulation.specs.World.{next_stamp}
-use Rattle.client_level.specs.Level.{is_level}
 use Rattle.refusals.specs.declared.Stop.{Stop}
 use Rattle.refusals.specs.declared.Stop.TheVariants.{Done}
 use Rattle.fixed_timestepper.specs.declared.Advanced.{Advanced}
 use Rattle.fixed_timestepper.specs.TimeKeeper.{Run, run_of, compensated_of, skips_of, skipped, maybe_skipped, advanced_of, Advances, skipped_by, unended_of}
-use Rattle.fixed_timestepper.specs.Inner.{is_single, run_by, Skips}
-use Rattle.fixed_timestepper.proofs.Levels.{level_done, level_stays}
+use Rattle.fixed_timestepper.specs.Inner.{run_by, Skips}
 
 -- ---- the skip turns on the scene and the overshoot of a run alone
 
@@ -96,9 +93,3 @@ module _ (c : Settings) (s : Scene) (o delta server : Float) {start d : Float} {
   pub update_stopped : {a : Advanced} {was mid : List ℕ} (x : Stop) → Advances (run_of 65 c s start) was a mid → a.stop ≡ x
       → ((r : Run) → skipped_by x r server c ≡ r) → Advances (unended_of c s o delta server) was a mid
   update_stopped {a} {was} {mid} x h e k = update_by_lem x (sym h.stop ∙ e) (subst (λ (y : Run). Advances y was a mid) (sym (k (run_of 65 c s start))) h)
-
-  -- one level frame, and no skip after it
-  pub update_level : {a : Advanced} {was last : List ℕ} → is_single start c.timestep ≡ true → is_level s.worlds c.m ≡ true
-      → skips_of (next_stamp stamp) (add binary64 start c.timestep) server c ≡ false
-      → Advances (run_of 65 c s start) was a last → Advances (unended_of c s o delta server) was a last
-  update_level single level k h = update_done h (level_done c s start single level h) (level_stays c s start single level hs k h)

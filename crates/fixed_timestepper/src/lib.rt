@@ -7,11 +7,10 @@ ghost use Rattle.fixed_timestepper.specs.TimeKeeper.{at_least_zero, logical_of, 
 ghost use Rattle.fixed_timestepper.specs.TimeKeeper.{Advances};
 ghost use Rattle.fixed_timestepper.specs.TimeKeeper.{ended_of, unended_of};
 ghost use Rattle.timestamp.specs.Floats.{abs_of};
-ghost use Rattle.fixed_timestepper.specs.Inner.{is_single, level_run, Skips};
-ghost use Rattle.client_level.specs.Level.{is_level};
+ghost use Rattle.fixed_timestepper.specs.Inner.{Skips};
 ghost use Rattle.refusals.specs.Limits.{most_frames, most_steps};
 
-use client::{ClientWorldSimulations, Scene, sides};
+use client::{ClientWorldSimulations, Scene};
 use client_frame::Rules;
 use refusals::Stop;
 use settings::Settings;
@@ -140,9 +139,7 @@ pub(crate) fn advance(
                 stop: Stop::TooManyFrames,
             };
         }
-        let f = client_frame::step(s, rules, tape, p);
-        let next = f.scene;
-        s = next;
+        let f = client_frame::step(&mut s, rules, tape, p);
         p = f.at;
         n += 1;
         o = o + settings.timestep;
@@ -165,67 +162,11 @@ pub(crate) fn advance(
     }
 }
 
-// Whether an overshoot asks for one frame and no more.
-pub(crate) fn is_single(overshoot: f64, timestep: f64) -> bool
-    ensures { result ≡ is_single overshoot timestep }
-{
-    if overshoot < 0.0 {
-        if overshoot + timestep < 0.0 {
-            return false;
-        }
-        return true;
-    }
-    false
-}
-
 // Whether there is a skip: the drift is at or beyond the threshold.
 pub fn skips(stamp: Timestamp, overshoot: f64, server: f64, settings: Settings) -> bool
     ensures { result ≡ skips_of stamp overshoot server settings }
 {
     abs(timestamp_drift_seconds(stamp, overshoot, settings.timestep, server)) >= settings.skip
-}
-
-// Whether an update from a stamp and an overshoot plays one level frame and does not skip: nothing but numbers of the worlds changes in it.
-pub(crate) fn is_level(
-    worlds: ClientWorldSimulations,
-    stamp: Timestamp,
-    overshoot: f64,
-    server: f64,
-    settings: Settings,
-) -> bool
-    ensures { result ≡ level_run worlds stamp overshoot server settings }
-{
-    let t = settings.timestep;
-    if !is_single(overshoot, t) {
-        return false;
-    }
-    if !client_level::is_level(worlds, settings.m) {
-        return false;
-    }
-    !skips(stamp.add(1), overshoot + t, server, settings)
-}
-
-// The one frame of such an update.
-pub(crate) fn level_run(
-    scene: Scene,
-    overshoot: f64,
-    settings: Settings,
-    tape: &mut [u32],
-) -> Advanced
-    requires { (is_single overshoot settings.timestep ≡ true) × (is_level scene.worlds settings.m ≡ true) }
-    ensures { Advances (run_of most_frames settings scene overshoot) tape.old result tape.new }
-{
-    let rules = frame_rules(settings);
-    let f = client_level::level_frame(scene, rules, tape, 0);
-    let after = f.scene;
-    let done = Stop::Done;
-    Advanced {
-        scene: after,
-        overshoot: overshoot + settings.timestep,
-        frames: 1,
-        at: f.at,
-        stop: done,
-    }
 }
 
 // The skip where the drift is at or beyond the threshold: to the server's frame, rounded up.
@@ -234,23 +175,20 @@ pub(crate) fn timeskip(a: Advanced, server: f64, settings: Settings, tape: &mut 
     ensures { Skips a server settings tape.old result tape.new }
 {
     let t = settings.timestep;
-    let scene = a.scene;
-    let stamp = sides::last_completed_timestamp(scene.worlds);
+    let stamp = a.scene.worlds.last_completed_timestamp();
     if skips(stamp, a.overshoot, server, settings) {
         let target = FloatTimestamp::from_seconds(server, t);
         let corrected = target.ceil();
         let overshoot = FloatTimestamp::from_timestamp(corrected)
             .sub(target)
             .as_seconds(t);
-        let r = client_skip::reset_last_completed_timestamp(scene, corrected, tape, a.at);
-        let after = r.scene;
-        let stop = a.stop;
+        let mut scene = a.scene;
+        let at = client_skip::reset_last_completed_timestamp(&mut scene, corrected, tape, a.at);
         return Advanced {
-            scene: after,
+            scene,
             overshoot,
-            frames: a.frames,
-            at: r.at,
-            stop,
+            at,
+            ..a
         };
     }
     a
@@ -265,12 +203,13 @@ pub fn ended(
     ensures { result ≡ ended_of settings worlds overshoot }
 {
     let w = client_publish::ending::tween_weight(overshoot, settings.timestep);
-    let method = settings.method;
+    let mut ended = worlds;
     client_publish::ending::post_update(
-        worlds,
-        method.shape_interpolation_t(w),
+        &mut ended,
+        settings.method.shape_interpolation_t(w),
         settings.lag_compensation_frame_count(),
-    )
+    );
+    ended
 }
 
 // The frames and the skip of an update, by the delta and the server's time. What it ends with is left to the caller, who first looks at
@@ -286,12 +225,9 @@ pub fn update(
     requires { settings.m ≤ most_steps }
     ensures { Advances (unended_of settings scene overshoot delta server) tape.old result tape.new }
 {
-    let stamp = sides::last_completed_timestamp(scene.worlds);
+    let stamp = scene.worlds.last_completed_timestamp();
     let c = compensated_delta(stamp, overshoot, delta, server, settings);
     let start = overshoot - c;
-    if is_level(scene.worlds, stamp, start, server, settings) {
-        return level_run(scene, start, settings, tape);
-    }
     let a = advance(scene, start, settings, tape);
     let stop = a.stop;
     match stop {

@@ -33,7 +33,7 @@ pub returns-then-f : goal.returns-then-f
 unfolding of_bits
 returns-then-f c =
     running_stops _ _ _ c.loop-o.invariant c.loop-o-test.true (few_left c.loop-o.invariant.bound c.if-n-eq-MOST_FRAMES.false) c.requires
-    (framed_as c.args.settings _ c.frame_rules-rules.ensures c.step-f.ensures) c.if-f.true refl
+    (framed_as c.args.settings _ c.frame_rules-rules.ensures c.step-f.ensures.frames) c.if-f.true refl
 
 pub loop-o-smaller : goal.loop-o-smaller
 loop-o-smaller c =
@@ -43,7 +43,7 @@ pub loop-o-preserved : goal.loop-o-preserved
 unfolding of_bits
 loop-o-preserved c =
     running_on _ _ _ c.loop-o.invariant c.loop-o-test.true (few_left c.loop-o.invariant.bound c.if-n-eq-MOST_FRAMES.false) c.requires
-    (framed_as c.args.settings _ c.frame_rules-rules.ensures c.step-f.ensures) c.if-f.false refl
+    (framed_as c.args.settings _ c.frame_rules-rules.ensures c.step-f.ensures.frames) c.if-f.false refl
 
 pub shape_of-tape : goal.shape_of-tape
 shape_of-tape c = c.loop-o.invariant.len

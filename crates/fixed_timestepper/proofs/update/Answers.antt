@@ -6,20 +6,8 @@ use Rattle.command.proofs.Lists.{mapped_length}
 use Rattle.client_frame.proofs.Bounds.{Few, few_slots}
 use Rattle.refusals.specs.declared.Stop.TheVariants.{TooManyFrames, StatusStops}
 use Rattle.fixed_timestepper.proofs.Running.{run_few}
-use Rattle.fixed_timestepper.proofs.Updating.{update_done, update_stopped, update_level}
-use Rattle.fixed_timestepper.proofs.Levels.{level_run_parts}
+use Rattle.fixed_timestepper.proofs.Updating.{update_done, update_stopped}
 use Rattle.fixed_timestepper.proofs.update.Goals as goal
-
-pub level_run-requires : goal.level_run-requires
-level_run-requires c =
-    let k = level_run_parts _ _ _ _ _ c.is_level.ensures c.if-is_level.true in
-    (k.0, k.1)
-
-pub returns-then-is_level : goal.returns-then-is_level
-returns-then-is_level c =
-    let k = level_run_parts _ _ _ _ _ c.is_level.ensures c.if-is_level.true in
-    update_level c.args.settings c.args.scene c.args.overshoot c.args.delta c.args.server
-    c.last_completed_timestamp-stamp.ensures c.compensated_delta-c.ensures refl k.0 k.1 k.2 c.level_run.ensures
 
 pub advance-a-requires : goal.advance-a-requires
 advance-a-requires c = c.requires
