@@ -12,12 +12,11 @@ slots : (c : Start) → length c.args.b.entries ≡ 64
 slots c = search rules
 
 pub returns-then-count-eq0 : goal.returns-then-count-eq0
-returns-then-count-eq0 c = rw c.if-count-eq0.true (sifted_none _ _ _ _ (rw c.entries_of.ensures.held at c.count_outside-count.ensures) c.if-count-eq0.true)
+returns-then-count-eq0 c = rw c.if-count-eq0.true (sifted_none _ _ _ _ c.count_outside-count.ensures c.if-count-eq0.true)
 
 pub extend-requires : goal.extend-requires
-extend-requires c = room_kept _ (slots c.before.before.before.before.before.before) c.new.ensures
+extend-requires c = room_kept _ (slots c.before.before.before.before) c.new.ensures
 
 pub returns : goal.returns
 returns c =
-    sifted_some _ _ _ _ (rw c.entries_of.ensures.held at c.count_outside-count.ensures) c.if-count-eq0.false
-    (laid_then [] _ _ c.new.ensures c.extend.ensures)
+    sifted_some _ _ _ _ c.count_outside-count.ensures c.if-count-eq0.false (laid_then [] _ _ c.new.ensures c.extend.ensures)

@@ -8,4 +8,4 @@ pub returns-then-buffer-eq0 : goal.returns-then-buffer-eq0
 returns-then-buffer-eq0 c = eq-eqb _ _ c.if-buffer-eq0.true ∙ waits_empty _ _ c.if-buffer-eq0.true
 
 pub returns-else-buffer-eq0 : goal.returns-else-buffer-eq0
-returns-else-buffer-eq0 c = waits_counted _ _ refl refl (rw c.entries_of.ensures.held at c.count_outside.ensures)
+returns-else-buffer-eq0 c = waits_counted _ _ refl refl c.count_outside.ensures

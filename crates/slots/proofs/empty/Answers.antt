@@ -1,5 +1,4 @@
 -- `empty` meets its contract: the slots stay as they are where nothing is held, and are blank else. Assumes nothing.
-use borrow.Author.Rules.{rules}
 use Rattle.slots.proofs.Leaving.{empty_none, empty_some}
 use Rattle.slots.proofs.empty.Goals as goal
 
