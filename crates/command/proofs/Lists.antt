@@ -34,12 +34,6 @@ module _ {A : Type 0} where
         count = simp length-append (omega arith);
       }
 
-  -- a count beyond the list's length is cut to it
-  pub take-length-take : (n : ℕ) (l : List A) → take (length (take n l)) l ≡ take n l
-  take-length-take zero l = refl
-  take-length-take (suc n) [] = refl
-  take-length-take (suc n) (x ∷ l) = ap (λ (r : List A). x ∷ r) (take-length-take n l)
-
   -- ---- filters
 
   pub filter-append : (p : A → Bool) (xs ys : List A) → filter_b p (xs ++ ys) ≡ filter_b p xs ++ filter_b p ys
