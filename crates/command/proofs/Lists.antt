@@ -6,10 +6,9 @@ use Prim.Native.Nat.{ℕ, zero, suc, ◌+◌, ◌≤◌, ◌<◌}
 use native.Mathlib.Numerals.{add-one, unary_clauses}
 use native.Mathlib.Omega.{arith}
 use native.Mathlib.Nat.{le_of_suc-le-suc, not-suc-le-zero}
-use lib.ListN.{length, take, drop, get_or, set, length-map, length-append, take-append-drop}
+use lib.ListN.{length, take, drop, get_or, set, length-map, length-append, length-take, take-append-drop}
 use lib.Seq.{take-suc, take-take}
 use Rattle.std.proofs.lemmas.List.{take_all}
-use Rattle.std.specs.List.{filter}
 use Rattle.command.specs.Lists.{filter_b, pad}
 
 module _ {A : Type 0} where
@@ -34,12 +33,6 @@ module _ {A : Type 0} where
             rw (l.slots, l.count) (pad_push n z ys y g);
         count = simp length-append (omega arith);
       }
-
-  -- a count beyond the list's length is cut to it
-  pub take-length-take : (n : ℕ) (l : List A) → take (length (take n l)) l ≡ take n l
-  take-length-take zero l = refl
-  take-length-take (suc n) [] = refl
-  take-length-take (suc n) (x ∷ l) = ap (λ (r : List A). x ∷ r) (take-length-take n l)
 
   -- ---- filters
 
@@ -68,14 +61,6 @@ module _ {A : Type 0} where
   pub filter_ext : (p q : A → Bool) → ((x : A) → p x ≡ q x) → (xs : List A) → filter_b p xs ≡ filter_b q xs
   filter_ext p q h [] = refl
   filter_ext p q h (x ∷ xs) = rw (h x, filter_ext p q h xs)
-
-  -- std's filter
-  filter_is : (p : A → Bool) (xs : List A) → filter p xs ≡ filter_b p xs
-  filter_is p [] = refl
-  filter_is p (x ∷ xs) = rw (filter_is p xs) refl
-
-  pub count_filter : (p : A → Bool) (xs : List A) {n : ℕ} → n ≡ length (filter p xs) → n ≡ length (filter_b p xs)
-  count_filter p xs e = e ∙ ap length (filter_is p xs)
 
   -- a test that all pass
   pub filter_all : (p : A → Bool) → ((x : A) → p x ≡ true) → (xs : List A) → filter_b p xs ≡ xs
@@ -153,6 +138,17 @@ module _ {A : Type 0} where
 
       pub sift_skip : p (get_or xs i d) ≡ false → Sifted ys p xs n z (i + 1) out k
       sift_skip e = record { laid = rw (filter-left p xs i d h e) s.laid; room = s.room }
+
+  -- what a loop has counted of those that pass p once it has passed i of xs
+  pub count_few : (p : A → Bool) (xs : List A) (i : ℕ) → length (filter_b p (take i xs)) ≤ i
+  count_few p xs i = omega (arith, filter_short p (take i xs), length-take i xs)
+
+  module _ (p : A → Bool) (xs : List A) (i : ℕ) (d : A) (h : i < length xs) {k : ℕ} (c : k ≡ length (filter_b p (take i xs))) where
+    pub count_one : p (get_or xs i d) ≡ true → k + 1 ≡ length (filter_b p (take (i + 1) xs))
+    count_one e = rw (filter_took p xs i d h e) (simp length-append (omega arith))
+
+    pub count_skip : p (get_or xs i d) ≡ false → k ≡ length (filter_b p (take (i + 1) xs))
+    count_skip e = rw (filter-left p xs i d h e) c
 
 -- what owning an array of structs tells, its length among it, is told of the list mapped
 pub mapped_length : {A B : Type 0} (f : A → B) (l : List A) (n : ℕ) → length (map f l) ≡ n → length l ≡ n

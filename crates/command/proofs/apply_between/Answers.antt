@@ -16,7 +16,9 @@ unfolding command_words
 loop-e-init c = puts_none _ _
 
 pub put-next-requires : goal.put-next-requires
-put-next-requires c = omega (arith, c.requires.0, c.requires.1, apply_few c.args.side (rank_within c.args.m c.args.lo c.args.hi) c.args.entries.now c.loop-e.e-index c.loop-e.invariant)
+put-next-requires c =
+    let a = c.args in
+    omega (arith, c.requires.0, c.requires.1, apply_few a.side (rank_within a.m a.lo a.hi) a.entries.now c.loop-e.e-index c.loop-e.invariant)
 
 pub loop-e-preserved : goal.loop-e-preserved
 loop-e-preserved c =

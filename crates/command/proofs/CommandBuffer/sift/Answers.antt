@@ -11,9 +11,9 @@ extend-requires c = room_kept _ (search rules) c.new.ensures
 
 pub returns-then-count-gt0 : goal.returns-then-count-gt0
 returns-then-count-gt0 c =
-    sifted_some _ _ _ _ (rw c.held.ensures.held at c.count_outside-count.ensures) (λ e. omega (arith, c.if-count-gt0.true, e))
+    sifted_some _ _ _ _ c.count_outside-count.ensures (λ e. omega (arith, c.if-count-gt0.true, e))
     (laid_then [] _ _ c.new.ensures c.extend.ensures)
 
 pub returns-else-count-gt0 : goal.returns-else-count-gt0
 returns-else-count-gt0 c =
-    sifted_none _ _ _ _ (rw c.held.ensures.held at c.count_outside-count.ensures) (omega (arith, c.if-count-gt0.false))
+    sifted_none _ _ _ _ c.count_outside-count.ensures (omega (arith, c.if-count-gt0.false))

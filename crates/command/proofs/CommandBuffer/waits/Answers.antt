@@ -8,4 +8,4 @@ pub returns-then-self-eq0 : goal.returns-then-self-eq0
 returns-then-self-eq0 c = eq-eqb _ _ c.if-self-eq0.true ∙ waits_empty _ _ c.if-self-eq0.true
 
 pub returns-else-self-eq0 : goal.returns-else-self-eq0
-returns-else-self-eq0 c = waits_counted _ _ refl refl (rw c.held.ensures.held at c.count_outside.ensures)
+returns-else-self-eq0 c = waits_counted _ _ refl refl c.count_outside.ensures
