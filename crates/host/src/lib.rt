@@ -50,13 +50,13 @@ pub fn kadwunge_stamp_order(first: i16, second: i16) -> i32
 pub fn kadwunge_frame_stamp(seconds: f64, timestep: f64) -> i32
     ensures { result ≡ frame_stamp_of seconds timestep }
 {
-    if settings::within(0.0009765625, 1.0, timestep) {
-        if settings::within(-refusals::LONGEST_TIME, refusals::LONGEST_TIME, seconds) {
-            return Timestamp::from_seconds(seconds, timestep).value() as i32;
-        }
+    if !settings::within(0.0009765625, 1.0, timestep) {
+        return 65537;
+    }
+    if !settings::within(-refusals::LONGEST_TIME, refusals::LONGEST_TIME, seconds) {
         return 65538;
     }
-    65537
+    Timestamp::from_seconds(seconds, timestep).value() as i32
 }
 
 // The whole frames of a span of microseconds at p over q frames a second, and the remainder; or 31, both being 0 then.
