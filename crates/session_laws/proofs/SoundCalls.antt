@@ -21,10 +21,9 @@ use Rattle.refusals.proofs.Accepted.{open_accepted, open_refused}
 use Rattle.command.proofs.Entries.{entry_plain}
 use Rattle.client_publish.specs.Ending.{weight_ok}
 use Rattle.clocksync.specs.declared.Clock.{Clock}
-use Rattle.std.specs.Prelude.{Option, Some, None}
+use Rattle.std.specs.Prelude.{Option, Some, None, is_some, is_none}
 use Rattle.clocksync.specs.Clock.{new_of, server_seconds_of, both_of, ready_of, sound_clock}
 use Rattle.clocksync.proofs.Sound.{parts_of, new_sound}
-use Rattle.clocksync.proofs.Ready.{is_some}
 use Rattle.client_receive.specs.Receive.{received_of}
 use Rattle.session_state.specs.Session.{has_worlds, with_clock, with_worlds_of}
 use Rattle.session_laws.specs.Soundness.{FloatsFit, OpenSound, OpenUnsound, UpdateSound, IssueSound}
@@ -37,7 +36,7 @@ use Rattle.session_state.specs.declared.Stage.{Stage}
 use Rattle.session_state.specs.declared.Stage.TheVariants.{SyncingClock, SyncingInitialState, Ready}
 use Rattle.session_state.specs.declared.Session.{Session}
 use Rattle.session_issue.specs.declared.IssueAnswer.{IssueAnswer}
-use Rattle.session_state.specs.Sound.{no_offset, connected_of, sound_of}
+use Rattle.session_state.specs.Sound.{connected_of, sound_of}
 use Rattle.session.specs.Calls.{start_of, open_of, times_ok, clock_after, request_of, lagged_of, scene_after, played_of, update_of}
 use Rattle.session_answers.specs.Answers.{Reply, refused_with, accepted_of}
 use Rattle.session_stage.specs.Stage.{started_at, synced_of, stage_after}
@@ -92,7 +91,7 @@ pub no_worlds_no_offset : (s : Session) → sound_of s ≡ true → s.stage ≡ 
 unfolding connected_of
 no_worlds_no_offset s h e = go s.clock.offset (subst (λ (x : Stage). connected_of x s.clock ≡ true) e (sound_facts s h).connected)
   where
-    go : (o : Option Float) → no_offset o ≡ true → o ≡ None
+    go : (o : Option Float) → is_none o ≡ true → o ≡ None
     go None k = refl
     go (Some x) k = not_true k
 
@@ -142,7 +141,7 @@ module _ (s : Session) (delta seconds : Float) (inbox : List ℕ) (g : Given s d
         overshoot = f.overshoot;
       })
     where
-      none : (o : Option Float) → (clock_after s delta seconds inbox).offset ≡ o → no_offset o ≡ true
+      none : (o : Option Float) → (clock_after s delta seconds inbox).offset ≡ o → is_none o ≡ true
       none None i = refl
       none (Some x) i = not_false (sym (clock_after_first s delta seconds inbox (no_worlds_no_offset s g.sound e) (ap is_some i)) ∙ r)
 

@@ -31,13 +31,13 @@ use Rattle.clocksync.specs.declared.Clock.{Clock as ClockState}
 use Rattle.clocksync.specs.declared.Heard.{Heard}
 use Rattle.clocksync.specs.declared.Ticked.{Ticked}
 use Rattle.client.specs.declared.QueuedSnapshot.{QueuedSnapshot}
-use Rattle.std.specs.Prelude.{Option, Some, None}
+use Rattle.std.specs.Prelude.{Option, Some, None, is_some, unwrap_or}
 use Rattle.mean.specs.Mean.{mean_of}
 use Rattle.clocksync.specs.Clock.{laid_out, held_of, timed_of, ticked_of, listen_of, heard_of, offset_after, sampled_of, filled_of, named_of, sample_of}
 use Rattle.clocksync.specs.Clock.{settled_of}
 use Rattle.clocksync.specs.Clock.{server_seconds_of, ready_of, offset_ok, sound_clock}
 use Rattle.clocksync.proofs.Sound.{sample_within, measured_ok, clock_sound, clock_timer_fits}
-use Rattle.clocksync.proofs.Ready.{is_some, is_some, ready_id, heard_id, ready_stays, first_offset_ready}
+use Rattle.clocksync.proofs.Ready.{ready_id, heard_id, ready_stays, first_offset_ready}
 use Rattle.command.specs.Entries.{entry_of}
 use Rattle.command.proofs.Entries.{entry_plain}
 use Rattle.client.specs.declared.ClientWorldSimulations.{ClientWorldSimulations}
@@ -51,7 +51,7 @@ use Rattle.session_laws.proofs.SoundRuns.{InStep}
 use Rattle.session_state.specs.declared.Session.{Session}
 use Rattle.session_state.specs.Sound.{queued_sound, weight_sound, init_sound, buffers_sound, worlds_sound, overshoot_sound, connected_of, sound_of}
 use Rattle.inbox_passes.specs.Passes.{hear_one, heard_in, receive_one, received_in, note_one, noted_in}
-use Rattle.session.specs.Calls.{times_ok, clock_after, server_time_by, scene_after, unreceived}
+use Rattle.session.specs.Calls.{times_ok, clock_after, scene_after, unreceived}
 
 -- ---- sound worlds
 
@@ -319,7 +319,7 @@ module _ (s : Session) (delta seconds : Float) (inbox : List ℕ) where
 
 -- the server's time with the lag is within 2^34
 pub server_within : (c : Settings) (o : Option Float) (seconds : Float) → passes_of c ≡ true → Within seconds (2 ^ 32) → offset_ok o ≡ true
-    → Within (add binary64 (server_time_by (server_seconds_of o seconds) seconds) c.lag) (2 ^ 34)
+    → Within (add binary64 (unwrap_or (server_seconds_of o seconds) seconds) c.lag) (2 ^ 34)
 unfolding le
 server_within c o seconds pass w ok = go o ok
   where
@@ -329,7 +329,7 @@ server_within c o seconds pass w ok = go o ok
         within_of_tests c.lag (fin true 15 (pos 2)) (fin false 15 (pos 2)) 60 l.number (refl, refl) (refl, refl)
         (float_le_trans (fin true 15 (pos 2)) zero64 c.lag tt l.low) l.high
 
-    go : (o : Option Float) → offset_ok o ≡ true → Within (add binary64 (server_time_by (server_seconds_of o seconds) seconds) c.lag) (2 ^ 34)
+    go : (o : Option Float) → offset_ok o ≡ true → Within (add binary64 (unwrap_or (server_seconds_of o seconds) seconds) c.lag) (2 ^ 34)
     go None k = within_widen (add binary64 seconds c.lag) (2 ^ 32 + 60) (2 ^ 34) (lit≤ tt) (add_within seconds c.lag (2 ^ 32) 60 (lit< tt) w lag)
     go (Some x) k = within_widen (add binary64 (add binary64 seconds x) c.lag) (2 ^ 32 + 2 ^ 33 + 60) (2 ^ 34) (lit≤ tt)
         (add_within (add binary64 seconds x) c.lag (2 ^ 32 + 2 ^ 33) 60 (lit< tt)

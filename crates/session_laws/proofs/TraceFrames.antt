@@ -170,10 +170,12 @@ unfolding load_of
 load_stamp w b t = moved_stamp b t
 
 -- a load whose worlds have these stamps
-opens_loaded : (s : Scene) (x : ℕ) (t : Timestamp) (h : ℕ) → (old_stamp_of (loaded_of s x t h).scene.worlds).0 ≡ (old_stamp_of s.worlds).0
-    → new_stamp_of (loaded_of s x t h).scene.worlds ≡ t →
-    (loaded_of s x t h).scene.worlds.snapshots.queued ≡ None → Opens (Some (record { stamp = t; handle = h })) s (loaded_of s x t h)
-opens_loaded s x t h eo en eq =
+opens_loaded : (s : Scene) (x : ℕ) (a : QueuedSnapshot) → (old_stamp_of (loaded_of s x a.stamp a.handle).scene.worlds).0 ≡ (old_stamp_of s.worlds).0
+    → new_stamp_of (loaded_of s x a.stamp a.handle).scene.worlds ≡ a.stamp → (loaded_of s x a.stamp a.handle).scene.worlds.snapshots.queued ≡ None
+    → Opens (Some a) s (loaded_of s x a.stamp a.handle)
+opens_loaded s x a eo en eq =
+    let t : Timestamp = a.stamp in
+    let h : ℕ = a.handle in
     let n : (new_stamp_of (loaded_of s x t h).scene.worlds).0 ≡ t.0 = ap (λ (u : Timestamp). u.0) en in
     record {
       old = eo;
@@ -184,26 +186,30 @@ opens_loaded s x t h eo en eq =
     }
 
 -- into the side that was old, where the stamps are equal
-opens_swapped : (s : Scene) (t : Timestamp) (h : ℕ) → (new_stamp_of s.worlds).0 ≡ (old_stamp_of s.worlds).0
-    → Opens (Some (record { stamp = t; handle = h })) s (loaded_of s (old_side_of s.worlds) t h)
-opens_swapped s t h e =
+opens_swapped : (s : Scene) (a : QueuedSnapshot) → (new_stamp_of s.worlds).0 ≡ (old_stamp_of s.worlds).0
+    → Opens (Some a) s (loaded_of s (old_side_of s.worlds) a.stamp a.handle)
+opens_swapped s a e =
+    let t : Timestamp = a.stamp in
+    let h : ℕ = a.handle in
     let x : ℕ = old_side_of s.worlds in
     let b : CommandBuffer = rest_of s.worlds.base t in
     let W : Simulation = (load_of (world_of s.worlds x) b t).world in
     let q : (loaded_of s x t h).scene.worlds ≡ with_world (readied_with s.worlds x b) x W = loaded_worlds s x t h in
-    opens_loaded s x t h
+    opens_loaded s x a
     (ap (λ (w : ClientWorldSimulations). (old_stamp_of w).0) q ∙ ap (λ (u : Timestamp). u.0) (swapped_old s.worlds b W) ∙ e)
     (ap new_stamp_of q ∙ loaded_new s.worlds b W x ∙ load_stamp (world_of s.worlds x) b t)
     (ap (λ (w : ClientWorldSimulations). w.snapshots.queued) q ∙ loaded_queue s.worlds b W x)
 
 -- into the new side
-opens_obsolete : (s : Scene) (t : Timestamp) (h : ℕ) → Opens (Some (record { stamp = t; handle = h })) s (loaded_of s (new_side_of s.worlds) t h)
-opens_obsolete s t h =
+opens_obsolete : (s : Scene) (a : QueuedSnapshot) → Opens (Some a) s (loaded_of s (new_side_of s.worlds) a.stamp a.handle)
+opens_obsolete s a =
+    let t : Timestamp = a.stamp in
+    let h : ℕ = a.handle in
     let x : ℕ = new_side_of s.worlds in
     let b : CommandBuffer = rest_of s.worlds.base t in
     let W : Simulation = (load_of (world_of s.worlds x) b t).world in
     let q : (loaded_of s x t h).scene.worlds ≡ with_world (readied_with s.worlds x b) x W = loaded_worlds s x t h in
-    opens_loaded s x t h
+    opens_loaded s x a
     (ap (λ (w : ClientWorldSimulations). (old_stamp_of w).0) q ∙ ap (λ (u : Timestamp). u.0) (loaded_old s.worlds b W))
     (ap new_stamp_of q ∙ loaded_new s.worlds b W x ∙ load_stamp (world_of s.worlds x) b t)
     (ap (λ (w : ClientWorldSimulations). w.snapshots.queued) q ∙ loaded_queue s.worlds b W x)
@@ -230,14 +236,15 @@ opens_reset s far =
       none = λ y. ap (steps_on y) (done_words s x d) ∙ reset_marks y (world_of s.worlds x) (old_stamp_of s.worlds) x;
     }
 
-opens_by : (t : ReconciliationStatus) (q : Option QueuedSnapshot) (p : Float) (s : Scene) → status_of s.worlds ≡ t → Opens (loads_of t q) s (opened_of t (loads_of t q) p s)
+opens_by : (t : ReconciliationStatus) (q : Option QueuedSnapshot) (p : Float) (s : Scene) → status_of s.worlds ≡ t
+    → Opens (loads_of t q) s (opened_of t (loads_of t q) p s)
 unfolding opened_of loaded_queued
 opens_by AwaitingSnapshot None p s e = opens_still s
-opens_by AwaitingSnapshot (Some q) p s e = opens_swapped s q.stamp q.handle (awaiting_equal s.worlds e)
+opens_by AwaitingSnapshot (Some q) p s e = opens_swapped s q (awaiting_equal s.worlds e)
 opens_by (Blending t) q p s e = opens_blended s p
 opens_by (Fastforwarding Healthy) q p s e = opens_still s
 opens_by (Fastforwarding Obsolete) None p s e = opens_still s
-opens_by (Fastforwarding Obsolete) (Some q) p s e = opens_obsolete s q.stamp q.handle
+opens_by (Fastforwarding Obsolete) (Some q) p s e = opens_obsolete s q
 opens_by (Fastforwarding Overshot) q p s e = opens_reset s (λ f. overshot_far s.worlds f e)
 
 pub opens : (rules : Rules) (s : Scene) → Opens (snapshot_of s) s (frame_opened rules s)

@@ -3,6 +3,7 @@ use mathlib.Core.Path.{◌≡◌, ap, ◌∙◌}
 use mathlib.Core.List.{List}
 use Prim.Native.Nat.{ℕ}
 use lib.Ieee.{Float}
+use Rattle.timestamp.specs.declared.Timestamp.{Timestamp}
 use Rattle.timestamp.specs.Floats.{tween_of}
 use Rattle.timestamp.specs.Timestamps.{bits_of}
 use Rattle.settings.specs.declared.Settings.{Settings}
