@@ -4,7 +4,7 @@ use Rattle.std.specs.Prelude.{ℕ, ◌+◌, ◌/◌, ◌%◌, ◌^◌, ◌≡◌
 use Rattle.std.specs.Float.{fin, binary64}
 use Rattle.std.specs.Float.Ieee.{of_int, to_bits}
 use Rattle.timestamp.specs.Floats.{zero64, one64}
-use Rattle.timestamp.specs.declared.Ordering.TheVariants.{Less}
+use Rattle.std.specs.declared.cmp.Ordering.TheVariants.{Less}
 use Rattle.timestamp.specs.Timestamps.{bits_of, order_of, in_range}
 use Rattle.timestamp.specs.FloatTimestamps.{from_unwrapped, stamp_of, ceil_stamp_of}
 use Rattle.settings.specs.declared.TweeningMethod.TheVariants.{Nearest, Interpolated}

@@ -1,8 +1,9 @@
 -- What the code of a new client and of the status comes to, over plain values. Assumes nothing.
+use Rattle.std.specs.Ordering.{is_gt}
 use Rattle.std.proofs.Common.{◌≡◌, ℕ, Bool, false, eqb, [], pos, sym, ap, ◌∙◌}
 use lib.Ieee.{fin, lt}
 use Rattle.timestamp.specs.declared.Timestamp.{Timestamp}
-use Rattle.timestamp.specs.declared.Ordering.{Ordering}
+use Rattle.std.specs.declared.cmp.Ordering.{Ordering}
 use Rattle.timestamp.specs.Timestamps.{order_of}
 use Rattle.command.specs.declared.CommandBuffer.{CommandBuffer}
 use Rattle.command.specs.Buffer.{laid}
@@ -12,7 +13,7 @@ use Rattle.client.specs.declared.Queued.{Queued}
 use Rattle.client.specs.declared.Queued.TheVariants.{Nothing, Held}
 use Rattle.client.specs.declared.ClientWorldSimulations.{ClientWorldSimulations}
 use Rattle.client.specs.Sides.{old_stamp_of, new_stamp_of, starting_with, new_worlds_of}
-use Rattle.client.specs.Status.{is_greater, later_of, overshot_of, newer_of, status_by, status_of}
+use Rattle.client.specs.Status.{later_of, overshot_of, newer_of, status_by, status_of}
 
 -- the worlds of a new client
 pub new_is : (t : Timestamp) {l r : Simulation} {b : CommandBuffer} → l ≡ new_world t → r ≡ new_world t → b ≡ laid [] (record { 0 = 0 })
@@ -23,9 +24,9 @@ new_is t hl hr hb = λ i. starting_with (hl i) (hr i) (hb i)
 -- ---- the status
 
 -- a stamp's order tells whether it is later
-pub later_is : (a b : Timestamp) {o p : Ordering} → o ≡ order_of a.0 b.0 → o ≡ p → is_greater p ≡ later_of a b
+pub later_is : (a b : Timestamp) {o : Ordering} → o ≡ order_of a.0 b.0 → is_gt o ≡ later_of a b
 unfolding later_of
-later_is a b h e = ap is_greater (sym e ∙ h)
+later_is a b h = ap is_gt h
 
 -- no snapshot is queued
 pub newer_none : (n : Timestamp) {q : Queued} → q ≡ Nothing → false ≡ newer_of q n

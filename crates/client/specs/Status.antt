@@ -1,11 +1,10 @@
 -- The status of a client: document 01, "src/client.rs". Status is `ReconciliationStatus`, with its weight in Blending and a `FastforwardingHealth` inside
 -- Fastforwarding. Definitions only. Assumes nothing.
+use Rattle.std.specs.Ordering.{is_gt}
 use Rattle.std.specs.Prelude.{Bool, true, false, ◌==◌, Float}
 use Rattle.std.specs.Float.Ieee.{lt}
 use Rattle.timestamp.specs.Floats.{one64}
 use Rattle.timestamp.specs.declared.Timestamp.{Timestamp}
-use Rattle.timestamp.specs.declared.Ordering.{Ordering}
-use Rattle.timestamp.specs.declared.Ordering.TheVariants.{Less, Equal, Greater}
 use Rattle.timestamp.specs.Timestamps.{order_of}
 use Rattle.client.specs.declared.FastforwardingHealth.TheVariants.{Healthy, Obsolete, Overshot}
 use Rattle.client.specs.declared.ReconciliationStatus.{ReconciliationStatus}
@@ -15,15 +14,9 @@ use Rattle.client.specs.declared.Queued.TheVariants.{Nothing, Held}
 use Rattle.client.specs.declared.ClientWorldSimulations.{ClientWorldSimulations}
 use Rattle.client.specs.Sides.{old_stamp_of, new_stamp_of}
 
--- an order is Greater
-abbrev pub is_greater : Ordering → Bool
-is_greater Less = false
-is_greater Equal = false
-is_greater Greater = true
-
 -- the stamp a is later than b
 unfoldable pub later_of : Timestamp → Timestamp → Bool
-later_of a b = is_greater (order_of a.0 b.0)
+later_of a b = is_gt (order_of a.0 b.0)
 
 -- the new world, with the stamp n, has overshot the old one, with the stamp o
 unfoldable pub overshot_of : Timestamp → Timestamp → Bool

@@ -3,17 +3,13 @@ ghost use Rattle.std.specs.Prelude.{◌≡◌};
 ghost use Rattle.client.specs.Status.{later_of, overshot_of, newer_of, status_of};
 
 use super::{ClientWorldSimulations, FastforwardingHealth, Queued, ReconciliationStatus, sides};
-use timestamp::{Ordering, Timestamp};
+use timestamp::Timestamp;
 
 // Whether the first stamp is later than the second.
 pub fn is_later(a: Timestamp, b: Timestamp) -> bool
     ensures { result ≡ later_of a b }
 {
-    match a.cmp(b) {
-        Ordering::Less => false,
-        Ordering::Equal => false,
-        Ordering::Greater => true,
-    }
+    a.cmp(b).is_gt()
 }
 
 // Whether the new world is ahead of the old one.
@@ -39,7 +35,7 @@ pub fn infer_current_reconciliation_status(w: ClientWorldSimulations) -> Reconci
 {
     let old = sides::last_completed_timestamp(w);
     let new = sides::new_timestamp(w);
-    if new.0 == old.0 {
+    if new == old {
         let t = w.weight;
         if t < 1.0 {
             return ReconciliationStatus::Blending(t);

@@ -1,13 +1,14 @@
 -- What the code of a frame comes to, over plain values: one rule for each return. Assumes nothing.
-use Rattle.std.proofs.Common.{◌≡◌, ℕ, ◌+◌, ◌%◌, ◌^◌, ◌<◌, ◌≤◌, Bool, true, false, cond, ltb, List, pos, sym, refl, ap, ◌∙◌, le-ltb, lt-ltb, eq-eqb, ne_eqb}
+use Rattle.std.specs.Ordering.{is_ge}
+use Rattle.std.proofs.Common.{◌≡◌, ℕ, ◌+◌, ◌%◌, ◌^◌, ◌<◌, ◌≤◌, Bool, true, false, ltb, List, pos, refl, ap, ◌∙◌, le-ltb, lt-ltb, eq-eqb, ne_eqb}
 use lib.Ieee.{Float, fin, binary64, add, lt}
 use Rattle.timestamp.specs.declared.Timestamp.{Timestamp}
-use Rattle.timestamp.specs.declared.Ordering.{Ordering}
+use Rattle.std.specs.declared.cmp.Ordering.{Ordering}
 use Rattle.timestamp.specs.Timestamps.{order_of, difference_of}
 use Rattle.tape.proofs.Writing.{puts_none}
 use Rattle.simulation.specs.declared.Simulation.{Simulation}
 use Rattle.simulation.specs.declared.Stepped.{Stepped}
-use Rattle.simulation.specs.World.{Does, step_of, reset_of, is_less}
+use Rattle.simulation.specs.World.{Does, step_of, reset_of}
 use Rattle.client.specs.declared.FastforwardingHealth.{FastforwardingHealth}
 use Rattle.client.specs.declared.FastforwardingHealth.TheVariants.{Healthy, Obsolete, Overshot}
 use Rattle.client.specs.declared.ReconciliationStatus.{ReconciliationStatus}
@@ -125,9 +126,9 @@ unfolding put_back put_of
 put_back_is s side w n k hl hx hu = hu ∙ (λ i. put_back s side w ((hx ∙ ap (λ (y : Ledger). applies y n k) hl) i) s.steps)
 
 -- the order of the stamps tells whether the new world has caught up
-pub caught_up_is : (n o : Timestamp) {a b : Ordering} → a ≡ order_of n.0 o.0 → a ≡ b → cond (is_less b) false true ≡ caught_up_of n o
+pub caught_up_is : (n o : Timestamp) {a : Ordering} → a ≡ order_of n.0 o.0 → is_ge a ≡ caught_up_of n o
 unfolding caught_up_of
-caught_up_is n o h e = ap (λ (x : Ordering). cond (is_less x) false true) (sym e ∙ h)
+caught_up_is n o h = ap is_ge h
 
 -- the new world steps, and the step is counted
 pub step_new_plays : (s : Scene) {side n : ℕ} {was last : List ℕ} {place : ℕ} {r : Shown}

@@ -1,5 +1,6 @@
 -- One frame: document 01, "src/client.rs". What its status opens it with, a step of the old world, the catching up of the new one, what is published, and
 -- refusal 26. Definitions only. Assumes nothing.
+use Rattle.std.specs.Ordering.{is_ge}
 use Rattle.std.specs.Prelude.{◌≡◌, ℕ, zero, suc, ◌+◌, ◌%◌, ◌^◌, Bool, true, false, cond, List, ◌==◌, nat_lt, Float}
 use Rattle.std.specs.Float.{binary64}
 use Rattle.std.specs.Float.Ieee.{add}
@@ -7,7 +8,7 @@ use Rattle.timestamp.specs.Floats.{clamped_of}
 use Rattle.timestamp.specs.declared.Timestamp.{Timestamp}
 use Rattle.timestamp.specs.Timestamps.{order_of, difference_of}
 use Rattle.tape.specs.Tape.{Puts}
-use Rattle.simulation.specs.World.{step_of, reset_of, is_less}
+use Rattle.simulation.specs.World.{step_of, reset_of}
 use Rattle.client.specs.declared.FastforwardingHealth.TheVariants.{Healthy, Obsolete, Overshot}
 use Rattle.client.specs.declared.ReconciliationStatus.{ReconciliationStatus}
 use Rattle.client.specs.declared.ReconciliationStatus.TheVariants.{AwaitingSnapshot, Fastforwarding, Blending}
@@ -58,7 +59,7 @@ stepped_side s side = done_at s side (step_of (world_of s.worlds side) side)
 
 -- the catch-up test: the new world, with the stamp n, has reached the stamp o
 unfoldable pub caught_up_of : Timestamp → Timestamp → Bool
-caught_up_of n o = cond (is_less (order_of n.0 o.0)) false true
+caught_up_of n o = is_ge (order_of n.0 o.0)
 
 -- the scene with one more step of the new world counted
 abbrev pub with_step : Scene → Scene

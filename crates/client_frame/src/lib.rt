@@ -17,7 +17,7 @@ use client::{
 };
 use client_publish::Stated;
 use simulation::Simulation;
-use timestamp::{Ordering, Timestamp};
+use timestamp::Timestamp;
 
 // What a frame goes by: the most steps of the new world to catch up, and how far a blend's weight moves on.
 #[derive(Clone, Copy)]
@@ -152,11 +152,7 @@ pub(crate) fn step_side(s: Scene, side: u32, tape: &mut [u32], at: usize) -> Sho
 pub(crate) fn has_caught_up(new: Timestamp, old: Timestamp) -> bool
     ensures { result ≡ caught_up_of new old }
 {
-    match new.cmp(old) {
-        Ordering::Less => false,
-        Ordering::Equal => true,
-        Ordering::Greater => true,
-    }
+    new.cmp(old).is_ge()
 }
 
 // The scene with a world and its ledger at a side, and another count of steps.

@@ -1,18 +1,19 @@
 -- A level frame: both worlds make one step that moves their stamps only. Assumes nothing.
+use Rattle.std.specs.Ordering.{is_ge}
 use Rattle.std.proofs.Common.{◌≡◌, ℕ, zero, suc, ◌+◌, ◌%◌, ◌^◌, Bool, true, false, cond, not, ◌&&◌, eqb, List, [], ◌∷◌, sym, refl, ap, ◌∙◌, arith, eq-eqb}
 use Rattle.std.proofs.Common.{ne_eqb, eqb-true}
 use lib.Ieee.{Float, binary64, add}
 use borrow.Author.Tests.{eqb-false, not-true}
 use Rattle.timestamp.specs.declared.Timestamp.{Timestamp}
-use Rattle.timestamp.specs.declared.Ordering.{Ordering}
-use Rattle.timestamp.specs.declared.Ordering.TheVariants.{Less, Equal}
+use Rattle.std.specs.declared.cmp.Ordering.{Ordering}
+use Rattle.std.specs.declared.cmp.Ordering.TheVariants.{Less, Equal}
 use Rattle.timestamp.specs.Timestamps.{sum_of, difference_of, signed_of, sign_of, order_of}
 use Rattle.tape.specs.Tape.{Puts}
 use Rattle.tape.specs.Words.{step_word}
 use Rattle.tape.proofs.Writing.{puts_then, puts_as}
 use Rattle.command.specs.Buffer.{around}
 use Rattle.simulation.specs.declared.Simulation.{Simulation}
-use Rattle.simulation.specs.World.{world_with, next_stamp, is_less}
+use Rattle.simulation.specs.World.{world_with, next_stamp}
 use Rattle.client.specs.declared.ReconciliationStatus.{ReconciliationStatus}
 use Rattle.client.specs.declared.ReconciliationStatus.TheVariants.{AwaitingSnapshot, Fastforwarding, Blending}
 use Rattle.client.specs.declared.Queued.{Queued}
@@ -163,14 +164,14 @@ one_behind : (n o t : Timestamp) → n.0 ≡ t.0 → o ≡ next_stamp t → caug
 unfolding caught_up_of
 one_behind n o t hn ho =
     let e : order_of n.0 o.0 ≡ Less = (λ i. order_of (hn i) (ho i).0) ∙ stamp_behind t.0 in
-    ap (λ (x : Ordering). cond (is_less x) false true) e
+    ap is_ge e
 
 -- and after its step it has
 none_behind : (n o t u : Timestamp) → n ≡ next_stamp t → o ≡ next_stamp u → t.0 ≡ u.0 → caught_up_of n o ≡ true
 unfolding caught_up_of
 none_behind n o t u hn ho e =
     let eq : order_of n.0 o.0 ≡ Equal = (λ i. order_of (hn i).0 (ho i).0) ∙ ap (λ (x : ℕ). order_of (sum_of x 1) (sum_of u.0 1)) e ∙ stamp_level u.0 in
-    ap (λ (x : Ordering). cond (is_less x) false true) eq
+    ap is_ge eq
 
 -- the step of a side whose buffer waits
 waited_side : (s : Scene) (side : ℕ) → world_waits (world_of s.worlds side) ≡ true

@@ -1,12 +1,13 @@
 -- A frame that is decided from the numbers of a scene is the frame of that scene: what it does, the numbers after it, and whether it stops.
 -- Assumes nothing.
+use Rattle.std.specs.Ordering.{is_ge}
 use Rattle.std.proofs.Common.{◌≡◌, ℕ, zero, suc, ◌+◌, ◌-◌, ◌%◌, ◌<◌, ◌≤◌, Bool, true, false, cond, ltb, ◌++◌, pos, negsuc, sym, refl, ap, ◌∙◌, arith}
 use Rattle.std.proofs.Common.{ltb-false, ltb-true, le-ltb}
 use lib.Ieee.{Float, eq}
 use Rattle.timestamp.specs.Floats.{zero64}
 use Rattle.timestamp.specs.declared.Timestamp.{Timestamp}
 use Rattle.timestamp.specs.Timestamps.{sum_of, difference_of, signed_of, sign_of, order_of}
-use Rattle.simulation.specs.World.{next_stamp, is_less}
+use Rattle.simulation.specs.World.{next_stamp}
 use Rattle.client.specs.declared.FastforwardingHealth.TheVariants.{Healthy, Obsolete, Overshot}
 use Rattle.client.specs.declared.ReconciliationStatus.{ReconciliationStatus}
 use Rattle.client.specs.declared.ReconciliationStatus.TheVariants.{AwaitingSnapshot, Fastforwarding, Blending}
@@ -30,7 +31,7 @@ use Rattle.client_numbers.proofs.Reading.{opening, step_old, step_new, stepping,
 
 -- ---- the catching up
 
-reached_by : (b : Bool) (d : ℕ) → cond (is_less (sign_of (cond b (pos d) (negsuc (65535 - d))))) false true ≡ b
+reached_by : (b : Bool) (d : ℕ) → is_ge (sign_of (cond b (pos d) (negsuc (65535 - d)))) ≡ b
 reached_by true zero = refl
 reached_by true (suc d) = refl
 reached_by false d = refl

@@ -1,4 +1,5 @@
 -- What the code of a skip comes to, over plain values: one rule for each return; and how many words a skip's first part puts. Assumes nothing.
+use Rattle.std.specs.Ordering.{is_lt}
 use mathlib.Core.Path.{◌≡◌, ap, sym, ◌∙◌}
 use mathlib.Core.Bool.{Bool, true, false, cond}
 use mathlib.Core.List.{List}
@@ -6,16 +7,14 @@ use Prim.Native.Nat.{ℕ, ◌+◌, ◌≤◌}
 use native.Mathlib.Omega.{arith}
 use lib.Dec.{eqb}
 use lib.ListN.{length}
-use borrow.Author.Tests.{eq-eqb, ne_eqb}
 use Rattle.timestamp.specs.declared.Timestamp.{Timestamp}
-use Rattle.timestamp.specs.declared.Ordering.{Ordering}
-use Rattle.timestamp.specs.declared.Ordering.TheVariants.{Less, Equal, Greater}
+use Rattle.std.specs.declared.cmp.Ordering.{Ordering}
 use Rattle.timestamp.specs.Timestamps.{order_of}
 use Rattle.command.specs.declared.Drained.{Drained}
 use Rattle.command.specs.Buffer.{drained_all_of}
 use Rattle.simulation.specs.declared.Simulation.{Simulation}
 use Rattle.simulation.specs.declared.Stepped.{Stepped}
-use Rattle.simulation.specs.World.{Does, reset_of, is_less}
+use Rattle.simulation.specs.World.{Does, reset_of}
 use Rattle.simulation.proofs.Few.{reset_few}
 use Rattle.client.specs.declared.ClientWorldSimulations.{ClientWorldSimulations}
 use Rattle.client.specs.declared.Scene.{Scene}
@@ -36,37 +35,24 @@ reset_plays s side t hw h e = plays_as (ap (λ (x : Simulation). done_at s side 
 module _ (s : Scene) (t : Timestamp) {was : List ℕ} {place : ℕ} {old new : Timestamp} (ho : old ≡ old_stamp_of s.worlds)
     (hn : new ≡ new_stamp_of s.worlds) where
   -- the new world goes along where the stamps are equal
-  pub along_plays : {last : List ℕ} {side : ℕ} {r : Shown} → new.0 ≡ old.0 → side ≡ new_side_of s.worlds
+  pub along_plays : {last : List ℕ} {side : ℕ} {r : Shown} → eqb new.0 old.0 ≡ true → side ≡ new_side_of s.worlds
       → Plays (reset_side s side t) was place r last → Plays (reset_along s t) was place r last
   unfolding reset_along
   along_plays he hs h =
-      let b : eqb (new_stamp_of s.worlds).0 (old_stamp_of s.worlds).0 ≡ true =
-      eq-eqb _ _ (ap (λ (x : Timestamp). x.0) (sym hn) ∙ he ∙ ap (λ (x : Timestamp). x.0) ho) in
+      let b : eqb (new_stamp_of s.worlds).0 (old_stamp_of s.worlds).0 ≡ true = (λ i. eqb (sym hn i).0 (sym ho i).0) ∙ he in
       plays_as (ap (λ (n : ℕ). reset_side s n t) hs ∙ ap (λ (x : Bool). cond x (reset_side s (new_side_of s.worlds) t) (still s)) (sym b)) h
 
   -- and stays where they are not
-  pub along_stays : (new.0 ≡ old.0 → ⊥) → Plays (reset_along s t) was place (record { scene = s; at = place }) was
+  pub along_stays : eqb new.0 old.0 ≡ false → Plays (reset_along s t) was place (record { scene = s; at = place }) was
   unfolding reset_along
   along_stays he =
-      let b : eqb (new_stamp_of s.worlds).0 (old_stamp_of s.worlds).0 ≡ false =
-      ne_eqb _ _ (λ e. he (ap (λ (x : Timestamp). x.0) hn ∙ e ∙ ap (λ (x : Timestamp). x.0) (sym ho))) in
+      let b : eqb (new_stamp_of s.worlds).0 (old_stamp_of s.worlds).0 ≡ false = (λ i. eqb (sym hn i).0 (sym ho i).0) ∙ he in
       plays_as (ap (λ (x : Bool). cond x (reset_side s (new_side_of s.worlds) t) (still s)) (sym b)) (plays_still s was place)
 
 -- the order of the stamps tells whether a skip goes back
-module _ (t old : Timestamp) {o : Ordering} (h : o ≡ order_of t.0 old.0) where
-  pub skips_less : o ≡ Less → true ≡ skips_back t old
-  unfolding skips_back
-  skips_less e = ap is_less (sym e ∙ h)
-
-  pub skips_equal : o ≡ Equal → false ≡ skips_back t old
-  unfolding skips_back
-  skips_equal e = ap is_less (sym e ∙ h)
-
-  pub skips_greater : o ≡ Greater → false ≡ skips_back t old
-  unfolding skips_back
-  skips_greater e = ap is_less (sym e ∙ h)
-
-pub ruleset skips-rules = (skips_less, skips_equal, skips_greater)
+pub skips_is : (t old : Timestamp) {o : Ordering} → o ≡ order_of t.0 old.0 → is_lt o ≡ skips_back t old
+unfolding skips_back
+skips_is t old h = ap is_lt h
 
 -- the base is emptied
 pub emptied_is : (s : Scene) {back : Bool} {d : Drained} → back ≡ true → d ≡ drained_all_of s.worlds.base

@@ -1,10 +1,11 @@
 -- A skip to another stamp: document 01, "src/client.rs".
 -- Definitions only. Assumes nothing.
+use Rattle.std.specs.Ordering.{is_lt}
 use Rattle.std.specs.Prelude.{ℕ, Bool, true, false, cond, eqb}
 use Rattle.timestamp.specs.declared.Timestamp.{Timestamp}
 use Rattle.timestamp.specs.Timestamps.{order_of}
 use Rattle.command.specs.Buffer.{emptied_of}
-use Rattle.simulation.specs.World.{reset_of, is_less}
+use Rattle.simulation.specs.World.{reset_of}
 use Rattle.client.specs.declared.Scene.{Scene}
 use Rattle.client.specs.Sides.{new_side_of, old_side_of, world_of, with_base, with_worlds, old_stamp_of, new_stamp_of, Played, still, and_then, done_at}
 
@@ -18,7 +19,7 @@ reset_along s t = cond (eqb (new_stamp_of s.worlds).0 (old_stamp_of s.worlds).0)
 
 -- a skip from the stamp `old` to the stamp t goes back
 unfoldable pub skips_back : Timestamp → Timestamp → Bool
-skips_back t old = is_less (order_of t.0 old.0)
+skips_back t old = is_lt (order_of t.0 old.0)
 
 -- a skip back empties the base
 abbrev pub emptied_base : Bool → Scene → Scene

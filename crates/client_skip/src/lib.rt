@@ -6,7 +6,7 @@ ghost use Rattle.client.specs.Sides.{Plays};
 ghost use Rattle.client_skip.specs.Skip.{reset_side, reset_along, skips_back, emptied_base, skipped_of};
 
 use client::{Scene, Shown, sides};
-use timestamp::{Ordering, Timestamp};
+use timestamp::Timestamp;
 
 // The world of a side is set to a stamp.
 pub(crate) fn reset_side(
@@ -40,7 +40,7 @@ pub(crate) fn reset_along(s: Scene, stamp: Timestamp, tape: &mut [u32], at: usiz
     let w = s.worlds;
     let old = sides::last_completed_timestamp(w);
     let new = sides::new_timestamp(w);
-    if new.0 == old.0 {
+    if new == old {
         return reset_side(s, sides::new_side(w), stamp, tape, at);
     }
     Shown { scene: s, at }
@@ -50,11 +50,7 @@ pub(crate) fn reset_along(s: Scene, stamp: Timestamp, tape: &mut [u32], at: usiz
 pub fn skips_back(stamp: Timestamp, old: Timestamp) -> bool
     ensures { result ≡ skips_back stamp old }
 {
-    match stamp.cmp(old) {
-        Ordering::Less => true,
-        Ordering::Equal => false,
-        Ordering::Greater => false,
-    }
+    stamp.cmp(old).is_lt()
 }
 
 // The base is emptied by a skip back, so that none of its commands is played at a wrong time later.

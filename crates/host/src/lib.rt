@@ -12,7 +12,8 @@ ghost use Rattle.host.specs.Host.{frame_stamp_of};
 ghost use Rattle.host.specs.Mean.{little_of, word_at, floats_of, bytes_of, judged_mean, mean_answer_of, AnswersMean};
 ghost use Rattle.host.specs.Spans.{host_span_of};
 
-use timestamp::{Ordering, Timestamp};
+use std::cmp::Ordering;
+use timestamp::Timestamp;
 
 // What a call for a mean finds.
 #[derive(Clone, Copy)]

@@ -1,5 +1,6 @@
 -- Worlds stay sound through a frame, a skip and what every update ends with. The weight moves in Blending alone, and there the stamps stay equal: the old world
 -- steps once, and the new one once after it. Assumes nothing.
+use Rattle.std.specs.Ordering.{is_ge}
 use mathlib.Core.Path.{◌≡◌, refl, sym, ap, ◌∙◌, subst}
 use mathlib.Core.Bool.{Bool, true, false, cond}
 use Prim.Native.Nat.{ℕ, zero, suc, ◌+◌, ◌-◌, ◌*◌, ◌%◌, ◌<◌, ◌≤◌}
@@ -16,15 +17,15 @@ use Rattle.float_laws.proofs.Order.{between_finite, float_le_trans}
 use Rattle.float_laws.proofs.Within.{within_of_tests, add_within}
 use Rattle.float_laws.proofs.Overshoot.{clamp_unit}
 use Rattle.timestamp.specs.declared.Timestamp.{Timestamp}
-use Rattle.timestamp.specs.declared.Ordering.{Ordering}
-use Rattle.timestamp.specs.declared.Ordering.TheVariants.{Less, Equal}
+use Rattle.std.specs.declared.cmp.Ordering.{Ordering}
+use Rattle.std.specs.declared.cmp.Ordering.TheVariants.{Less, Equal}
 use Rattle.timestamp.specs.Timestamps.{sum_of, order_of}
 use Rattle.timestamp.proofs.Order.{order_equal, order_less}
 use Rattle.settings.specs.declared.Settings.{Settings}
 use Rattle.settings.specs.Settings.{blend_progress_of}
 use Rattle.command.specs.Buffer.{emptied_of}
 use Rattle.command.proofs.Soundness.{moved_sound, emptied_sound}
-use Rattle.simulation.specs.World.{next_stamp, step_of, reset_of, is_less}
+use Rattle.simulation.specs.World.{next_stamp, step_of, reset_of}
 use Rattle.client.specs.declared.ReconciliationStatus.TheVariants.{Blending}
 use Rattle.client.specs.declared.ClientWorldSimulations.{ClientWorldSimulations}
 use Rattle.client.specs.declared.Scene.{Scene}
@@ -85,7 +86,7 @@ caught_up_same : (n o : Timestamp) → n.0 ≡ o.0 → o.0 < 65536 → caught_up
 unfolding caught_up_of
 caught_up_same n o e h =
     let i : order_of n.0 o.0 ≡ Equal = order_equal 0 (omega arith) h (lit< tt) (omega arith) refl in
-    ap (λ (r : Ordering). cond (is_less r) false true) i
+    ap is_ge i
 
 -- a stamp has not reached the next one
 order_next : (n : ℕ) → order_of n (sum_of n 1) ≡ order_of (n % 65536) (sum_of n 1)
@@ -97,7 +98,7 @@ unfolding caught_up_of
 caught_up_next n o e =
     let k = n.0 in
     let i : order_of (k % 65536) (sum_of k 1) ≡ Less = order_less 65535 (omega arith) (omega arith) (lit< tt) (omega arith) (lit≤ tt) in
-    ap (λ (x : ℕ). cond (is_less (order_of k x)) false true) e ∙ ap (λ (r : Ordering). cond (is_less r) false true) (order_next k ∙ i)
+    ap (λ (x : ℕ). is_ge (order_of k x)) e ∙ ap is_ge (order_next k ∙ i)
 
 -- nothing is left to catch up with
 caught_there : (m : ℕ) (o : Timestamp) (s : Scene) → (new_stamp_of s.worlds).0 ≡ o.0 → o.0 < 65536 → caught_of m o s ≡ still s

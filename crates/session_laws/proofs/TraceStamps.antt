@@ -1,4 +1,5 @@
 -- The stamps of the two worlds of a client: what it means for them that the world of one side is another. Assumes nothing.
+use Rattle.std.specs.Ordering.{is_gt, is_ge}
 use mathlib.Core.Path.{◌≡◌, refl}
 use mathlib.Core.Bool.{Bool, true, false, cond}
 use mathlib.Core.List.{[], ◌∷◌}
@@ -14,13 +15,13 @@ use Rattle.tape.proofs.Counting.{steps_on-append, steps_on_step}
 use Rattle.command.specs.Buffer.{held, moved_of, taken_of, command_words}
 use Rattle.command.proofs.Applying.{words_no_step_on}
 use Rattle.simulation.specs.declared.Simulation.{Simulation}
-use Rattle.simulation.specs.World.{Done, next_stamp, step_of, reset_of, resets_back, flushed_of, kept_of, is_less}
+use Rattle.simulation.specs.World.{Done, next_stamp, step_of, reset_of, resets_back, flushed_of, kept_of}
 use Rattle.client.specs.declared.ClientWorldSimulations.{ClientWorldSimulations}
 use Rattle.client.specs.declared.Ledger.{Ledger}
 use Rattle.client.specs.declared.Scene.{Scene}
 use Rattle.client.specs.Sides.{new_side_of, old_side_of, world_of, with_world, world_stamp_of, old_stamp_of, new_stamp_of, with_ledger, with_worlds, put_of}
 use Rattle.client.specs.Sides.{done_at}
-use Rattle.client.specs.Status.{later_of, is_greater}
+use Rattle.client.specs.Status.{later_of}
 use Rattle.client_frame.specs.Frame.{caught_up_of}
 
 -- ---- how far one stamp is behind another
@@ -77,7 +78,7 @@ lag_there o t h k = omega arith
 
 -- ---- the tests on stamps
 
-reached_by : (b : Bool) (d : ℕ) → cond (is_less (sign_of (cond b (pos d) (negsuc (65535 - d))))) false true ≡ b
+reached_by : (b : Bool) (d : ℕ) → is_ge (sign_of (cond b (pos d) (negsuc (65535 - d)))) ≡ b
 reached_by true zero = refl
 reached_by true (suc d) = refl
 reached_by false d = refl
@@ -87,7 +88,7 @@ pub reached_is : (n o : Timestamp) → caught_up_of n o ≡ ltb (lag_of n.0 o.0)
 unfolding caught_up_of order_of signed_of lag_of
 reached_is n o = reached_by (ltb (difference_of n.0 o.0) 32768) (difference_of n.0 o.0)
 
-later_by : (b : Bool) (d : ℕ) → is_greater (sign_of (cond b (pos d) (negsuc (65535 - d)))) ≡ true → (b ≡ true) × (d ≡ 0 → ⊥)
+later_by : (b : Bool) (d : ℕ) → is_gt (sign_of (cond b (pos d) (negsuc (65535 - d)))) ≡ true → (b ≡ true) × (d ≡ 0 → ⊥)
 later_by true zero e = absurd (let z : ◌≡◌ {A = ℕ} 0 1 = cc in omega arith)
 later_by true (suc d) e = (refl, λ z. omega arith)
 later_by false d e = absurd (let z : ◌≡◌ {A = ℕ} 0 1 = cc in omega arith)

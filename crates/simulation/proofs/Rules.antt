@@ -1,4 +1,5 @@
 -- What the code of each function comes to, over plain values: one rule for each return. Assumes nothing.
+use Rattle.std.specs.Ordering.{is_lt}
 use mathlib.Core.Path.{◌≡◌, refl, ap, sym, ◌∙◌}
 use mathlib.Core.Bool.{true, false}
 use mathlib.Core.List.{List, [], ◌∷◌}
@@ -6,7 +7,7 @@ use Prim.Native.Nat.{ℕ, ◌+◌, ◌-◌}
 use native.Mathlib.Omega.{arith}
 use lib.ListN.{length}
 use Rattle.timestamp.specs.declared.Timestamp.{Timestamp}
-use Rattle.timestamp.specs.declared.Ordering.{Ordering}
+use Rattle.std.specs.declared.cmp.Ordering.{Ordering}
 use Rattle.timestamp.specs.Timestamps.{sum_of, order_of}
 use Rattle.tape.specs.Tape.{Puts}
 use Rattle.tape.specs.Words.{step_word, snapshot_word}
@@ -20,7 +21,7 @@ use Rattle.command.specs.Buffer.{held, laid, inserted_of, moved_of, taken_of, re
 use Rattle.command.proofs.Applying.{words-length}
 use Rattle.simulation.specs.declared.Simulation.{Simulation}
 use Rattle.simulation.specs.declared.Scheduled.{Scheduled}
-use Rattle.simulation.specs.World.{world_with, next_stamp, new_world, scheduled_of, step_of, is_less, resets_back, reset_of, Does, load_of, Loads}
+use Rattle.simulation.specs.World.{world_with, next_stamp, new_world, scheduled_of, step_of, resets_back, reset_of, Does, load_of, Loads}
 
 -- a new world
 pub new_is : (t : Timestamp) {b : CommandBuffer} → b ≡ laid [] t → world_with b false ≡ new_world t
@@ -82,9 +83,9 @@ load_does w base t side handle hw hp hm hc hr =
     }
 
 -- a stamp's order tells whether a reset goes back
-pub back_is : (t now : Timestamp) {o p : Ordering} → o ≡ order_of t.0 now.0 → o ≡ p → is_less p ≡ resets_back t now
+pub back_is : (t now : Timestamp) {o : Ordering} → o ≡ order_of t.0 now.0 → is_lt o ≡ resets_back t now
 unfolding resets_back
-back_is t now h e = ap is_less (sym e ∙ h)
+back_is t now h = ap is_lt h
 
 -- a reset that goes back
 pub reset_back : (w : Simulation) (t : Timestamp) (side : ℕ) {place : ℕ} {was last : List ℕ} {m : Moved} {a : Applied}

@@ -1,9 +1,8 @@
 -- One world: a step, a load and a reset, as document 01 has them under "src/world/simulation.rs". What is done to a world is told by words.
 -- Definitions only. Assumes nothing.
+use Rattle.std.specs.Ordering.{is_lt}
 use Rattle.std.specs.Prelude.{ℕ, Bool, true, false, cond, List, [], ◌∷◌, ◌++◌, ◌≡◌, length}
 use Rattle.timestamp.specs.declared.Timestamp.{Timestamp}
-use Rattle.timestamp.specs.declared.Ordering.{Ordering}
-use Rattle.timestamp.specs.declared.Ordering.TheVariants.{Less, Equal, Greater}
 use Rattle.timestamp.specs.Timestamps.{sum_of, order_of}
 use Rattle.tape.specs.Tape.{Puts}
 use Rattle.tape.specs.Words.{step_word, snapshot_word}
@@ -48,15 +47,9 @@ step_of w side =
       leftout = (moved_of (rest_of w.commands (next_stamp w.commands.timestamp)) (next_stamp w.commands.timestamp)).dropped;
     }
 
--- an order is Less
-abbrev pub is_less : Ordering → Bool
-is_less Less = true
-is_less Equal = false
-is_less Greater = false
-
 -- a reset from the stamp `now` to the stamp t goes back
 unfoldable pub resets_back : Timestamp → Timestamp → Bool
-resets_back t now = is_less (order_of t.0 now.0)
+resets_back t now = is_lt (order_of t.0 now.0)
 
 -- a world whose midpoint was moved, and that applies nothing
 abbrev pub kept_of : Simulation → Timestamp → Done

@@ -7,7 +7,7 @@ ghost use Rattle.std.specs.Prelude.{◌≡◌, ◌<◌};
 ghost use Rattle.simulation.specs.World.{new_world, scheduled_of, step_of, resets_back, reset_of, load_of, Does, Loads};
 
 use command::CommandBuffer;
-use timestamp::{Ordering, Timestamp};
+use timestamp::Timestamp;
 
 #[derive(Clone, Copy)]
 pub struct Simulation {
@@ -167,9 +167,5 @@ pub fn reset_last_completed_timestamp(
 pub fn resets_back(stamp: Timestamp, now: Timestamp) -> bool
     ensures { result ≡ resets_back stamp now }
 {
-    match stamp.cmp(now) {
-        Ordering::Less => true,
-        Ordering::Equal => false,
-        Ordering::Greater => false,
-    }
+    stamp.cmp(now).is_lt()
 }

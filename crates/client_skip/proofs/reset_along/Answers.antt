@@ -1,11 +1,12 @@
 -- `reset_along` meets its contract: equal stamps decide. Assumes nothing.
+use Rattle.std.proofs.Common.{sym, ◌∙◌}
 use Rattle.client_skip.proofs.Skipping.{along_plays, along_stays}
 use Rattle.client_skip.proofs.reset_along.Goals as goal
 
-pub returns-then-new-old : goal.returns-then-new-old
-returns-then-new-old c =
-    along_plays _ _ c.last_completed_timestamp-old.ensures c.new_timestamp-new.ensures c.if-new-old.true c.new_side.ensures c.reset_side.ensures
+pub returns-then-eq : goal.returns-then-eq
+returns-then-eq c =
+    along_plays _ _ c.last_completed_timestamp-old.ensures c.new_timestamp-new.ensures (sym c.eq.ensures ∙ c.if-eq.true) c.new_side.ensures c.reset_side.ensures
 
 pub returns : goal.returns
 returns c =
-    along_stays _ _ c.last_completed_timestamp-old.ensures c.new_timestamp-new.ensures c.if-new-old.false
+    along_stays _ _ c.last_completed_timestamp-old.ensures c.new_timestamp-new.ensures (sym c.eq.ensures ∙ c.if-eq.false)

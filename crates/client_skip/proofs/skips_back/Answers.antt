@@ -1,12 +1,7 @@
 -- `skips_back` meets its contract: the order decides. Assumes nothing.
-use Rattle.client_skip.proofs.Skipping.{skips-rules}
+use Rattle.std.proofs.Common.{◌∙◌}
+use Rattle.client_skip.proofs.Skipping.{skips_is}
 use Rattle.client_skip.proofs.skips_back.Goals as goal
 
-pub returns-in-Less : goal.returns-in-Less
-returns-in-Less c = search skips-rules
-
-pub returns-in-Equal : goal.returns-in-Equal
-returns-in-Equal c = search skips-rules
-
-pub returns-in-Greater : goal.returns-in-Greater
-returns-in-Greater c = search skips-rules
+pub returns : goal.returns
+returns c = c.is_lt.ensures ∙ skips_is _ _ c.cmp.ensures

@@ -1,5 +1,5 @@
 -- `infer_current_reconciliation_status` meets its contract: the tests in their order. Assumes nothing.
-use Rattle.std.proofs.Common.{sym, refl, ◌∙◌, eq-eqb, ne_eqb}
+use Rattle.std.proofs.Common.{sym, refl, ◌∙◌}
 use lib.Ieee.{of_bits}
 use Rattle.client.proofs.Judging.{status_is}
 use Rattle.client.proofs.status.infer_current_reconciliation_status.Goals as goal
@@ -8,16 +8,16 @@ pub returns-then-t : goal.returns-then-t
 unfolding of_bits
 returns-then-t c =
     status_is _ c.last_completed_timestamp-old.ensures c.new_timestamp-new.ensures
-    (eq-eqb _ _ c.if-new-old.true)
+    (sym c.eq.ensures ∙ c.if-eq.true)
     c.if-t.true
     refl
     refl
 
-pub returns-then-new-old : goal.returns-then-new-old
+pub returns-then-eq : goal.returns-then-eq
 unfolding of_bits
-returns-then-new-old c =
+returns-then-eq c =
     status_is _ c.last_completed_timestamp-old.ensures c.new_timestamp-new.ensures
-    (eq-eqb _ _ c.if-new-old.true)
+    (sym c.eq.ensures ∙ c.if-eq.true)
     c.if-t.false
     refl
     refl
@@ -26,7 +26,7 @@ pub returns-then-is_overshot : goal.returns-then-is_overshot
 returns-then-is_overshot c =
     status_is _ c.last_completed_timestamp-old.ensures
     c.new_timestamp-new.ensures
-    (ne_eqb _ _ c.if-new-old.false)
+    (sym c.eq.ensures ∙ c.if-eq.false)
     refl
     (sym c.is_overshot.ensures ∙ c.if-is_overshot.true)
     refl
@@ -35,7 +35,7 @@ pub returns-then-is_snapshot_newer : goal.returns-then-is_snapshot_newer
 returns-then-is_snapshot_newer c =
     status_is _ c.last_completed_timestamp-old.ensures
     c.new_timestamp-new.ensures
-    (ne_eqb _ _ c.if-new-old.false)
+    (sym c.eq.ensures ∙ c.if-eq.false)
     refl
     (sym c.is_overshot.ensures ∙ c.if-is_overshot.false)
     (sym c.is_snapshot_newer.ensures ∙ c.if-is_snapshot_newer.true)
@@ -44,7 +44,7 @@ pub returns : goal.returns
 returns c =
     status_is _ c.last_completed_timestamp-old.ensures
     c.new_timestamp-new.ensures
-    (ne_eqb _ _ c.if-new-old.false)
+    (sym c.eq.ensures ∙ c.if-eq.false)
     refl
     (sym c.is_overshot.ensures ∙ c.if-is_overshot.false)
     (sym c.is_snapshot_newer.ensures ∙ c.if-is_snapshot_newer.false)
