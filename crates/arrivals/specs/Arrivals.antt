@@ -6,7 +6,7 @@ use Rattle.command.specs.Slots.{buffer_at, AllSlots}
 use Rattle.slots_insert.specs.Insertions.{Offers}
 use Rattle.simulation.specs.World.{world_with}
 use Rattle.client.specs.declared.Scene.{Scene}
-use Rattle.client.specs.declared.Received.{Received}
+use Rattle.client_receive.specs.Receive.{Received}
 use Rattle.client.specs.Ledgers.{with_held}
 use Rattle.client.specs.Sides.{with_left, with_right, with_base, with_worlds, with_ledgers}
 use Rattle.client_receive.specs.Receive.{also_full, received_of}

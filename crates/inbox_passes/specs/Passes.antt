@@ -8,7 +8,7 @@ use Rattle.inbox.specs.Passes.{over}
 use Rattle.command.specs.Entries.{entry_of}
 use Rattle.clocksync.specs.declared.Heard.{Heard}
 use Rattle.clocksync.specs.Clock.{heard_of}
-use Rattle.client.specs.declared.Received.{Received}
+use Rattle.client_receive.specs.Receive.{Received}
 use Rattle.client.specs.declared.Snapshots.{Snapshots}
 use Rattle.client.specs.declared.ClientWorldSimulations.{ClientWorldSimulations}
 use Rattle.client_receive.specs.Receive.{received_of, also_full, snapshots_of, notes_of}

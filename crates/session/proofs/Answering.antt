@@ -23,7 +23,7 @@ use Rattle.inbox_refusal.specs.Refusal.{refusal_of}
 use Rattle.tape.specs.Tape.{cleared}
 use Rattle.tape.proofs.Writing.{puts-length, cleared_after}
 use Rattle.client.specs.declared.ClientWorldSimulations.{ClientWorldSimulations}
-use Rattle.client.specs.declared.Received.{Received}
+use Rattle.client_receive.specs.Receive.{Received}
 use Rattle.client.specs.declared.Scene.{Scene}
 use Rattle.client.specs.Sides.{with_worlds}
 use Rattle.client_receive.specs.Receive.{none_received}

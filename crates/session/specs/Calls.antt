@@ -11,7 +11,7 @@ use Rattle.clocksync.specs.declared.Clock.{Clock}
 use Rattle.clocksync.specs.Clock.{new_of, ticked_of, listen_of, settled_of, server_seconds_of}
 use Rattle.inbox_refusal.specs.Refusal.{refusal_of}
 use Rattle.client.specs.declared.Scene.{Scene}
-use Rattle.client.specs.declared.Received.{Received}
+use Rattle.client_receive.specs.Receive.{Received}
 use Rattle.client.specs.Sides.{new_worlds_of, with_worlds}
 use Rattle.client_receive.specs.Receive.{none_received}
 use Rattle.client_publish.specs.Ending.{weight_ok}

@@ -3,7 +3,7 @@
 use Rattle.std.specs.Prelude.{ℕ, List, leb, Float}
 use Rattle.refusals.specs.Refusals.{end_refusal_by}
 use Rattle.clocksync.specs.declared.Clock.{Clock}
-use Rattle.client.specs.declared.Received.{Received}
+use Rattle.client_receive.specs.Receive.{Received}
 use Rattle.client_publish.specs.Ending.{weight_ok}
 use Rattle.timestamp.specs.Floats.{tween_of}
 use Rattle.fixed_timestepper.specs.declared.Advanced.{Advanced}

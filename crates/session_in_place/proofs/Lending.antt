@@ -34,7 +34,7 @@ use Rattle.inbox_scan.specs.declared.Scan.{Scan}
 use Rattle.inbox_scan.specs.Scan.{has_command, kept_in, Scans}
 use Rattle.inbox_scan.proofs.Scanning.{noted_kept}
 use Rattle.client.specs.declared.Snapshots.{Snapshots}
-use Rattle.client.specs.declared.Received.{Received}
+use Rattle.client_receive.specs.Receive.{Received}
 use Rattle.client.specs.Sides.{with_snapshots}
 use Rattle.client_publish.specs.Ending.{weight_ok, post_update_of}
 use Rattle.client_receive.specs.Receive.{none_received}

@@ -9,7 +9,7 @@ use Rattle.refusals.specs.Limits.{handle_room}
 use Rattle.refusals.specs.Refusals.{issue_refusal_by}
 use Rattle.timestamp.specs.declared.Timestamp.{Timestamp}
 use Rattle.timestamp.specs.Timestamps.{sum_of}
-use Rattle.client.specs.declared.Received.{Received}
+use Rattle.client_receive.specs.Receive.{Received}
 use Rattle.client.specs.declared.Scene.{Scene}
 use Rattle.client.specs.Sides.{old_stamp_of}
 use Rattle.client_receive.specs.Receive.{received_of}

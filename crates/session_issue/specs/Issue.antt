@@ -5,7 +5,7 @@ use Rattle.refusals.specs.Limits.{handle_room}
 use Rattle.refusals.specs.Refusals.{accepted, issue_refusal_by}
 use Rattle.timestamp.specs.Timestamps.{sum_of}
 use Rattle.command.specs.Entries.{Entry, entry_of}
-use Rattle.client.specs.declared.Received.{Received}
+use Rattle.client_receive.specs.Receive.{Received}
 use Rattle.timestamp.specs.declared.Timestamp.{Timestamp}
 use Rattle.client.specs.Ledgers.{empty_ledger, closed_of}
 use Rattle.client.specs.Sides.{old_stamp_of}

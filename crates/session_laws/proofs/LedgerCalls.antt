@@ -24,7 +24,7 @@ use Rattle.client.specs.declared.ClientWorldSimulations.{ClientWorldSimulations}
 use Rattle.std.specs.Prelude.{Option, Some, None}
 use Rattle.client.specs.declared.Ledger.{Ledger}
 use Rattle.client.specs.declared.Scene.{Scene}
-use Rattle.client.specs.declared.Received.{Received}
+use Rattle.client_receive.specs.Receive.{Received}
 use Rattle.client.specs.Ledgers.{empty_ledger}
 use Rattle.client.specs.Sides.{world_of, ledger_of}
 use Rattle.session_state.specs.Session.{with_worlds_of}

@@ -41,7 +41,7 @@ use Rattle.clocksync.proofs.Ready.{ready_id, heard_id, ready_stays, first_offset
 use Rattle.command.specs.Entries.{entry_of}
 use Rattle.command.proofs.Entries.{entry_plain}
 use Rattle.client.specs.declared.ClientWorldSimulations.{ClientWorldSimulations}
-use Rattle.client.specs.declared.Received.{Received}
+use Rattle.client_receive.specs.Receive.{Received}
 use Rattle.client.specs.Sides.{new_side_of, old_side_of, world_of, old_stamp_of, new_stamp_of}
 use Rattle.session_laws.specs.Soundness.{FloatsFit}
 use Rattle.session_laws.proofs.SoundWorlds.{SmallQueued, InitOrder, Kept, Weighed, is_nought, is_even, received_kept, received_weighed, noted_kept}

@@ -14,7 +14,7 @@ use Rattle.settings.proofs.Limits.{steps_few}
 use Rattle.command.specs.Entries.{entry_of}
 use Rattle.client.specs.declared.ClientWorldSimulations.{ClientWorldSimulations}
 use Rattle.client.specs.declared.Scene.{Scene}
-use Rattle.client.specs.declared.Received.{Received}
+use Rattle.client_receive.specs.Receive.{Received}
 use Rattle.session_laws.proofs.TraceFrames.{QueuedFits, Fitting}
 use Rattle.session_laws.proofs.TraceArrivals.{Alike, alike_self, alike_then, alike_fitting, Offers, offers_self, offers_then, offers, notes_alike}
 use Rattle.session_laws.proofs.TraceArrivals.{notes_fit}

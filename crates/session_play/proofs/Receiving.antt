@@ -11,7 +11,7 @@ use Rattle.inbox.specs.Inbox.{messages_of, some}
 use Rattle.inbox.specs.Passes.{over}
 use Rattle.inbox_passes.specs.Passes.{receive_one, received_in}
 use Rattle.inbox_scan.specs.Scan.{is_command, has_command}
-use Rattle.client.specs.declared.Received.{Received}
+use Rattle.client_receive.specs.Receive.{Received}
 use Rattle.arrivals.specs.declared.Arrived.{Arrived}
 use Rattle.arrivals.specs.declared.Midpoints.{Midpoints}
 use Rattle.arrivals.specs.Arrivals.{received_at, Ready, ReceivesAll}

@@ -12,8 +12,8 @@ use Rattle.timestamp.specs.declared.Timestamp.{Timestamp}
 use Rattle.command.specs.Entries.{Entry}
 use Rattle.command.specs.Lists.{filter_b}
 use Rattle.command.specs.declared.CommandBuffer.{CommandBuffer}
-use Rattle.command.specs.declared.Drained.{Drained}
-use Rattle.command.specs.declared.Moved.{Moved}
+use Rattle.command.specs.Buffer.{Drained}
+use Rattle.command.specs.Buffer.{Moved}
 use Rattle.command.specs.Buffer.{held, laid, leaving, around, moved_of, taken_of, rest_of, emptied_of}
 use Rattle.command.specs.Ranks.{rank_within, sifted_of}
 use Rattle.command.specs.Soundness.{sound_buffer}

@@ -8,7 +8,7 @@ use lib.ListN.{length, take, replicate, length-append, length-replicate}
 use lib.Seq.{take_at, length-take-le}
 use borrow.Author.Tests.{lt-ltb}
 use Rattle.timestamp.specs.declared.Timestamp.{Timestamp}
-use Rattle.command.specs.declared.Insertion.{Insertion}
+use Rattle.command.specs.Buffer.{Insertion}
 use Rattle.command.specs.declared.Outcome.{Outcome}
 use Rattle.command.specs.declared.Outcome.TheVariants.{Taken, OutOfRange, Full}
 use Rattle.command.specs.Entries.{Entry, plain_entry}

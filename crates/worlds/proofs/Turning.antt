@@ -14,7 +14,7 @@ use Rattle.tape.specs.Words.{step_word}
 use Rattle.tape.proofs.Writing.{puts_none, puts_then, puts_as}
 use Rattle.command.specs.Entries.{Entry}
 use Rattle.command.specs.declared.CommandBuffer.{CommandBuffer}
-use Rattle.command.specs.declared.Moved.{Moved}
+use Rattle.command.specs.Buffer.{Moved}
 use Rattle.command.specs.Buffer.{held, moved_of, taken_of, rest_of, emptied_of, command_words}
 use Rattle.command.specs.Soundness.{sound_buffer}
 use Rattle.command.specs.Slots.{buffer_at, Lent}
