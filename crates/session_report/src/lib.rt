@@ -5,13 +5,14 @@ ghost use Rattle.std.specs.Prelude.{◌≡◌};
 ghost use Rattle.session_report.specs.Report.{unreported, reported_of, report_of};
 
 use client::{DisplayTime, ReconciliationStatus, sides, status};
+use refusals::{Refusal, Verdict};
 use session_state::{Session, Stage};
 use timestamp::Timestamp;
 
 // The answer of `report`.
 #[derive(Clone, Copy)]
 pub struct ReportAnswer {
-    pub refusal: u32,
+    pub refusal: Verdict,
     pub stage: Stage,
     pub status: ReconciliationStatus,
     pub old: Timestamp,
@@ -20,19 +21,16 @@ pub struct ReportAnswer {
 }
 
 // A refused report.
-fn refuse_report(refusal: u32) -> ReportAnswer
+pub fn refuse_report(refusal: Refusal) -> ReportAnswer
     ensures { result ≡ unreported refusal }
 {
-    let stage = Stage::SyncingClock;
-    let status = ReconciliationStatus::AwaitingSnapshot;
-    let time = DisplayTime::NotDisplayed;
     ReportAnswer {
-        refusal,
-        stage,
-        status,
+        refusal: Err(refusal),
+        stage: Stage::SyncingClock,
+        status: ReconciliationStatus::AwaitingSnapshot,
         old: Timestamp(0),
         new: Timestamp(0),
-        time,
+        time: DisplayTime::NotDisplayed,
     }
 }
 
@@ -41,17 +39,13 @@ fn report_worlds(session: Session) -> ReportAnswer
     ensures { result ≡ reported_of session }
 {
     let worlds = session.worlds;
-    let stage = session.stage;
-    let status = status::infer_current_reconciliation_status(worlds);
-    let published = worlds.published;
-    let time = published.time;
     ReportAnswer {
-        refusal: refusals::ACCEPTED,
-        stage,
-        status,
+        refusal: Ok(()),
+        stage: session.stage,
+        status: status::infer_current_reconciliation_status(worlds),
         old: sides::last_completed_timestamp(worlds),
         new: sides::new_timestamp(worlds),
-        time,
+        time: worlds.published.time,
     }
 }
 
@@ -59,13 +53,12 @@ fn report_worlds(session: Session) -> ReportAnswer
 pub fn report(session: Session) -> ReportAnswer
     ensures { result ≡ report_of session }
 {
-    let stage = session.stage;
-    let n = refusals::of_report(
+    let verdict = refusals::of_report(
         session_state::is_sound(session),
-        session_state::has_worlds(stage),
+        session_state::has_worlds(session.stage),
     );
-    if n != refusals::ACCEPTED {
-        return refuse_report(n);
+    match verdict {
+        Ok(()) => report_worlds(session),
+        Err(refusal) => refuse_report(refusal),
     }
-    report_worlds(session)
 }
