@@ -8,7 +8,7 @@ ghost use Rattle.command.specs.Buffer.{taken_by};
 ghost use Rattle.arrivals.specs.Arrivals.{Ready, Receives, ReceivesAll};
 ghost use Rattle.arrivals.specs.Inner.{cleaned_by, holds_more, full_after, arrived_by, Few, ReceivesOne};
 
-use client::{Ledger, ledgers};
+use client::Ledger;
 use command::Outcome;
 use inbox::{Message, Reader, Reading};
 use timestamp::Timestamp;
@@ -51,10 +51,9 @@ pub(crate) fn take(l: Ledger, o: Outcome) -> Ledger
     ensures { result ≡ holds_more l (taken_by o) }
 {
     let n = client_receive::taken_by(o);
-    Ledger {
-        held: l.held + n,
-        ..ledgers::count_taken(l, n)
-    }
+    let mut t = l;
+    t.count_taken(n);
+    t.holding(l.held + n)
 }
 
 // Whether one of three insertions found its buffer full, or one did before.

@@ -66,7 +66,7 @@ module _ {n : Numbers} {f : Frame} {v w : Books} {t : Timestamp} {l r b l₁ r�
     (p : PlaysFrame n f v t l r b was w l₁ r₁ b₁ last) (rules : Rules) (h : f ≡ decided_of rules n) where
   -- it is the frame of the scene, with the stop that was decided
   pub frame_at : (k : Fixed) → k.midpoint ≡ t → Frames (frame_of rules (scene_with k n v l r b)) (frame_stops rules (scene_with k n v l r b)) was v.at
-      (record { scene = scene_with k f.next w l₁ r₁ b₁; at = w.at; stops = f.stops }) last
+      (scene_with k f.next w l₁ r₁ b₁) (record { at = w.at; stops = f.stops }) last
   frame_at k e =
       let q = p.plays k rules e h in
       let d = decides_as rules (scene_with k n v l r b) (numbers_at k n v.left v.right v.base l r b) h in
@@ -78,7 +78,7 @@ module _ {n m : Numbers} {to : Timestamp} {v w : Books} {t : Timestamp} {l r b l
     (p : PlaysSkip n to v t l r b was w l₁ r₁ b₁ last) (h : m ≡ skipped_numbers n to) where
   -- it is the skip of the scene
   pub skip_at : (k : Fixed) → k.midpoint ≡ t
-      → Plays (skipped_of (scene_with k n v l r b) to) was v.at (record { scene = scene_with k m w l₁ r₁ b₁; at = w.at }) last
+      → Plays (skipped_of (scene_with k n v l r b) to) was v.at (scene_with k m w l₁ r₁ b₁) w.at last
   skip_at k e =
       let q = p.plays k e in
       record { scene = ap (λ (x : Numbers). scene_with k x w l₁ r₁ b₁) h ∙ q.scene; puts = q.puts }

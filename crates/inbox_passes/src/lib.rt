@@ -2,9 +2,10 @@
 #![tactic(auto)]
 
 ghost use Rattle.std.specs.Prelude.{◌≡◌};
+ghost use Rattle.client_receive.specs.Receive.{none_received};
 ghost use Rattle.inbox_passes.specs.Passes.{is_for_worlds, has_for_worlds, hear_one, heard_in, receive_one, received_in, keep_one, noted_in};
 
-use client::{ClientWorldSimulations, Received, Snapshots, sides};
+use client::{ClientWorldSimulations, Scene, Snapshots};
 use clocksync::Heard;
 use inbox::{Message, Reader, Reading};
 use timestamp::Timestamp;
@@ -44,44 +45,37 @@ fn hear_one(heard: Heard, message: Reading, seconds: f64) -> Heard
     }
 }
 
-// The commands of an inbox, in their order.
-#[tactic(auto, unfolding(crate::specs::Passes::received_in))]
-pub fn receive_commands(words: &[u32], start: Received) -> Received
-    ensures { result ≡ received_in words.now start }
+// The commands of an inbox, in their order. Gives whether a buffer that takes one of them was full.
+pub fn receive_commands(words: &[u32], scene: &mut Scene) -> bool
+    ensures { record { scene = scene.new; full = result } ≡ received_in words.now (none_received scene.old) }
 {
-    Reader::new(words).fold(start, receive_one)
+    let mut full = false;
+    for message in Reader::new(words) {
+        full = receive_one(scene, full, message);
+    }
+    full
 }
 
 // A command is received; any other message is passed over. Once a buffer was full it stays said.
-fn receive_one(received: Received, message: Reading) -> Received
-    ensures { result ≡ receive_one received message }
+fn receive_one(scene: &mut Scene, full: bool, message: Reading) -> bool
+    ensures { record { scene = scene.new; full = result } ≡ receive_one (record { scene = scene.old; full = full }) message }
 {
-    match message {
-        Ok(Message::Command { stamp, handle }) => {
-            let next = client_receive::receive_command(
-                received.scene,
-                command::entry_of(stamp, handle),
-            );
-            Received {
-                full: received.full || next.full,
-                ..next
-            }
-        }
-        _ => received,
-    }
+    let Ok(Message::Command { stamp, handle }) = message else {
+        return full;
+    };
+    let filled = client_receive::receive_command(scene, command::entry_of(stamp, handle));
+    full || filled
 }
 
 // The snapshots of an inbox, in their order. Only the worlds' snapshots change, so that the pass carries these and not the worlds.
-
-pub fn receive_snapshots(words: &[u32], start: ClientWorldSimulations) -> ClientWorldSimulations
-    ensures { result ≡ noted_in words.now start }
+pub fn receive_snapshots(words: &[u32], worlds: &mut ClientWorldSimulations)
+    ensures { worlds.exit.now ≡ noted_in words.now worlds.entry.now }
 {
-    let old = sides::last_completed_timestamp(start);
-    let snapshots = Reader::new(words).fold(
-        start.snapshots,
+    let old = worlds.last_completed_timestamp();
+    worlds.snapshots = Reader::new(words).fold(
+        worlds.snapshots,
         |snapshots, message| keep_one(snapshots, message, old),
     );
-    ClientWorldSimulations { snapshots, ..start }
 }
 
 // A snapshot is received by a client of the stamp `old`; any other message is passed over.

@@ -5,7 +5,7 @@ ghost use Rattle.std.specs.Prelude.{length};
 ghost use Rattle.session_answers.specs.Answers.{unplayed_of, refused_with, Updates};
 ghost use Rattle.session_answers.specs.Inner.{accepted_by};
 
-use client::{Ledger, ledgers};
+use client::Ledger;
 use clocksync::Clock;
 use fixed_timestepper::Advanced;
 use refusals::{Refusal, Verdict};
@@ -42,8 +42,8 @@ pub fn unplayed(refusal: Verdict, session: Session, request: bool, tape: &mut [u
         frames: 0,
         steps: 0,
         request,
-        left: ledgers::empty_ledger(),
-        right: ledgers::empty_ledger(),
+        left: Ledger::empty(),
+        right: Ledger::empty(),
         words: 0,
     }
 }
@@ -80,8 +80,8 @@ pub fn accept(
         frames: a.frames,
         steps: scene.steps,
         request,
-        left: ledgers::closed(scene.left, worlds.left.commands),
-        right: ledgers::closed(scene.right, worlds.right.commands),
+        left: scene.left.closed(&worlds.left.commands),
+        right: scene.right.closed(&worlds.right.commands),
         words: a.at,
     }
 }

@@ -3,8 +3,9 @@
 
 ghost use Rattle.std.specs.Prelude.{◌≡◌};
 ghost use Rattle.session_issue.specs.Issue.{unissued, issued_of, issue_of};
+ghost use Rattle.client_receive.specs.Receive.{none_received};
 
-use client::{Ledger, Received, ledgers, sides};
+use client::{Ledger, Scene};
 use refusals::{Refusal, Verdict};
 use session_state::Session;
 use timestamp::Timestamp;
@@ -27,16 +28,15 @@ pub fn refuse_issue(refusal: Refusal, session: Session) -> IssueAnswer
         refusal: Err(refusal),
         session,
         stamp: Timestamp(0),
-        left: ledgers::empty_ledger(),
-        right: ledgers::empty_ledger(),
+        left: Ledger::empty(),
+        right: Ledger::empty(),
     }
 }
 
 // The answer to a command that the worlds of a ready session received.
-fn accept_issue(session: Session, stamp: Timestamp, got: Received) -> IssueAnswer
-    ensures { result ≡ issued_of session stamp got }
+fn accept_issue(session: Session, stamp: Timestamp, after: Scene) -> IssueAnswer
+    ensures { result ≡ issued_of session stamp (none_received after) }
 {
-    let after = got.scene;
     IssueAnswer {
         refusal: Ok(()),
         session: Session {
@@ -44,8 +44,8 @@ fn accept_issue(session: Session, stamp: Timestamp, got: Received) -> IssueAnswe
             ..session
         },
         stamp,
-        left: ledgers::closed(after.left, after.worlds.left.commands),
-        right: ledgers::closed(after.right, after.worlds.right.commands),
+        left: after.left.closed(&after.worlds.left.commands),
+        right: after.right.closed(&after.worlds.right.commands),
     }
 }
 
@@ -53,20 +53,18 @@ fn accept_issue(session: Session, stamp: Timestamp, got: Received) -> IssueAnswe
 pub fn issue(session: Session, handle: u32) -> IssueAnswer
     ensures { result ≡ issue_of session handle }
 {
-    let stamp = sides::last_completed_timestamp(session.worlds).add(1);
-    let r = client_receive::receive_command(
-        session_state::scene_of(session),
-        command::entry_of(stamp, handle),
-    );
+    let stamp = session.worlds.last_completed_timestamp().add(1);
+    let mut scene = session_state::scene_of(session);
+    let full = client_receive::receive_command(&mut scene, command::entry_of(stamp, handle));
     let verdict = refusals::of_issue(
         handle < refusals::HANDLE_ROOM,
         session_state::is_sound(session),
         session_state::has_worlds(session.stage),
-        r.full,
+        full,
         session_state::is_ready(session.stage),
     );
     match verdict {
-        Ok(()) => accept_issue(session, stamp, r),
+        Ok(()) => accept_issue(session, stamp, scene),
         Err(refusal) => refuse_issue(refusal, session),
     }
 }

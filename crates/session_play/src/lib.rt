@@ -13,7 +13,7 @@ ghost use Rattle.session_play.specs.Play.{WorldsLent, opened_with, unarrived_of,
 ghost use Rattle.session_play.specs.Play.{left_in, right_in, Ends};
 
 use arrivals::{Arrived, Midpoints};
-use client::{Ledger, Published, QueuedSnapshot, Snapshots, ledgers};
+use client::{Ledger, Published, QueuedSnapshot, Snapshots};
 use client_numbers::Numbers;
 use client_publish::ending;
 use frames::Advanced;
@@ -26,9 +26,7 @@ use timestamp::Timestamp;
 pub(crate) fn opened(held: usize) -> Ledger
     ensures { result ≡ opened_with held }
 {
-    let mut l = ledgers::empty_ledger();
-    l.held = held;
-    l
+    Ledger::empty().holding(held)
 }
 
 // What has arrived before anything did: the counts of the buffers, with empty ledgers.

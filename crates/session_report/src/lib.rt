@@ -4,7 +4,7 @@
 ghost use Rattle.std.specs.Prelude.{◌≡◌};
 ghost use Rattle.session_report.specs.Report.{unreported, reported_of, report_of};
 
-use client::{ReconciliationStatus, sides, status, DisplayTime};
+use client::ReconciliationStatus;
 use refusals::{Refusal, Verdict};
 use session_state::{Session, Stage};
 use timestamp::Timestamp;
@@ -42,9 +42,9 @@ fn report_worlds(session: Session) -> ReportAnswer
     ReportAnswer {
         refusal: Ok(()),
         stage: session.stage,
-        status: status::infer_current_reconciliation_status(worlds),
-        old: sides::last_completed_timestamp(worlds),
-        new: sides::new_timestamp(worlds),
+        status: worlds.infer_current_reconciliation_status(),
+        old: worlds.last_completed_timestamp(),
+        new: worlds.new_timestamp(),
         time: worlds.published.time,
     }
 }

@@ -5,6 +5,7 @@
 ghost use Rattle.std.specs.Prelude.{◌≡◌};
 ghost use Rattle.session_stage.specs.Stage.{synced_of, stage_after};
 
+use client::ClientWorldSimulations;
 use clocksync::Clock;
 use session_state::{Session, Stage};
 use timestamp::Timestamp;
@@ -18,7 +19,10 @@ pub fn synced(session: Session, clock: Clock, seconds: f64) -> Session
             return session;
         };
         let stage = Stage::SyncingInitialState;
-        let worlds = client::new(Timestamp::from_seconds(server, session.settings.timestep));
+        let worlds = ClientWorldSimulations::new(Timestamp::from_seconds(
+            server,
+            session.settings.timestep,
+        ));
         return session_state::session_with(session, stage, clock, worlds, 0.0);
     }
     let mut s = session;

@@ -7,7 +7,7 @@ ghost use Rattle.command.specs.Soundness.{sound_buffer};
 ghost use Rattle.session_state.specs.Session.{has_worlds, is_ready, starting_of, session_with, scene_of};
 ghost use Rattle.session_state.specs.Sound.{queued_sound, weight_sound, init_sound, buffers_sound, worlds_sound, overshoot_sound, connected_of, sound_of};
 
-use client::{ClientWorldSimulations, QueuedSnapshot, Scene, ledgers, sides};
+use client::{ClientWorldSimulations, Ledger, QueuedSnapshot, Scene};
 use clocksync::Clock;
 use command::CommandBuffer;
 use settings::Settings;
@@ -64,8 +64,8 @@ pub(crate) fn weight_sound(w: ClientWorldSimulations) -> bool
     ensures { result ≡ weight_sound w }
 {
     let t = w.weight;
-    let old = sides::last_completed_timestamp(w);
-    let new = sides::new_timestamp(w);
+    let old = w.last_completed_timestamp();
+    let new = w.new_timestamp();
     if old.0 == new.0 {
         if t >= 0.0 {
             return t <= 1.0;
@@ -79,8 +79,8 @@ pub(crate) fn weight_sound(w: ClientWorldSimulations) -> bool
 pub(crate) fn init_sound(w: ClientWorldSimulations) -> bool
     ensures { result ≡ init_sound w }
 {
-    let old = sides::get_side(w, sides::old_side(w));
-    let new = sides::get_side(w, sides::new_side(w));
+    let old = w.get_side(w.old_side());
+    let new = w.get_side(w.new_side());
     if old.init {
         return new.init;
     }
@@ -95,7 +95,7 @@ pub(crate) fn buffer_sound(b: CommandBuffer) -> bool
     if n == 0 {
         return true;
     }
-    command::sound(b)
+    b.is_sound()
 }
 
 // The three buffers are sound.
@@ -179,8 +179,8 @@ pub fn scene_of(session: Session) -> Scene
     let worlds = session.worlds;
     Scene {
         worlds,
-        left: ledgers::empty_ledger(),
-        right: ledgers::empty_ledger(),
+        left: Ledger::empty(),
+        right: Ledger::empty(),
         steps: 0,
     }
 }

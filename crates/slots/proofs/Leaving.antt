@@ -52,7 +52,7 @@ module _ {e : List Entry} {n : ℕ} {t : Timestamp} (m : Timestamp) (lo hi : ℕ
       → Leaves (sifted_of (buffer_at e n t) m lo hi).buffer (sifted_of (buffer_at e n t) m lo hi).count n e r t
   sift_none z {r} h =
       let s = sifted_none (buffer_at e n t) m lo hi refl z in
-      let c : 0 ≡ (sifted_of (buffer_at e n t) m lo hi).count = ap (λ (d : Drained). d.count) s in
+      let c : 0 ≡ (sifted_of (buffer_at e n t) m lo hi).count = sym z ∙ ap (λ (d : Drained). d.count) s in
       record {
         slots = lent.slots;
         buffer = ap (λ (k : ℕ). buffer_at e k t) h ∙ ap (λ (d : Drained). d.buffer) s;

@@ -9,7 +9,7 @@ ghost use Rattle.command.specs.Slots.{buffer_at, Lent};
 ghost use Rattle.client.specs.Ledgers.{with_held, applies, loads};
 ghost use Rattle.worlds.specs.Turns.{step_turn, steps_turn, reset_turn, TurnsBy, LoadsBy};
 
-use client::{Ledger, ledgers};
+use client::Ledger;
 use timestamp::Timestamp;
 
 // A world's ledger after something was done to the world, and the next place on the tape.
@@ -23,9 +23,9 @@ pub struct Turned {
 pub(crate) fn counted(l: Ledger, held: usize, applied: usize, leftout: usize) -> Ledger
     ensures { result ≡ with_held (applies l applied leftout) held }
 {
-    let mut t = ledgers::count(l, applied, leftout);
-    t.held = held;
-    t
+    let mut t = l;
+    t.count(applied, leftout);
+    t.holding(held)
 }
 
 // A ledger with so many held, and so many more copied, replaced and left out.
@@ -38,9 +38,9 @@ pub(crate) fn loaded(
 ) -> Ledger
     ensures { result ≡ with_held (loads l copied replaced leftout) held }
 {
-    let mut t = ledgers::count_load(l, copied, replaced, leftout);
-    t.held = held;
-    t
+    let mut t = l;
+    t.count_load(copied, replaced, leftout);
+    t.holding(held)
 }
 
 // One frame: the commands up to it are applied, and the world steps.

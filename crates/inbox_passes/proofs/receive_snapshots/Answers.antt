@@ -9,7 +9,7 @@ use Rattle.inbox_passes.proofs.receive_snapshots.Goals as goal
 
 pub returns : goal.returns
 returns c =
-    let start = c.args.start in
+    let start = c.args.worlds.now in
     ap (with_snapshots start)
-    (passed _ (keep_one (old_stamp_of start)) start.snapshots _ c.new.ensures c.fold-snapshots.ensures.ran (λ a m b f k. search rules))
+    (passed _ (keep_one (old_stamp_of start)) start.snapshots _ c.new.ensures c.fold-worlds.ensures.ran (λ a m b f k. search rules))
     ∙ sym (noted_kept c.args.words.now start)

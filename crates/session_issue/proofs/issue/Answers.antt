@@ -7,9 +7,9 @@ pub returns-in-Ok : goal.returns-in-Ok
 returns-in-Ok c =
     issue_accepted _ _ c.last_completed_timestamp.ensures
     c.add-stamp.ensures
-    c.scene_of.ensures
+    c.scene_of-scene.ensures
     c.entry_of.ensures
-    c.receive_command-r.ensures
+    c.receive_command-full.ensures
     c.is_sound.ensures refl c.has_worlds.ensures
     c.is_ready.ensures c.of_issue-verdict.ensures
     c.in-Ok.is c.accept_issue.ensures
@@ -18,9 +18,9 @@ pub returns-in-Err : goal.returns-in-Err
 returns-in-Err c =
     issue_refused _ _ c.last_completed_timestamp.ensures
     c.add-stamp.ensures
-    c.scene_of.ensures
+    c.scene_of-scene.ensures
     c.entry_of.ensures
-    c.receive_command-r.ensures
+    c.receive_command-full.ensures
     c.is_sound.ensures refl c.has_worlds.ensures
     c.is_ready.ensures c.of_issue-verdict.ensures
     c.in-Err.is c.refuse_issue.ensures

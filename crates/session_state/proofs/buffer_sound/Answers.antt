@@ -13,4 +13,4 @@ pub returns-then-n-eq0 : goal.returns-then-n-eq0
 returns-then-n-eq0 c = empty-sound _ c.if-n-eq0.true
 
 pub returns : goal.returns
-returns c = c.sound.ensures
+returns c = c.is_sound.ensures

@@ -2,4 +2,4 @@
 use Rattle.session_state.proofs.scene_of.Goals as goal
 
 pub returns : goal.returns
-returns c = rw (c.empty_ledger.ensures, c.empty_ledger-2.ensures)
+returns c = rw (c.empty.ensures, c.empty-2.ensures)
