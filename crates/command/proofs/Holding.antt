@@ -4,15 +4,13 @@ use mathlib.Core.Path.{◌≡◌, refl, sym, ap, ◌∙◌}
 use mathlib.Core.List.{List, [], ◌∷◌, ◌++◌}
 use Prim.Native.Nat.{ℕ, ◌≤◌, ◌<◌}
 use native.Mathlib.Omega.{arith}
-use lib.ListN.{length, take, length-take}
+use lib.ListN.{length, length-take}
 use lib.Seq.{take-append_seam}
 use Rattle.timestamp.specs.declared.Timestamp.{Timestamp}
 use Rattle.command.specs.Entries.{Entry}
 use Rattle.command.specs.declared.CommandBuffer.{CommandBuffer}
 use Rattle.command.specs.Buffer.{held, blank, laid, leaving}
-use Rattle.command.specs.Lists.{filter_b}
-use Rattle.command.proofs.Lists.{InSlots, take-length-take, Counted}
-use mathlib.Core.Bool.{Bool}
+use Rattle.command.proofs.Lists.{InSlots}
 
 -- the entries of a buffer that is laid out are those that it was laid out from
 pub held_laid : (xs : List Entry) (t : Timestamp) → held (laid xs t) ≡ xs
@@ -29,20 +27,7 @@ pub len_laid : (xs : List Entry) (t : Timestamp) → (laid xs t).len ≡ length 
 unfolding laid
 len_laid xs t = refl
 
--- what a loop over as many slots as are held has passed is all that is held
-pub held-take : (b : CommandBuffer) {n : ℕ} → n ≡ length (held b) → take n b.entries ≡ held b
-held-take b {n} e = rw e (take-length-take b.len b.entries)
-
--- what a loop has counted once it has passed them all
-pub held_counted : (b : CommandBuffer) {p : Entry → Bool} {m i k r : ℕ} → Counted p b.entries m i k → i ≡ m → m ≡ length (held b) → r ≡ k
-    → r ≡ length (filter_b p (held b))
-held_counted b {p} {m} {i} {k} {r} s e f g = g ∙ s.count ∙ ap (λ (n : ℕ). length (filter_b p (take n b.entries))) e
-    ∙ ap (λ (l : List Entry). length (filter_b p l)) (held-take b f)
-
--- no more are held than there are slots, nor than the count says
-pub held_long : (b : CommandBuffer) {n : ℕ} → n ≡ length (held b) → n ≤ length b.entries
-held_long b {n} e = rw e (simp length-take (omega arith))
-
+-- no more are held than the count says, nor than there are slots
 pub held_len : (b : CommandBuffer) → length (held b) ≤ b.len
 held_len b = simp length-take (omega arith)
 
@@ -54,13 +39,6 @@ held_below b h = simp length-take (omega arith)
 
 pub held_full : (b : CommandBuffer) → length b.entries ≡ 64 → 64 ≤ b.len → 64 ≤ length (held b)
 held_full b slots h = simp length-take (omega arith)
-
--- how many are held, by the count
-pub held_is_len : (b : CommandBuffer) → length b.entries ≡ 64 → b.len < 64 → b.len ≡ length (held b)
-held_is_len b slots h = simp length-take (omega arith)
-
-pub held_is_full : (b : CommandBuffer) → length b.entries ≡ 64 → 64 ≤ b.len → 64 ≡ length (held b)
-held_is_full b slots h = simp length-take (omega arith)
 
 -- a buffer that is laid out whole, and back
 pub as_laid : (b : CommandBuffer) → b ≡ laid (held b) b.timestamp → InSlots 64 blank (held b) b.entries b.len

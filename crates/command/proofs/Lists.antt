@@ -8,6 +8,7 @@ use native.Mathlib.Omega.{arith}
 use native.Mathlib.Nat.{le_of_suc-le-suc, not-suc-le-zero}
 use lib.ListN.{length, take, drop, get_or, set, length-map, length-append, length-take, take-append-drop}
 use lib.Seq.{take-suc, take-take}
+use Rattle.std.proofs.lemmas.List.{take_all}
 use Rattle.command.specs.Lists.{filter_b, pad}
 
 module _ {A : Type 0} where
@@ -32,12 +33,6 @@ module _ {A : Type 0} where
             rw (l.slots, l.count) (pad_push n z ys y g);
         count = simp length-append (omega arith);
       }
-
-  -- a count beyond the list's length is cut to it
-  pub take-length-take : (n : ℕ) (l : List A) → take (length (take n l)) l ≡ take n l
-  take-length-take zero l = refl
-  take-length-take (suc n) [] = refl
-  take-length-take (suc n) (x ∷ l) = ap (λ (r : List A). x ∷ r) (take-length-take n l)
 
   -- ---- filters
 
@@ -116,55 +111,44 @@ module _ {A : Type 0} where
 
   -- ---- loops
 
-  -- what a loop keeps that lays out, after ys, those of the first m of xs that pass p: it has passed i of them, and k elements stand in out
-  pub record Sifted (ys : List A) (p : A → Bool) (xs : List A) (m n : ℕ) (z : A) (i : ℕ) (out : List A) (k : ℕ) : Type 0 where
+  -- what a loop keeps that lays out, after ys, those of xs that pass p: it has passed i of them, and k elements stand in out
+  pub record Sifted (ys : List A) (p : A → Bool) (xs : List A) (n : ℕ) (z : A) (i : ℕ) (out : List A) (k : ℕ) : Type 0 where
     pub laid : InSlots n z (ys ++ filter_b p (take i xs)) out k
-    pub room : length ys + length (filter_b p (take m xs)) ≤ n
-    pub most : i ≤ m
-    pub long : m ≤ length xs
+    pub room : length ys + length (filter_b p xs) ≤ n
 
-  pub sift_none : {ys : List A} (p : A → Bool) (xs : List A) (m : ℕ) {n : ℕ} {z : A} {out : List A} {k : ℕ} → InSlots n z ys out k
-      → length ys + length (filter_b p (take m xs)) ≤ n → m ≤ length xs → Sifted ys p xs m n z 0 out k
-  sift_none {ys} p xs m l h g = record { laid = rw append-nil l; room = h; most = omega arith; long = g }
+  pub sift_none : {ys : List A} (p : A → Bool) (xs : List A) {n : ℕ} {z : A} {out : List A} {k : ℕ} → InSlots n z ys out k
+      → length ys + length (filter_b p xs) ≤ n → Sifted ys p xs n z 0 out k
+  sift_none {ys} p xs l h = record { laid = rw append-nil l; room = h }
 
-  module _ {ys : List A} {p : A → Bool} {xs out : List A} {m n i k : ℕ} {z : A} (s : Sifted ys p xs m n z i out k) (d : A) (h : i < m) where
-    pub sift_room : p (get_or xs i d) ≡ true → k < n
-    sift_room e =
-        let a : length (filter_b p (take (i + 1) xs)) ≤ length (filter_b p (take m xs)) = filter_grows p xs (i + 1) m (omega arith) in
-        let b : length (filter_b p (take (i + 1) xs)) ≡ length (filter_b p (take i xs)) + 1 = rw (filter_took p xs i d (omega arith) e) (simp length-append) in
-        let c : k ≡ length ys + length (filter_b p (take i xs)) = simp length-append at s.laid.count in
-        omega arith
+  module _ {ys : List A} {p : A → Bool} {xs out : List A} {n i k : ℕ} {z : A} (s : Sifted ys p xs n z i out k) where
+    pub sift_end : length xs ≤ i → InSlots n z (ys ++ filter_b p xs) out k
+    sift_end h = rw (take_all i xs h) at s.laid
 
-    pub sift_push : p (get_or xs i d) ≡ true → Sifted ys p xs m n z (i + 1) (set out k (get_or xs i d)) (k + 1)
-    sift_push e =
-        record {
-          laid = rw (filter_took p xs i d (omega arith) e, ← append_assoc ys) (laid_push s.laid (get_or xs i d) (sift_room e));
-          room = s.room;
-          most = omega arith;
-          long = s.long;
-        }
+    module _ (d : A) (h : i < length xs) where
+      pub sift_room : p (get_or xs i d) ≡ true → k < n
+      sift_room e =
+          let a : length (filter_b p (take (i + 1) xs)) ≤ length (filter_b p (take (length xs) xs)) = filter_grows p xs (i + 1) (length xs) (omega arith) in
+          let whole : take (length xs) xs ≡ xs = take_all (length xs) xs (omega arith) in
+          let b : length (filter_b p (take (i + 1) xs)) ≡ length (filter_b p (take i xs)) + 1 = rw (filter_took p xs i d h e) (simp length-append) in
+          let c : k ≡ length ys + length (filter_b p (take i xs)) = simp length-append at s.laid.count in
+          omega (arith, rw whole at a, s.room)
 
-    pub sift_skip : p (get_or xs i d) ≡ false → Sifted ys p xs m n z (i + 1) out k
-    sift_skip e = record { laid = rw (filter-left p xs i d (omega arith) e) s.laid; room = s.room; most = omega arith; long = s.long }
+      pub sift_push : p (get_or xs i d) ≡ true → Sifted ys p xs n z (i + 1) (set out k (get_or xs i d)) (k + 1)
+      sift_push e = record { laid = rw (filter_took p xs i d h e, ← append_assoc ys) (laid_push s.laid (get_or xs i d) (sift_room e)); room = s.room }
 
-  -- what a loop keeps that counts those of the first m of xs that pass p: it has passed i of them, and counted k
-  pub record Counted (p : A → Bool) (xs : List A) (m i k : ℕ) : Type 0 where
-    pub count : k ≡ length (filter_b p (take i xs))
-    pub most : i ≤ m
-    pub long : m ≤ length xs
+      pub sift_skip : p (get_or xs i d) ≡ false → Sifted ys p xs n z (i + 1) out k
+      sift_skip e = record { laid = rw (filter-left p xs i d h e) s.laid; room = s.room }
 
-  pub count_none : (p : A → Bool) (xs : List A) (m : ℕ) → m ≤ length xs → Counted p xs m 0 0
-  count_none p xs m g = record { count = refl; most = omega arith; long = g }
+  -- what a loop has counted of those that pass p once it has passed i of xs
+  pub count_few : (p : A → Bool) (xs : List A) (i : ℕ) → length (filter_b p (take i xs)) ≤ i
+  count_few p xs i = omega (arith, filter_short p (take i xs), length-take i xs)
 
-  pub count_few : {p : A → Bool} {xs : List A} {m i k : ℕ} → Counted p xs m i k → k ≤ i
-  count_few {p} {xs} {m} {i} {k} s = omega (arith, filter_short p (take i xs), length-take i xs)
+  module _ (p : A → Bool) (xs : List A) (i : ℕ) (d : A) (h : i < length xs) {k : ℕ} (c : k ≡ length (filter_b p (take i xs))) where
+    pub count_one : p (get_or xs i d) ≡ true → k + 1 ≡ length (filter_b p (take (i + 1) xs))
+    count_one e = rw (filter_took p xs i d h e) (simp length-append (omega arith))
 
-  module _ {p : A → Bool} {xs : List A} {m i k : ℕ} (s : Counted p xs m i k) (d : A) (h : i < m) where
-    pub count_one : p (get_or xs i d) ≡ true → Counted p xs m (i + 1) (k + 1)
-    count_one e = record { count = rw (filter_took p xs i d (omega arith) e) (simp length-append (omega arith)); most = omega arith; long = s.long }
-
-    pub count_skip : p (get_or xs i d) ≡ false → Counted p xs m (i + 1) k
-    count_skip e = record { count = rw (filter-left p xs i d (omega arith) e) s.count; most = omega arith; long = s.long }
+    pub count_skip : p (get_or xs i d) ≡ false → k ≡ length (filter_b p (take (i + 1) xs))
+    count_skip e = rw (filter-left p xs i d h e) c
 
 -- what owning an array of structs tells, its length among it, is told of the list mapped
 pub mapped_length : {A B : Type 0} (f : A → B) (l : List A) (n : ℕ) → length (map f l) ≡ n → length l ≡ n

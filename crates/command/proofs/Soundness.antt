@@ -6,8 +6,8 @@ use Prim.Native.Nat.{ℕ, ◌+◌, ◌≤◌, ◌<◌}
 use native.Mathlib.Omega.{arith}
 use native.Mathlib.Numerals.{add-one}
 use lib.Dec.{leb}
-use lib.ListN.{length, take, drop, get_or, length-take, drop_of_length-le}
-use lib.Seq.{slice-cons}
+use lib.ListN.{length, drop, get_or, drop_of_length-le}
+use lib.Seq.{drop-cons}
 use borrow.Author.Tests.{le-leb, lt-leb, leb-true}
 use Rattle.timestamp.specs.declared.Timestamp.{Timestamp}
 use Rattle.command.specs.Entries.{Entry, stamp_in, plain_entry}
@@ -173,47 +173,27 @@ buffer_is b = lead (leb b.len 64) (ordered_in b.timestamp (held b)) (all_b plain
 pub sound_long : (b : CommandBuffer) → 64 < b.len → false ≡ sound_buffer b
 sound_long b h = sym (buffer_is b ∙ ap (λ (t : Bool). t && sound_from b.timestamp 0 (held b)) (lt-leb b.len 64 h))
 
--- what the loop keeps: the answer for all is the answer for what is left after i of n, the last one of rank lo
-pub record Testing (b : CommandBuffer) (n i lo : ℕ) : Type 0 where
-  pub slots : length b.entries ≡ 64
-  pub count : n ≡ b.len
-  pub few : n ≤ 64
-  pub most : i ≤ n
-  pub same : sound_buffer b ≡ sound_from b.timestamp lo (drop i (take n b.entries))
+-- not too many: the answer for the entries that are held
+pub test_none : (b : CommandBuffer) {xs : List Entry} → b.len ≤ 64 → xs ≡ held b → sound_buffer b ≡ sound_from b.timestamp 0 xs
+test_none b few e = rw (e, buffer_is b, le-leb b.len 64 few) refl
 
-pub test_none : (b : CommandBuffer) {n : ℕ} → length b.entries ≡ 64 → n ≡ b.len → n ≤ 64 → Testing b n 0 0
-test_none b {n} slots e few =
-    record {
-      slots = slots;
-      count = e;
-      few = few;
-      most = omega arith;
-      same = buffer_is b ∙ ap (λ (t : Bool). t && sound_from b.timestamp 0 (held b)) (le-leb b.len 64 (omega arith))
-          ∙ ap (λ (k : ℕ). sound_from b.timestamp 0 (take k b.entries)) (sym e);
-    }
+-- all are passed
+pub test_end : (m : Timestamp) (lo : ℕ) (xs : List Entry) (i : ℕ) → length xs ≤ i → sound_from m lo (drop i xs) ≡ true
+unfolding sound_from
+test_end m lo xs i h = ap (sound_from m lo) (drop_of_length-le xs h)
 
-module _ {b : CommandBuffer} {n i lo : ℕ} (s : Testing b n i lo) where
-  -- all are passed
-  pub test_end : n ≤ i → true ≡ sound_buffer b
-  unfolding sound_from
-  test_end h = sym (s.same ∙ ap (sound_from b.timestamp lo) (drop_of_length-le (take n b.entries) {i = i} (simp length-take (omega arith))))
+-- one entry more is passed
+pub test_next : (m : Timestamp) (lo : ℕ) (xs : List Entry) (i : ℕ) {k : ℕ} → i < length xs → k ≡ rank_in m (get_or xs i blank)
+    → sound_from m lo (drop i xs) ≡ sound_rank k lo (get_or xs i blank) && sound_from m k (drop (i + 1) xs)
+unfolding sound_from
+test_next m lo xs i h e = rw (drop-cons xs i blank h, add-one i, e) refl
 
-  module _ (h : i < n) {k : ℕ} (rank : k ≡ rank_in b.timestamp (get_or b.entries i blank)) where
-    next : sound_buffer b ≡ sound_rank k lo (get_or b.entries i blank) && sound_from b.timestamp k (drop (i + 1) (take n b.entries))
-    unfolding sound_from
-    next = s.same ∙ rw (slice-cons i n b.entries blank h (omega (arith, s.slots, s.few)), add-one i, rank)
+-- that fails
+pub test_no : (m : Timestamp) (lo : ℕ) (xs : List Entry) (i : ℕ) {k : ℕ} → i < length xs → k ≡ rank_in m (get_or xs i blank)
+    → sound_rank k lo (get_or xs i blank) ≡ false → sound_from m lo (drop i xs) ≡ false
+test_no m lo xs i {k} h e f = test_next m lo xs i h e ∙ ap (λ (t : Bool). t && sound_from m k (drop (i + 1) xs)) f
 
-    -- an entry that fails
-    pub test_no : sound_rank k lo (get_or b.entries i blank) ≡ false → false ≡ sound_buffer b
-    test_no e = sym (next ∙ ap (λ (t : Bool). t && sound_from b.timestamp k (drop (i + 1) (take n b.entries))) e)
-
-    -- one that passes
-    pub test_next : sound_rank k lo (get_or b.entries i blank) ≡ true → Testing b n (i + 1) k
-    test_next e =
-        record {
-          slots = s.slots;
-          count = s.count;
-          few = s.few;
-          most = omega arith;
-          same = next ∙ ap (λ (t : Bool). t && sound_from b.timestamp k (drop (i + 1) (take n b.entries))) e;
-        }
+-- that passes
+pub test_yes : (m : Timestamp) (lo : ℕ) (xs : List Entry) (i : ℕ) {k : ℕ} → i < length xs → k ≡ rank_in m (get_or xs i blank)
+    → sound_rank k lo (get_or xs i blank) ≡ true → sound_from m lo (drop i xs) ≡ sound_from m k (drop (i + 1) xs)
+test_yes m lo xs i {k} h e f = test_next m lo xs i h e ∙ ap (λ (t : Bool). t && sound_from m k (drop (i + 1) xs)) f

@@ -16,6 +16,27 @@ ghost use Rattle.command.specs.Ranks.{rank_of, rank_within, sifted_of, waits_of,
 use tape::{command_word, put};
 use timestamp::Timestamp;
 
+// The rank of a stamp m around itself: `rank_of` says what ranks are.
+const MIDDLE: u16 = 32768;
+
+// The least rank of a stamp after m.
+pub const FIRST_AFTER: u32 = 32769;
+
+// The least rank of a stamp in range around m.
+pub const RANGE_FROM: u32 = 16385;
+
+// One past the greatest rank of a stamp in range around m.
+pub const RANGE_END: u32 = 49151;
+
+// One past the greatest rank of all.
+pub const RANKS: u32 = 65536;
+
+// An entry is its stamp times this, and its handle.
+const STAMP_PLACE: u64 = 1 << 32;
+
+// An entry below this has no bit set above its stamp.
+const ENTRY_ROOM: u64 = 1 << 48;
+
 // The entries with their count, and the midpoint of the range of stamps that are accepted, which the Rust calls the timestamp.
 #[derive(Clone, Copy)]
 pub struct CommandBuffer {
@@ -64,31 +85,29 @@ pub struct Applied {
 pub fn entry_of(stamp: Timestamp, handle: u32) -> u64
     ensures { result ≡ entry_of stamp handle }
 {
-    (stamp.0 as u64) * 4294967296 + (handle as u64)
+    (stamp.0 as u64) * STAMP_PLACE + (handle as u64)
 }
 
 // The stamp of an entry.
 pub fn stamp_of(entry: u64) -> Timestamp
     ensures { result.0 ≡ stamp_in entry }
 {
-    Timestamp((entry / 4294967296 % 65536) as u16)
+    Timestamp((entry / STAMP_PLACE % 65536) as u16)
 }
 
 // The handle of an entry.
 pub fn handle_of(entry: u64) -> u32
     ensures { result ≡ handle_in entry }
 {
-    (entry % 4294967296) as u32
+    (entry % STAMP_PLACE) as u32
 }
 
 // Whether an entry's handle is within 24 bits, and its bits above the stamp are 0.
+#[tactic(auto, unfolding(crate::specs::Entries::plain_entry))]
 fn is_plain(entry: u64) -> bool
     ensures { result ≡ plain_entry entry }
 {
-    if entry < 281474976710656 {
-        return handle_of(entry) < refusals::HANDLE_ROOM;
-    }
-    false
+    entry < ENTRY_ROOM && handle_of(entry) < refusals::HANDLE_ROOM
 }
 
 // A buffer that holds nothing.
@@ -106,12 +125,16 @@ pub fn new(timestamp: Timestamp) -> CommandBuffer
 pub fn held_count(buffer: CommandBuffer) -> usize
     ensures { result ≡ length (held buffer) }
 {
-    let n = buffer.len;
-    if n < refusals::BUFFER_ROOM {
-        n
-    } else {
-        refusals::BUFFER_ROOM
-    }
+    buffer.len.min(refusals::BUFFER_ROOM)
+}
+
+// The entries of a buffer, oldest first.
+fn entries_of(buffer: &CommandBuffer) -> &[u64]
+    ensures held { result.now ≡ held buffer.now }
+    ensures few { length result.now ≤ buffer_room }
+{
+    let n = buffer.len.min(refusals::BUFFER_ROOM);
+    &buffer.entries[..n]
 }
 
 // Moves the midpoint and keeps exactly the entries in the new range.
@@ -120,12 +143,10 @@ pub fn update_timestamp(buffer: CommandBuffer, t: Timestamp) -> Moved
 {
     let mut moved = buffer;
     moved.timestamp = t;
-    let kept = sift(moved, t, 16385, 49151);
-    let rest = kept.buffer;
-    let dropped = kept.count;
+    let kept = sift(moved, t, RANGE_FROM, RANGE_END);
     Moved {
-        buffer: rest,
-        dropped,
+        buffer: kept.buffer,
+        dropped: kept.count,
     }
 }
 
@@ -133,11 +154,7 @@ pub fn update_timestamp(buffer: CommandBuffer, t: Timestamp) -> Moved
 pub fn waits(buffer: CommandBuffer, t: Timestamp) -> bool
     ensures { result ≡ waits_of buffer t }
 {
-    let n = buffer.len;
-    if n == 0 {
-        return true;
-    }
-    count_outside(buffer, t, 32769, 49151) == 0
+    buffer.len == 0 || count_outside(buffer, t, FIRST_AFTER, RANGE_END) == 0
 }
 
 // Takes an entry that is in range, if there is room, after all entries that are not later than it.
@@ -160,7 +177,7 @@ pub fn insert(buffer: CommandBuffer, entry: u64) -> Insertion
     let next = rank_in(entry, m) + 1;
     let before = extend(new(m), buffer, m, 0, next);
     let with = push(before, entry);
-    let all = extend(with, buffer, m, next, 65536);
+    let all = extend(with, buffer, m, next, RANKS);
     Insertion {
         outcome: Outcome::Taken,
         buffer: all,
@@ -171,7 +188,7 @@ pub fn insert(buffer: CommandBuffer, entry: u64) -> Insertion
 pub fn drain_up_to(buffer: CommandBuffer, s: Timestamp) -> Drained
     ensures { result ≡ drained_of buffer s }
 {
-    sift(buffer, s, 32769, 65536)
+    sift(buffer, s, FIRST_AFTER, RANKS)
 }
 
 // Takes the same entries, and puts the command word of each on the tape, for the left (0) or the right (1) world, oldest first.
@@ -185,11 +202,9 @@ pub fn apply_up_to(
     requires { at < 4000000000 }
     ensures { Applies buffer s side at tape.old result tape.new }
 {
-    let next = apply_between(buffer, s, 0, 32769, side, tape, at);
-    let left = sift(buffer, s, 32769, 65536);
-    let rest = left.buffer;
+    let next = apply_held(buffer, s, 0, FIRST_AFTER, side, tape, at);
     Applied {
-        buffer: rest,
+        buffer: sift(buffer, s, FIRST_AFTER, RANKS).buffer,
         at: next,
     }
 }
@@ -202,9 +217,8 @@ pub fn drain_all(buffer: CommandBuffer) -> Drained
     if n == 0 {
         return Drained { buffer, count: 0 };
     }
-    let t = buffer.timestamp;
     Drained {
-        buffer: new(t),
+        buffer: new(buffer.timestamp),
         count: n,
     }
 }
@@ -215,11 +229,9 @@ pub fn apply_all(buffer: CommandBuffer, side: u32, tape: &mut [u32], at: usize) 
     ensures { AppliesAll buffer side at tape.old result tape.new }
 {
     let t = buffer.timestamp;
-    let next = apply_between(buffer, t, 0, 65536, side, tape, at);
-    let left = drain_all(buffer);
-    let rest = left.buffer;
+    let next = apply_held(buffer, t, 0, RANKS, side, tape, at);
     Applied {
-        buffer: rest,
+        buffer: drain_all(buffer).buffer,
         at: next,
     }
 }
@@ -228,47 +240,33 @@ pub fn apply_all(buffer: CommandBuffer, side: u32, tape: &mut [u32], at: usize) 
 pub fn sound(buffer: CommandBuffer) -> bool
     ensures { result ≡ sound_buffer buffer }
 {
-    let n = buffer.len;
-    if refusals::BUFFER_ROOM < n {
+    if refusals::BUFFER_ROOM < buffer.len {
         return false;
     }
-    let m = buffer.timestamp;
-    let mut lo: u32 = 0;
-    let mut i: usize = 0;
-    while i < n {
-        let e = buffer.entries[i];
-        let k = rank_in(e, m);
-        if !entry_sound(k, lo, e) {
+    let mut lo = 0;
+    for e in entries_of(&buffer) {
+        let k = rank_in(*e, buffer.timestamp);
+        if !entry_sound(k, lo, *e) {
             return false;
         }
         lo = k;
-        i += 1;
     }
     true
 }
 
 // Whether an entry of rank k is in range and not before rank lo, and has no spare bit set.
+#[tactic(auto, unfolding(crate::specs::Ranks::sound_rank))]
 pub fn entry_sound(k: u32, lo: u32, entry: u64) -> bool
     ensures { result ≡ sound_rank k lo entry }
 {
-    if k < lo {
-        return false;
-    }
-    if k < 16385 {
-        return false;
-    }
-    if 49150 < k {
-        return false;
-    }
-    is_plain(entry)
+    lo <= k && RANGE_FROM <= k && k < RANGE_END && is_plain(entry)
 }
 
 // The rank of a stamp around m: its signed difference to m, plus 32,768. Ranks stand in the order of the signed differences.
 fn rank_of(s: Timestamp, m: Timestamp) -> u32
     ensures { result ≡ rank_of m.0 s.0 }
 {
-    let d = s.sub(m);
-    d.add(32768).0 as u32
+    s.sub(m).add(MIDDLE).0 as u32
 }
 
 // Whether an entry is in the accepted range around m.
@@ -310,37 +308,29 @@ fn extend(a: CommandBuffer, b: CommandBuffer, m: Timestamp, lo: u32, hi: u32) ->
     requires { HasRoom a b m lo hi }
     ensures { result ≡ laid (held a ++ filter_b (rank_within m lo hi) (held b)) a.timestamp }
 {
-    let n = held_count(b);
-    let t = a.timestamp;
     let mut out = a.entries;
     let mut k = a.len;
-    let mut i: usize = 0;
-    while i < n {
-        let e = b.entries[i];
-        i += 1;
-        if ranks_between(e, m, lo, hi) {
-            out[k] = e;
+    for e in entries_of(&b) {
+        if ranks_between(*e, m, lo, hi) {
+            out[k] = *e;
             k += 1;
         }
     }
     CommandBuffer {
         entries: out,
         len: k,
-        timestamp: t,
+        timestamp: a.timestamp,
     }
 }
 
-// How many entries have a rank around m below lo, or hi or more.
+// How many entries have a rank around m below lo, or hi or more. A loop: `filter` and `count` were tried and are slower, 874 instructions with 64
+// entries for 743.
 fn count_outside(b: CommandBuffer, m: Timestamp, lo: u32, hi: u32) -> usize
     ensures { result ≡ length (filter_b (λ e. not (rank_within m lo hi e)) (held b)) }
 {
-    let n = held_count(b);
     let mut k: usize = 0;
-    let mut i: usize = 0;
-    while i < n {
-        let e = b.entries[i];
-        i += 1;
-        if !ranks_between(e, m, lo, hi) {
+    for e in entries_of(&b) {
+        if !ranks_between(*e, m, lo, hi) {
             k += 1;
         }
     }
@@ -351,23 +341,19 @@ fn count_outside(b: CommandBuffer, m: Timestamp, lo: u32, hi: u32) -> usize
 fn sift(b: CommandBuffer, m: Timestamp, lo: u32, hi: u32) -> Drained
     ensures { result ≡ sifted_of b m lo hi }
 {
-    let n = count_outside(b, m, lo, hi);
-    if n == 0 {
-        return Drained {
-            buffer: b,
-            count: 0,
-        };
+    let count = count_outside(b, m, lo, hi);
+    if count == 0 {
+        return Drained { buffer: b, count };
     }
-    let t = b.timestamp;
-    let rest = extend(new(t), b, m, lo, hi);
     Drained {
-        buffer: rest,
-        count: n,
+        buffer: extend(new(b.timestamp), b, m, lo, hi),
+        count,
     }
 }
 
-// Puts the command words of the entries whose rank around m is lo or more and below hi, in their order.
-fn apply_between(
+// Puts the command words of the entries of b whose rank around m is lo or more and below hi, in their order. This and `count_outside` take the
+// buffer by value: callers that lend theirs were tried, and are slower, since they copy it; an update took 7.7 to 8.5 % more instructions.
+fn apply_held(
     b: CommandBuffer,
     m: Timestamp,
     lo: u32,
@@ -379,15 +365,27 @@ fn apply_between(
     requires { at < 4000000000 }
     ensures { Puts tape.old at (command_words side (filter_b (rank_within m lo hi) (held b))) result tape.new }
 {
-    let n = held_count(b);
-    let mut p = at;
-    let mut i: usize = 0;
-    while i < n {
-        let e = b.entries[i];
-        i += 1;
-        if ranks_between(e, m, lo, hi) {
-            p = put(tape, p, command_word(side, handle_of(e)));
+    apply_between(entries_of(&b), m, lo, hi, side, tape, at)
+}
+
+// The same of entries that are lent.
+pub fn apply_between(
+    entries: &[u64],
+    m: Timestamp,
+    lo: u32,
+    hi: u32,
+    side: u32,
+    tape: &mut [u32],
+    at: usize,
+) -> usize
+    requires { (length entries.now ≤ buffer_room) × (at < 4000000000) }
+    ensures { Puts tape.old at (command_words side (filter_b (rank_within m lo hi) entries.now)) result tape.new }
+{
+    let mut next = at;
+    for e in entries {
+        if ranks_between(*e, m, lo, hi) {
+            next = put(tape, next, command_word(side, handle_of(*e)));
         }
     }
-    p
+    next
 }

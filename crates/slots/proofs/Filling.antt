@@ -1,92 +1,35 @@
--- What loops keep that write the slots of a buffer in place: blanks from a slot on, a copy, and the entries that pass a test moved to the front.
+-- Slots that are filled with blanks from one on; and what a loop keeps that moves the entries that pass a test to the front, in place.
 -- Assumes nothing.
 use mathlib.Core.Path.{◌≡◌, refl, sym, ap, ◌∙◌}
-use mathlib.Core.List.{List, [], ◌∷◌, ◌++◌, append_assoc, append-nil}
+use mathlib.Core.List.{List, [], ◌∷◌, ◌++◌, append-nil}
 use mathlib.Core.Bool.{Bool, true, false}
-use Prim.Native.Nat.{ℕ, suc, ◌+◌, ◌-◌, ◌≤◌, ◌<◌}
+use Prim.Native.Nat.{ℕ, ◌+◌, ◌-◌, ◌≤◌, ◌<◌}
 use native.Mathlib.Numerals.{add-one}
 use native.Mathlib.Omega.{arith}
-use lib.ListN.{length, take, drop, get_or, set, replicate, length-set, length-append}
-use lib.Seq.{take_all, take-suc, take-suc-set, drop-set-lt, get_or-drop, drop-drop, length-take-le}
+use lib.ListN.{length, take, drop, get_or, set, replicate, length-set, length-append, length-replicate, drop_of_length-le}
+use lib.Seq.{take-suc-set, drop-set-lt, get_or-drop, drop-drop, length-take-le}
+use borrow.Rule.Slice.PartMut.{mid_of, post_of, put_mid, mid_len}
 use Rattle.command.specs.Entries.{Entry}
 use Rattle.command.specs.Lists.{filter_b, pad}
 use Rattle.command.specs.Buffer.{blank}
 use Rattle.command.proofs.Lists.{filter_took, filter-left}
-use Rattle.slots.specs.After.{Slots, InFront, Filled, Copied}
+use Rattle.slots.specs.After.{Slots, InFront, Filled}
 
--- ---- blanks
-
--- a blank after a list is one that fills it up
-pad_more : (n : ℕ) (xs : List Entry) → length xs < n → pad n blank (xs ++ (blank ∷ [])) ≡ pad n blank xs
-pad_more n xs h =
-    let l : length (xs ++ (blank ∷ [])) ≡ length xs + 1 = length-append xs (blank ∷ []) in
-    let k : suc (n - length (xs ++ (blank ∷ []))) ≡ n - length xs = omega arith in
-    append_assoc xs (blank ∷ []) _ ∙ ap (λ (j : ℕ). xs ++ replicate j blank) k
-
-pad_whole : (n : ℕ) (xs : List Entry) → length xs ≡ n → pad n blank xs ≡ xs
-pad_whole n xs h =
-    let k : n - length xs ≡ 0 = omega arith in
-    ap (λ (j : ℕ). xs ++ replicate j blank) k ∙ append-nil xs
-
--- the slots e, blank from i on, are the slots `was`, blank from n on
-pub record Blanking (was : List Entry) (n : ℕ) (e : List Entry) (i : ℕ) : Type 0 where
-  pub slots : length e ≡ 64
-  pub few : i ≤ 64
-  pub same : pad 64 blank (take i e) ≡ pad 64 blank (take n was)
-
-pub blank_start : {e : List Entry} {n : ℕ} → Slots e n → Blanking e n e n
-blank_start s = record { slots = s.slots; few = s.few; same = refl }
-
-pub blank_next : {was e : List Entry} {n i : ℕ} → Blanking was n e i → i < 64 → Blanking was n (set e i blank) (i + 1)
-blank_next {was} {e} {n} {i} s h =
+-- slots filled with blanks from a slot on
+pub blank_filled : {e ys : List Entry} {n : ℕ} → Slots e n → ys ≡ replicate (length (mid_of n (length e - n) e)) blank
+    → Filled (take n e) (put_mid n (length e - n) e ys) n
+blank_filled {e} {ys} {n} s h =
     let w = s.slots in
-    let l : length (take i e) ≡ i = length-take-le i e (omega arith) in
+    let f = s.few in
+    let c : length (take n e) ≡ n = length-take-le n e (omega arith) in
+    let m : length (mid_of n (length e - n) e) ≡ 64 - length (take n e) = mid_len n (length e) e (omega arith) ∙ omega arith in
+    let none : post_of n (length e - n) e ≡ [] = drop-drop (length e - n) n e ∙ drop_of_length-le e (omega arith) in
+    let laid : put_mid n (length e - n) e ys ≡ pad 64 blank (take n e) = rw (h, m, none, append-nil) refl in
     record {
-      slots = length-set e i blank ∙ w;
-      few = omega arith;
-      same = rw (add-one i, take-suc-set e i blank (omega arith)) (pad_more 64 (take i e) (omega arith)) ∙ s.same;
+      slots = ap length laid ∙ length-append (take n e) _ ∙ omega (arith, length-replicate (64 - length (take n e)) blank);
+      laid = laid;
+      count = sym c;
     }
-
-pub blank_end : {was e : List Entry} {n i : ℕ} → Slots was n → Blanking was n e i → 64 ≤ i → Filled (take n was) e n
-blank_end {was} {e} {n} {i} p s h =
-    let w = s.slots in
-    let l = p.slots in
-    let f = p.few in
-    record {
-      slots = w;
-      laid = sym (pad_whole 64 e w) ∙ ap (pad 64 blank) (sym (take_all i e (omega arith))) ∙ s.same;
-      count = sym (length-take-le n was (omega arith));
-    }
-
--- ---- a copy
-
--- the first i slots are those of `from`
-pub record Copying (from e : List Entry) (i : ℕ) : Type 0 where
-  pub slots : length e ≡ 64
-  pub long : length from ≡ 64
-  pub few : i ≤ 64
-  pub same : take i e ≡ take i from
-
-pub copy_start : {from e : List Entry} → length e ≡ 64 → length from ≡ 64 → Copying from e 0
-copy_start h g = record { slots = h; long = g; few = omega arith; same = refl }
-
-pub copy_next : {from e : List Entry} {i : ℕ} → Copying from e i → i < 64 → Copying from (set e i (get_or from i blank)) (i + 1)
-copy_next {from} {e} {i} s h =
-    let w = s.slots in
-    let l = s.long in
-    record {
-      slots = length-set e i (get_or from i blank) ∙ w;
-      long = l;
-      few = omega arith;
-      same = rw (add-one i, take-suc-set e i (get_or from i blank) (omega arith), take-suc from i blank (omega arith))
-          (ap (λ (xs : List Entry). xs ++ (get_or from i blank ∷ [])) s.same);
-    }
-
-pub copy_end : {from e : List Entry} {i : ℕ} → Copying from e i → 64 ≤ i → Copied from e
-copy_end {from} {e} {i} s h =
-    let w = s.slots in
-    let l = s.long in
-    record { slots = w; same = sym (take_all i e (omega arith)) ∙ s.same ∙ take_all i from (omega arith) }
 
 -- ---- to the front
 

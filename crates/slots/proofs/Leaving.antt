@@ -2,7 +2,7 @@
 use mathlib.Core.Path.{◌≡◌, refl, sym, ap, ◌∙◌}
 use mathlib.Core.List.{List, [], ◌∷◌}
 use mathlib.Core.Bool.{Bool, true, false, not}
-use Prim.Native.Nat.{ℕ}
+use Prim.Native.Nat.{ℕ, ◌≤◌}
 use native.Mathlib.Omega.{arith}
 use lib.Dec.{eqb}
 use lib.ListN.{length, take}
@@ -32,6 +32,9 @@ lent_held {e} {n} l =
     let s = l.slots in
     let f = lent_few l in
     length-take-le n e (omega arith)
+
+pub lent_short : {e : List Entry} {n : ℕ} {t : Timestamp} → Lent e n t → length (take n e) ≤ 64
+lent_short l = omega (arith, lent_held l, lent_few l)
 
 -- slots that hold a sound buffer can be lent again
 pub lent_left : {b : CommandBuffer} {gone n : ℕ} {last : List Entry} {r : ℕ} {t : Timestamp} → Leaves b gone n last r t → sound_buffer b ≡ true → Lent last r t

@@ -4,7 +4,7 @@ use mathlib.Core.Path.{◌≡◌, refl, sym, ap, ◌∙◌}
 use mathlib.Core.Logic.{inl, inr}
 use mathlib.Core.List.{List, [], ◌∷◌}
 use mathlib.Core.Bool.{Bool, true, false, not, cond, ◌&&◌}
-use Prim.Native.Nat.{ℕ, ◌+◌, ◌≤◌}
+use Prim.Native.Nat.{ℕ, ◌+◌}
 use native.Mathlib.Omega.{arith}
 use lib.Dec.{eqb}
 use lib.ListN.{length, take}
@@ -25,7 +25,7 @@ use Rattle.command.proofs.Holding.{leaving_some}
 use Rattle.command.proofs.Ranks.{span_due, span_all}
 use Rattle.command.proofs.Ledger.{moved_held, moved_ledger, moved_lossless, rest_held, drained_ledger, drained_lossless}
 use Rattle.command.proofs.Waiting.{waits_empty, waits_counted, span_waits}
-use Rattle.command.proofs.Applying.{words-length, Applying}
+use Rattle.command.proofs.Applying.{words-length}
 use Rattle.slots.specs.After.{Filled, Steps}
 use Rattle.slots.proofs.Between.{leavers}
 use Rattle.slots.proofs.Leaving.{lent_held, filled_laid}
@@ -35,14 +35,6 @@ none [] h = refl
 none (x ∷ xs) h = absurd (omega arith)
 
 -- ---- words
-
--- once the loop has passed them all
-pub apply_end : {side : ℕ} {p : Entry → Bool} {xs : List Entry} {m : ℕ} {was : List ℕ} {place i q : ℕ} {last : List ℕ}
-    → Applying side p xs m was place i q last → m ≤ i → Puts was place (command_words side (filter_b p (take m xs))) q last
-apply_end {side} {p} {xs} {m} {was} {place} {i} s h =
-    let e = s.most in
-    let j : i ≡ m = omega arith in
-    puts_as (ap (λ (n : ℕ). command_words side (filter_b p (take n xs))) j) s.words
 
 module _ (b : CommandBuffer) (s : Timestamp) (side : ℕ) {place next : ℕ} {was last : List ℕ} where
   pub apply_due_is : Puts was place (command_words side (filter_b (rank_within s 0 32769) (held b))) next last

@@ -12,8 +12,7 @@ ghost use Rattle.command.specs.Ranks.{rank_within, sifted_of};
 ghost use Rattle.command.specs.Slots.{buffer_at, Lent};
 ghost use Rattle.slots.specs.After.{Slots, InFront, Filled, Copied, Leaves, Empties, Steps};
 
-use command::{handle_of, ranks_between};
-use tape::{command_word, put};
+use command::{FIRST_AFTER, RANGE_END, RANGE_FROM, RANKS, apply_between, ranks_between};
 use timestamp::Timestamp;
 
 // The answer of a step: how many entries are left, and the next place on the tape.
@@ -28,11 +27,7 @@ pub fn blank_from(e: &mut [u64], n: usize)
     requires { Slots e.old n }
     ensures { Filled (take n e.old) e.new n }
 {
-    let mut i = n;
-    while i < 64 {
-        e[i] = 0;
-        i += 1;
-    }
+    e[n..].fill(0);
 }
 
 // Copies all slots.
@@ -40,11 +35,7 @@ pub fn copy_from(e: &mut [u64], from: &[u64])
     requires { (length e.old ≡ buffer_room) × (length from.now ≡ buffer_room) }
     ensures { Copied from.now e.new }
 {
-    let mut i: usize = 0;
-    while i < 64 {
-        e[i] = from[i];
-        i += 1;
-    }
+    e.copy_from_slice(from);
 }
 
 // Whether the rank around m of every entry is lo or more, and below hi. The first and the last one tell: those between them are between
@@ -53,12 +44,7 @@ pub fn stays(e: &[u64], n: usize, t: Timestamp, m: Timestamp, lo: u32, hi: u32) 
     requires { (Lent e.now n t) × (0 < n) × (hi ≤ lo + 32767) }
     ensures { result ≡ eqb (length (filter_b (λ x. not (rank_within m lo hi x)) (held (buffer_at e.now n t)))) 0 }
 {
-    let first = e[0];
-    if !ranks_between(first, m, lo, hi) {
-        return false;
-    }
-    let last = e[n - 1];
-    ranks_between(last, m, lo, hi)
+    ranks_between(e[0], m, lo, hi) && ranks_between(e[n - 1], m, lo, hi)
 }
 
 // Keeps the entries whose rank around m is lo or more and below hi. Gives how many stay.
@@ -82,7 +68,7 @@ pub fn move_to(e: &mut [u64], n: usize, t: Timestamp, to: Timestamp) -> usize
     ensures { Leaves (moved_of (buffer_at e.old n t) to).buffer (moved_of (buffer_at e.old n t) to).dropped n
         e.new result to }
 {
-    sift(e, n, t, to, 16385, 49151)
+    sift(e, n, t, to, RANGE_FROM, RANGE_END)
 }
 
 // Takes the entries whose signed difference to s is at most 0. Gives how many stay.
@@ -90,7 +76,7 @@ pub fn drain_to(e: &mut [u64], n: usize, t: Timestamp, s: Timestamp) -> usize
     requires { Lent e.old n t }
     ensures { Leaves (rest_of (buffer_at e.old n t) s) (length (taken_of (buffer_at e.old n t) s)) n e.new result t }
 {
-    sift(e, n, t, s, 32769, 65536)
+    sift(e, n, t, s, FIRST_AFTER, RANKS)
 }
 
 // Puts the command words of the entries whose signed difference to s is at most 0, for the left (0) or the right (1) world, oldest first.
@@ -106,7 +92,7 @@ pub fn apply_due(
     requires { (Lent e.now n t) × (at < 4000000000) }
     ensures { Puts tape.old at (command_words side (taken_of (buffer_at e.now n t) s)) result tape.new }
 {
-    apply_between(e, n, s, 0, 32769, side, tape, at)
+    apply_between(&e[..n], s, 0, FIRST_AFTER, side, tape, at)
 }
 
 // Puts the command words of all entries, oldest first.
@@ -114,7 +100,7 @@ pub fn apply_all(e: &[u64], n: usize, t: Timestamp, side: u32, tape: &mut [u32],
     requires { (Lent e.now n t) × (at < 4000000000) }
     ensures { Puts tape.old at (command_words side (held (buffer_at e.now n t))) result tape.new }
 {
-    apply_between(e, n, t, 0, 65536, side, tape, at)
+    apply_between(&e[..n], t, 0, RANKS, side, tape, at)
 }
 
 // A step to a stamp: the command words of the entries that are due, and the others stay, but for those out of the range around it.
@@ -133,11 +119,11 @@ pub fn step_to(
     if n == 0 {
         return Stepped { len: n, at };
     }
-    if stays(e, n, t, to, 32769, 49151) {
+    if stays(e, n, t, to, FIRST_AFTER, RANGE_END) {
         return Stepped { len: n, at };
     }
     let next = apply_due(e, n, t, to, side, tape, at);
-    let len = keep(e, n, to, 32769, 49151);
+    let len = keep(e, n, to, FIRST_AFTER, RANGE_END);
     Stepped { len, at: next }
 }
 
@@ -146,10 +132,9 @@ pub fn empty(e: &mut [u64], n: usize)
     requires { Slots e.old n }
     ensures { Empties e.old n e.new }
 {
-    if n == 0 {
-        return;
+    if n != 0 {
+        blank_from(e, 0);
     }
-    blank_from(e, 0);
 }
 
 // Moves the entries whose rank around m is lo or more and below hi to the front, and blanks the slots behind them.
@@ -167,41 +152,13 @@ fn to_front(e: &mut [u64], n: usize, m: Timestamp, lo: u32, hi: u32) -> usize
     requires { Slots e.old n }
     ensures { InFront (filter_b (rank_within m lo hi) (take n e.old)) e.new result }
 {
-    let mut k: usize = 0;
-    let mut i: usize = 0;
-    while i < n {
+    let mut k = 0;
+    for i in 0..n {
         let x = e[i];
-        i += 1;
         if ranks_between(x, m, lo, hi) {
             e[k] = x;
             k += 1;
         }
     }
     k
-}
-
-// Puts the command words of the entries whose rank around m is lo or more and below hi, in their order.
-fn apply_between(
-    e: &[u64],
-    n: usize,
-    m: Timestamp,
-    lo: u32,
-    hi: u32,
-    side: u32,
-    tape: &mut [u32],
-    at: usize,
-) -> usize
-    requires { (Slots e.now n) × (at < 4000000000) }
-    ensures { Puts tape.old at (command_words side (filter_b (rank_within m lo hi) (take n e.now))) result tape.new }
-{
-    let mut p = at;
-    let mut i: usize = 0;
-    while i < n {
-        let x = e[i];
-        i += 1;
-        if ranks_between(x, m, lo, hi) {
-            p = put(tape, p, command_word(side, handle_of(x)));
-        }
-    }
-    p
 }

@@ -18,11 +18,9 @@ pub fn offer(e: &mut [u64], n: usize, t: Timestamp, x: u64, clean: bool) -> Outc
     if refusals::BUFFER_ROOM <= n {
         return Outcome::Full;
     }
-    if clean {
-        insert(e, n, t, x);
-        return Outcome::Taken;
+    if !clean {
+        slots::blank_from(e, n);
     }
-    slots::blank_from(e, n);
     insert(e, n, t, x);
     Outcome::Taken
 }
@@ -33,15 +31,13 @@ pub fn insert(e: &mut [u64], n: usize, t: Timestamp, x: u64)
     ensures { Placed e.old n t x e.new }
 {
     let k = rank_in(x, t);
-    let mut i = n;
-    while 0 < i {
-        let y = e[i - 1];
+    for i in (0..n).rev() {
+        let y = e[i];
         if rank_in(y, t) <= k {
-            e[i] = x;
+            e[i + 1] = x;
             return;
         }
-        e[i] = y;
-        i -= 1;
+        e[i + 1] = y;
     }
     e[0] = x;
 }

@@ -17,18 +17,14 @@ pub fn sound(e: &[u64], n: usize, t: Timestamp) -> bool
     if refusals::BUFFER_ROOM < n {
         return false;
     }
-    let mut lo: u32 = 0;
+    let mut lo = 0;
     let mut bad: usize = 0;
-    let mut i: usize = 0;
-    while i < n {
-        let x = e[i];
-        let k = rank_in(x, t);
-        let good = entry_sound(k, lo, x);
-        lo = k;
-        i += 1;
-        if !good {
+    for x in &e[..n] {
+        let k = rank_in(*x, t);
+        if !entry_sound(k, lo, *x) {
             bad += 1;
         }
+        lo = k;
     }
     bad == 0
 }

@@ -1,11 +1,11 @@
 -- What a tape holds after words are put on it, one run of them after another, and after the rest is zeroed. Assumes nothing.
-use mathlib.Core.List.{List, [], ◌∷◌, ◌++◌, append-nil}
+use mathlib.Core.List.{List, [], ◌∷◌, ◌++◌, append_assoc, append-nil}
 use mathlib.Core.Path.{◌≡◌, refl, ap, sym, ◌∙◌}
 use Prim.Native.Nat.{ℕ, suc, ◌-◌, ◌+◌, ◌/◌, ◌^◌, ◌<◌, ◌≤◌}
 use native.Mathlib.Omega.{arith}
-use native.Mathlib.Numerals.{add-one}
-use lib.ListN.{length, drop, drop_of_length-le, replicate, set, length-set, length-append, length-replicate}
-use lib.Seq.{sets, length-sets, sets-eq, take-append_seam, set_out}
+use lib.ListN.{length, take, drop, drop_of_length-le, replicate, set, length-append, length-replicate}
+use lib.Seq.{sets, length-sets, sets-eq, take-append_seam, set_out, drop-drop}
+use borrow.Rule.Slice.PartMut.{mid_of, post_of, put_mid, mid_len}
 use lib.Ieee.{Float, binary64, to_bits}
 use Rattle.tape.specs.Words.{mix_word, weight_word, weight_words, mix_words}
 use Rattle.tape.specs.Tape.{written, words_from, cleared, Puts}
@@ -65,13 +65,15 @@ puts_as {t} {u} {n} {m} {us} {ws} e p = rw e at p
 pub puts-length : {t u : List ℕ} {n m : ℕ} {us : List ℕ} → Puts t n us m u → length u ≡ length t
 puts-length {t} {u} {n} {m} {us} p = ap length p.tape ∙ length-written t n us
 
--- a zero at a place, and the rest zeroed from the next place on
-pub cleared_step : (t : List ℕ) (i : ℕ) → i < length t → cleared (set t i 0) (i + 1) ≡ cleared t i
+-- the rest of a tape, from a place on it, filled with zeros
+pub cleared_filled : (t : List ℕ) (n : ℕ) {ys : List ℕ} → n < length t → ys ≡ replicate (length (mid_of n (length t - n) t)) 0
+    → put_mid n (length t - n) t ys ≡ cleared t n
 unfolding cleared written
-cleared_step t i h =
-    let l : words_from (set t i 0) (i + 1) ≡ words_from t (i + 1) = simp length-set in
-    let e : words_from t i ≡ suc (words_from t (i + 1)) = omega arith in
-    rw (l, e, add-one i) refl
+cleared_filled t n {ys} h e =
+    let z : List ℕ = replicate (words_from t n) 0 in
+    let l : length z ≡ words_from t n = length-replicate (words_from t n) 0 in
+    let none : post_of n (length t - n) t ≡ drop (n + length z) t = drop-drop (length t - n) n t ∙ ap (λ (k : ℕ). drop (n + k) t) (sym l) in
+    rw (e, mid_len n (length t) t (omega arith), none) (sym (sets-eq z t n (omega arith) ∙ append_assoc (take n t) z _))
 
 -- from the end on there is nothing to zero
 pub cleared_end : (t : List ℕ) (i : ℕ) → length t ≤ i → cleared t i ≡ t

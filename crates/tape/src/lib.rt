@@ -23,10 +23,8 @@ pub fn put(tape: &mut [u32], at: usize, word: u32) -> usize
 pub fn clear(tape: &mut [u32], from: usize)
     ensures { tape.new ≡ cleared tape.old from }
 {
-    let mut i = from;
-    while i < tape.len() {
-        tape[i] = 0;
-        i += 1;
+    if from < tape.len() {
+        tape[from..].fill(0);
     }
 }
 

@@ -79,19 +79,13 @@ pub fn catch_up(
     requires { (Lent e.old l.held from) × (steps ≤ most_steps) × (at < 2500000000) }
     ensures { TurnsBy (steps_turn steps side) e.old l from tape.old at result e.new tape.new }
 {
-    let mut m = l;
+    let mut turned = Turned { ledger: l, at };
     let mut t = from;
-    let mut p = at;
-    let mut k: u32 = 0;
-    while k < steps {
-        k += 1;
-        let d = step(m, e, t, side, tape, p);
-        let next = d.ledger;
-        m = next;
-        p = d.at;
+    for _ in 0..steps {
+        turned = step(turned.ledger, e, t, side, tape, turned.at);
         t = t.add(1);
     }
-    Turned { ledger: m, at: p }
+    turned
 }
 
 // The stamp is set from `from` to `to`. Set back, the commands that remain are applied at once.

@@ -5,4 +5,4 @@ use Rattle.command.proofs.apply_all.Goals as goal
 
 pub returns : goal.returns
 returns c =
-    applies_all_is _ _ (omega arith) (omega arith) c.apply_between-next.ensures c.drain_all-left.ensures
+    applies_all_is _ _ (omega arith) (omega arith) c.apply_held-next.ensures c.drain_all.ensures

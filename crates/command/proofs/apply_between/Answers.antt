@@ -1,39 +1,34 @@
 -- `apply_between` meets its contract. The loop's invariant: of the entries passed, the words of those in the span are on the tape. Assumes nothing.
-use mathlib.Core.Path.{◌≡◌, ap, ◌∙◌}
 use native.Mathlib.Omega.{arith}
-use borrow.Author.Rules.{rules}
-use lib.ListN.{length}
+use mathlib.Core.Path.{sym, ap, ◌∙◌}
+use Rattle.std.proofs.lemmas.List.{take_all}
 use Rattle.tape.specs.Words.{command_word}
-use Rattle.command.specs.Buffer.{blank}
-use Rattle.command.proofs.Holding.{held_long}
-use Rattle.command.proofs.Applying.{apply_none, apply_few, apply_length, apply_one, apply_skip, apply_held}
+use Rattle.tape.proofs.Writing.{puts_none}
+use Rattle.command.specs.Buffer.{blank, command_words}
+use Rattle.command.specs.Ranks.{rank_within}
+use Rattle.command.proofs.Lists.{filter-left}
+use Rattle.command.proofs.Applying.{apply_few, apply_one}
 use Rattle.command.proofs.apply_between.Goals as goal
-use Rattle.command.proofs.apply_between.Goals.{Start}
+use Rattle.command.proofs.apply_between.Goals.{then-ranks_between, else-ranks_between}
 
-slots : (c : Start) → length c.args.b.entries ≡ 64
-slots c = search rules
+pub loop-e-init : goal.loop-e-init
+unfolding command_words
+loop-e-init c = puts_none _ _
 
-pub loop-i-init : goal.loop-i-init
-loop-i-init c =
-    (slots c.before.before.before, apply_none _ _ _ _ _ _ (held_long c.args.b c.held_count-n.ensures))
+pub put-next-requires : goal.put-next-requires
+put-next-requires c =
+    let a = c.args in
+    omega (arith, c.requires.0, c.requires.1, apply_few a.side (rank_within a.m a.lo a.hi) a.entries.now c.loop-e.e-index c.loop-e.invariant)
 
-pub put-p-requires : goal.put-p-requires
-put-p-requires c =
-    omega (arith, apply_few c.loop-i.invariant.1)
-
-pub loop-i-preserved-then-ranks_between : goal.loop-i-preserved-then-ranks_between
-loop-i-preserved-then-ranks_between c = (
-  c.loop-i.invariant.0,
-  apply_one c.loop-i.invariant.1 blank (search rules) (cc)
-      (c.command_word.ensures ∙ ap (command_word _) c.handle_of.ensures) c.put-p.ensures,
-)
-
-pub loop-i-preserved : goal.loop-i-preserved
-loop-i-preserved c = (search rules, apply_skip c.loop-i.invariant.1 blank (search rules) (cc))
-
-pub shape_of-tape : goal.shape_of-tape
-shape_of-tape c = apply_length c.loop-i.invariant.1
+pub loop-e-preserved : goal.loop-e-preserved
+loop-e-preserved c =
+    elim c.if-ranks_between.branch [
+      | then-ranks_between w ↦ rw (w.tape-is, w.next-is)
+          (apply_one _ _ _ _ c.loop-e-test.true (sym c.ranks_between.ensures ∙ w.if-ranks_between.true)
+          (w.command_word.ensures ∙ ap (command_word _) w.handle_of.ensures) c.loop-e.invariant w.put-next.ensures)
+      | else-ranks_between w ↦ rw (w.tape-is, w.next-is, filter-left _ _ _ blank c.loop-e-test.true (sym c.ranks_between.ensures ∙ w.if-ranks_between.false))
+          c.loop-e.invariant
+    ]
 
 pub returns : goal.returns
-returns c =
-    apply_held c.args.b c.loop-i.invariant.1 (search rules) c.held_count-n.ensures
+returns c = rw (take_all _ _ c.loop-e-test.false) at c.loop-e.invariant

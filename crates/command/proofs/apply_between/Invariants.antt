@@ -1,13 +1,10 @@
 -- `apply_between` meets its contract. The loop's invariant: of the entries passed, the words of those in the span are on the tape. Assumes nothing.
-use mathlib.Core.Path.{◌≡◌}
-use Prim.Native.Nat.{◌-◌}
-use lib.ListN.{length}
+use lib.ListN.{take}
+use Rattle.tape.specs.Tape.{Puts}
+use Rattle.command.specs.Lists.{filter_b}
+use Rattle.command.specs.Buffer.{command_words}
 use Rattle.command.specs.Ranks.{rank_within}
-use Rattle.command.proofs.Applying.{Applying}
 use Rattle.command.proofs.apply_between.Given as goal
 
-abbrev pub invariant-loop-i : goal.invariant-loop-i
-invariant-loop-i l = (length l.b.entries ≡ 64) × Applying l.side (rank_within l.m l.lo l.hi) l.b.entries l.n l.initial.tape l.at l.i l.p l.tape
-
-abbrev pub decreases-loop-i : goal.decreases-loop-i
-decreases-loop-i l = l.n - l.i
+abbrev pub invariant-loop-e : goal.invariant-loop-e
+invariant-loop-e l = Puts l.initial.tape l.at (command_words l.side (filter_b (rank_within l.m l.lo l.hi) (take l.e-index l.entries))) l.next l.tape

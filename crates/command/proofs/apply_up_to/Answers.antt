@@ -5,4 +5,4 @@ use Rattle.command.proofs.apply_up_to.Goals as goal
 
 pub returns : goal.returns
 returns c =
-    applies_is _ _ (omega arith) (omega arith) (omega arith) (omega arith) c.apply_between-next.ensures c.sift-left.ensures
+    applies_is _ _ (omega arith) (omega arith) (omega arith) (omega arith) c.apply_held-next.ensures c.sift.ensures

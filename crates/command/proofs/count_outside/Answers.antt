@@ -1,30 +1,30 @@
 -- `count_outside` meets its contract. The loop's invariant: of the entries passed, those out of the span are counted. Assumes nothing.
-use mathlib.Core.Path.{◌≡◌}
+use mathlib.Core.Path.{sym, ap, ◌∙◌}
+use mathlib.Core.Bool.{not}
 use native.Mathlib.Omega.{arith}
-use borrow.Author.Rules.{rules}
-use lib.ListN.{length}
+use Rattle.std.proofs.lemmas.List.{take_all}
+use Rattle.command.specs.Entries.{Entry}
 use Rattle.command.specs.Buffer.{blank}
-use Rattle.command.proofs.Lists.{count_none, count_few, count_one, count_skip}
-use Rattle.command.proofs.Holding.{held_long, held_counted}
+use Rattle.command.specs.Ranks.{rank_within}
+use Rattle.command.proofs.Lists.{count_few, count_one, count_skip}
 use Rattle.command.proofs.count_outside.Goals as goal
-use Rattle.command.proofs.count_outside.Goals.{Start}
-
-slots : (c : Start) → length c.args.b.entries ≡ 64
-slots c = search rules
-
-pub loop-i-init : goal.loop-i-init
-loop-i-init c =
-    (slots c.before, count_none _ _ _ (held_long c.args.b c.held_count-n.ensures))
+use Rattle.command.proofs.count_outside.Goals.{then-not-ranks_between, else-not-ranks_between}
 
 pub overflow_add-k : goal.overflow_add-k
-overflow_add-k c = omega (arith, count_few c.loop-i.invariant.1)
+overflow_add-k c =
+    let a = c.args in
+    omega (arith, c.loop-e.invariant, count_few (λ e. not (rank_within a.m a.lo a.hi e)) c.entries_of-e-items.result.now c.loop-e.e-index)
 
-pub loop-i-preserved-then-not-ranks_between : goal.loop-i-preserved-then-not-ranks_between
-loop-i-preserved-then-not-ranks_between c = (search rules, count_one c.loop-i.invariant.1 blank (search rules) (cc))
-
-pub loop-i-preserved : goal.loop-i-preserved
-loop-i-preserved c = (search rules, count_skip c.loop-i.invariant.1 blank (search rules) (cc))
+pub loop-e-preserved : goal.loop-e-preserved
+loop-e-preserved c =
+    let a = c.args in
+    let p = λ (e : Entry). not (rank_within a.m a.lo a.hi e) in
+    elim c.if-not-ranks_between.branch [
+      | then-not-ranks_between w ↦ rw w.k-is
+          (count_one p _ _ blank c.loop-e-test.true c.loop-e.invariant (ap not (sym c.ranks_between.ensures ∙ w.if-not-ranks_between.true)))
+      | else-not-ranks_between w ↦ rw w.k-is
+          (count_skip p _ _ blank c.loop-e-test.true c.loop-e.invariant (ap not (sym c.ranks_between.ensures ∙ w.if-not-ranks_between.false)))
+    ]
 
 pub returns : goal.returns
-returns c =
-    held_counted c.args.b c.loop-i.invariant.1 (search rules) c.held_count-n.ensures (omega arith)
+returns c = rw (take_all _ _ c.loop-e-test.false, c.entries_of-e-items.ensures.held) at c.loop-e.invariant

@@ -3,4 +3,4 @@ use Rattle.command.proofs.Ranks.{rank_is}
 use Rattle.command.proofs.rank_of.Goals as goal
 
 pub returns : goal.returns
-returns c = rank_is _ _ _ _ c.sub-d.ensures c.add.ensures
+returns c = rank_is _ _ _ _ c.sub.ensures c.add.ensures

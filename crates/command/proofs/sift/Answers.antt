@@ -11,12 +11,12 @@ use Rattle.command.proofs.sift.Goals.{Start}
 slots : (c : Start) → length c.args.b.entries ≡ 64
 slots c = search rules
 
-pub returns-then-n-eq0 : goal.returns-then-n-eq0
-returns-then-n-eq0 c = sifted_none _ _ _ _ c.count_outside-n.ensures (search rules)
+pub returns-then-count-eq0 : goal.returns-then-count-eq0
+returns-then-count-eq0 c = rw c.if-count-eq0.true (sifted_none _ _ _ _ c.count_outside-count.ensures c.if-count-eq0.true)
 
-pub extend-rest-requires : goal.extend-rest-requires
-extend-rest-requires c = room_kept _ (slots c.before.before.before.before) c.new.ensures
+pub extend-requires : goal.extend-requires
+extend-requires c = room_kept _ (slots c.before.before.before.before) c.new.ensures
 
 pub returns : goal.returns
 returns c =
-    sifted_some _ _ _ _ c.count_outside-n.ensures c.if-n-eq0.false (laid_then [] _ _ c.new.ensures c.extend-rest.ensures)
+    sifted_some _ _ _ _ c.count_outside-count.ensures c.if-count-eq0.false (laid_then [] _ _ c.new.ensures c.extend.ensures)

@@ -1,7 +1,8 @@
 -- `insert` meets its contract. The loop's invariant: the entries passed are later than the new one, and stand one slot up. Assumes nothing.
 use borrow.Author.Rules.{rules}
 use native.Mathlib.Omega.{arith}
-use mathlib.Core.Path.{sym, ◌∙◌}
+use mathlib.Core.Path.{◌≡◌, sym, ◌∙◌}
+use Prim.Native.Nat.{◌+◌, ◌-◌}
 use Rattle.slots_insert.proofs.Shifting.{shift_none, shift_end, shift_stop, shift_next}
 use Rattle.slots_insert.proofs.insert.Goals as goal
 
@@ -11,7 +12,8 @@ loop-i-init c = (c.rank_in-k.ensures, shift_none _ _ _ _ c.requires)
 pub returns-then-rank_in-k : goal.returns-then-rank_in-k
 returns-then-rank_in-k c =
     let l = c.loop-i.invariant in
-    shift_stop l.1 (search rules) (omega (arith, l.0, c.rank_in.ensures, c.if-rank_in-k.true))
+    let up : c.loop-i.i - 1 + 1 ≡ c.loop-i.i = omega (arith, c.loop-i-test.true) in
+    rw up (shift_stop l.1 (search rules) (omega (arith, l.0, c.rank_in.ensures, c.if-rank_in-k.true)))
 
 pub shape_of-e-then-rank_in-k : goal.shape_of-e-then-rank_in-k
 shape_of-e-then-rank_in-k c = (returns-then-rank_in-k c).slots ∙ sym c.requires.lent.slots
@@ -19,7 +21,8 @@ shape_of-e-then-rank_in-k c = (returns-then-rank_in-k c).slots ∙ sym c.require
 pub loop-i-preserved : goal.loop-i-preserved
 loop-i-preserved c =
     let l = c.loop-i.invariant in
-    (l.0, shift_next l.1 (search rules) (omega (arith, l.0, c.rank_in.ensures, c.if-rank_in-k.false)))
+    let up : c.loop-i.i - 1 + 1 ≡ c.loop-i.i = omega (arith, c.loop-i-test.true) in
+    (l.0, rw up (shift_next l.1 (search rules) (omega (arith, l.0, c.rank_in.ensures, c.if-rank_in-k.false))))
 
 pub returns : goal.returns
 returns c = shift_end c.loop-i.invariant.1 (search rules)

@@ -6,6 +6,3 @@ use Rattle.slots_insert.proofs.insert.Given as goal
 
 abbrev pub invariant-loop-i : goal.invariant-loop-i
 invariant-loop-i l = (l.k ≡ rank_in l.t l.x) × Shifting l.initial.e l.n l.t l.x l.i l.e
-
-abbrev pub decreases-loop-i : goal.decreases-loop-i
-decreases-loop-i l = l.i

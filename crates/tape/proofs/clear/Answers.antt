@@ -1,18 +1,10 @@
--- `clear` meets its contract. The loop's invariant: zeroing the tape as it is from `i` on is zeroing the tape as it was from `from` on. Assumes nothing.
-use native.Mathlib.Omega.{arith}
-use mathlib.Core.Path.{refl, sym, ◌∙◌}
-use lib.ListN.{length-set}
-use Rattle.tape.proofs.Writing.{cleared_step, cleared_end}
+-- `clear` meets its contract: the rest is filled with zeros, and past the end there is none. Assumes nothing.
+use mathlib.Core.Path.{sym}
+use Rattle.tape.proofs.Writing.{cleared_filled, cleared_end}
 use Rattle.tape.proofs.clear.Goals as goal
 
-pub loop-i-init : goal.loop-i-init
-loop-i-init c = (refl, refl)
+pub returns-then-from-tape : goal.returns-then-from-tape
+returns-then-from-tape c = cleared_filled _ _ c.if-from-tape.true (c.fill.ensures.after (λ y h. h))
 
-pub loop-i-smaller : goal.loop-i-smaller
-loop-i-smaller c = simp length-set (omega arith)
-
-pub loop-i-preserved : goal.loop-i-preserved
-loop-i-preserved c = ((simp length-set) ∙ c.loop-i.invariant.0, cleared_step _ _ c.loop-i-test.true ∙ c.loop-i.invariant.1)
-
-pub returns : goal.returns
-returns c = sym (cleared_end _ _ c.loop-i-test.false) ∙ c.loop-i.invariant.1
+pub returns-else-from-tape : goal.returns-else-from-tape
+returns-else-from-tape c = sym (cleared_end _ _ c.if-from-tape.false)

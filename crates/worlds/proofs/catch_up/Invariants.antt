@@ -1,10 +1,7 @@
--- `catch_up` meets its contract. The loop's invariant: k steps are done, and the slots can be lent again. Assumes nothing.
-use Prim.Native.Nat.{◌-◌}
+-- `catch_up` meets its contract. The loop's invariant: as many steps are done as it has passed, and the slots can be lent again. Assumes nothing.
 use Rattle.worlds.proofs.Turning.{Catching}
 use Rattle.worlds.proofs.catch_up.Given as goal
 
-abbrev pub invariant-loop-k : goal.invariant-loop-k
-invariant-loop-k l = Catching l.steps l.side l.initial.e l.initial.m l.initial.t l.initial.tape l.at l.e l.tape l.m l.t l.p l.k
-
-abbrev pub decreases-loop-k : goal.decreases-loop-k
-decreases-loop-k l = l.steps - l.k
+abbrev pub invariant-loop : goal.invariant-loop
+invariant-loop l =
+    Catching l.steps l.side l.initial.e l.initial.turned.ledger l.initial.t l.initial.tape l.at l.e l.tape l.turned.ledger l.t l.turned.at l.counter
