@@ -5,7 +5,7 @@
 ghost use Rattle.std.specs.Prelude.{◌≡◌, List, ◌<◌, length, take, Float};
 ghost use Rattle.refusals.specs.Limits.{sample_room};
 ghost use Rattle.mean.specs.Mean.{samples_ok};
-ghost use Rattle.clocksync.specs.Clock.{laid_out, ticked_of, added_of, settled_of, sound_clock};
+ghost use Rattle.clocksync.specs.Clock.{ticked_of, added_of, settled_of, sound_clock};
 ghost use Rattle.clock_samples.specs.Numbers.{clock_at, ticked_at, settled_numbers, Slots, Moved, Blanked, Adds, Pushes};
 
 use clocksync::{ClientId, Heard, Offset};
@@ -60,19 +60,17 @@ pub fn sound(samples: &[f64], c: ClockNumbers, settings: Settings) -> bool
 pub fn tick(c: ClockNumbers, settings: Settings, delta: f64) -> TickedNumbers
     ensures { (samples : List Float) → ticked_at samples result ≡ ticked_of (clock_at samples c) settings.period delta }
 {
-    let mut clock = c;
     let timer = c.timer + delta;
     if timer > settings.period {
-        clock.timer = 0.0;
-        return TickedNumbers {
-            clock,
+        TickedNumbers {
+            clock: ClockNumbers { timer: 0.0, ..c },
             request: true,
-        };
-    }
-    clock.timer = timer;
-    TickedNumbers {
-        clock,
-        request: false,
+        }
+    } else {
+        TickedNumbers {
+            clock: ClockNumbers { timer, ..c },
+            request: false,
+        }
     }
 }
 
@@ -119,15 +117,7 @@ fn all_sound(samples: &[f64], n: usize) -> bool
     requires { Slots samples.now n }
     ensures { result ≡ samples_ok (take n samples.now) }
 {
-    let mut i: usize = 0;
-    while i < n {
-        let x = samples[i];
-        if !mean::sample_sound(x) {
-            return false;
-        }
-        i += 1;
-    }
-    true
+    mean::all_sound(&samples[..n])
 }
 
 // The offset after one sample more. Only where the samples to store are together are they copied, for their mean.
@@ -135,30 +125,16 @@ fn offset_with(samples: &[f64], c: ClockNumbers, settings: Settings, x: f64) -> 
     requires { length samples.now ≡ sample_room }
     ensures { result ≡ (added_of settings (clock_at samples.now c) x).offset }
 {
-    let n = mean::least(c.len, refusals::MOST_SAMPLES);
+    let n = c.len.min(refusals::MOST_SAMPLES);
     let count = n + 1;
     let old = c.offset;
     if count < settings.samples_to_store() {
         return old;
     }
-    let mut all = laid(samples, n);
+    let mut all = clocksync::laid(&samples[..n]);
     all[n] = x;
     let mean = mean::mean_of(all, count, settings.samples_to_discard());
     clocksync::synced(old, mean, settings.deviation)
-}
-
-// The first n samples in an array, the slots after them at 0.
-fn laid(samples: &[f64], n: usize) -> [f64; 64]
-    requires { Slots samples.now n }
-    ensures { result ≡ laid_out (take n samples.now) }
-{
-    let mut out = [0.0; 64];
-    let mut i: usize = 0;
-    while i < n {
-        out[i] = samples[i];
-        i += 1;
-    }
-    out
 }
 
 // One sample more, the slots after it at 0. With the samples to store together, the oldest goes.
@@ -166,7 +142,7 @@ fn add(samples: &mut [f64], len: usize, settings: Settings, x: f64) -> usize
     requires { length samples.old ≡ sample_room }
     ensures { Adds settings samples.old len x result samples.new }
 {
-    let n = mean::least(len, refusals::MOST_SAMPLES);
+    let n = len.min(refusals::MOST_SAMPLES);
     let count = n + 1;
     samples[n] = x;
     if count < settings.samples_to_store() {
@@ -183,12 +159,7 @@ fn move_down(samples: &mut [f64], n: usize)
     requires { (length samples.old ≡ sample_room) × (n < sample_room) }
     ensures { Moved samples.old n samples.new }
 {
-    let mut i: usize = 0;
-    while i < n {
-        let x = samples[i + 1];
-        samples[i] = x;
-        i += 1;
-    }
+    samples.copy_within(1..n + 1, 0);
 }
 
 // The slots from n on are 0.
@@ -196,9 +167,5 @@ fn blank_from(samples: &mut [f64], n: usize)
     requires { Slots samples.old n }
     ensures { Blanked samples.old n samples.new }
 {
-    let mut i = n;
-    while i < 64 {
-        samples[i] = 0.0;
-        i += 1;
-    }
+    samples[n..].fill(0.0);
 }

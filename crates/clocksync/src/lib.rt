@@ -3,7 +3,7 @@
 // clock that is not sound.
 #![tactic(auto)]
 
-ghost use Rattle.std.specs.Prelude.{◌≡◌, ◌||◌, ◌≤◌, take, drop};
+ghost use Rattle.std.specs.Prelude.{◌≡◌, ◌||◌, ◌≤◌, length};
 ghost use Rattle.clocksync.specs.Offset.{offset_of};
 ghost use Rattle.clocksync.specs.Clock.{laid_out, new_of, ticked_of, listen_of, heard_of, first_of, other_of, deviates_of, offset_after, added_of, settled_of};
 ghost use Rattle.clocksync.specs.Clock.{server_seconds_of, ready_of, timer_ok, sound_clock};
@@ -81,19 +81,17 @@ impl Clock {
     pub fn tick(self, settings: Settings, delta: f64) -> Ticked
         ensures { result ≡ ticked_of self settings.period delta }
     {
-        let mut clock = self;
         let timer = self.timer + delta;
         if timer > settings.period {
-            clock.timer = 0.0;
-            return Ticked {
-                clock,
+            Ticked {
+                clock: Clock { timer: 0.0, ..self },
                 request: true,
-            };
-        }
-        clock.timer = timer;
-        Ticked {
-            clock,
-            request: false,
+            }
+        } else {
+            Ticked {
+                clock: Clock { timer, ..self },
+                request: false,
+            }
         }
     }
 
@@ -135,9 +133,8 @@ impl Clock {
     pub(crate) fn add_sample(self, settings: Settings, x: f64) -> Clock
         ensures { result ≡ added_of settings self x }
     {
-        let n = mean::least(self.len, refusals::MOST_SAMPLES);
-        let samples = self.samples;
-        let mut all = laid_from(samples, 0, n);
+        let n = self.len.min(refusals::MOST_SAMPLES);
+        let mut all = laid(&self.samples[..n]);
         all[n] = x;
         let count = n + 1;
         let old = self.offset;
@@ -154,7 +151,7 @@ impl Clock {
         }
         let mean = mean::mean_of(all, count, settings.samples_to_discard());
         let offset = synced(old, mean, settings.deviation);
-        let rest = laid_from(all, 1, count);
+        let rest = laid(&all[1..count]);
         Clock {
             offset,
             samples: rest,
@@ -264,19 +261,13 @@ pub(crate) fn measured_offset(send: f64, server: f64, seconds: f64) -> f64
     server - (send + seconds) / 2.0
 }
 
-// Those from `start` to before `end`, laid out from the front, the slots after them at 0.
-fn laid_from(samples: [f64; 64], start: usize, end: usize) -> [f64; 64]
-    requires { (start ≤ end) × (end ≤ sample_room) }
-    ensures { result ≡ laid_out (drop start (take end samples)) }
+// Samples laid out from the front, the slots after them at 0.
+pub fn laid(samples: &[f64]) -> [f64; 64]
+    requires { length samples.now ≤ sample_room }
+    ensures { result ≡ laid_out samples.now }
 {
     let mut out = [0.0; 64];
-    let mut i = start;
-    let mut k: usize = 0;
-    while i < end {
-        out[k] = samples[i];
-        i += 1;
-        k += 1;
-    }
+    out[..samples.len()].copy_from_slice(samples);
     out
 }
 
@@ -284,11 +275,7 @@ fn laid_from(samples: [f64; 64], start: usize, end: usize) -> [f64; 64]
 fn deviates(mean: f64, offset: f64, deviation: f64) -> bool
     ensures { result ≡ deviates_of mean offset deviation }
 {
-    let d = mean - offset;
-    if d < 0.0 {
-        return -d > deviation;
-    }
-    d > deviation
+    (mean - offset).abs() > deviation
 }
 
 // The offset after a mean was taken.
@@ -307,12 +294,9 @@ pub fn synced(old: Offset, mean: f64, deviation: f64) -> Offset
     }
 }
 
-// Whether the timer is finite, which of a value up to 3,600 only minus infinity is not, and at most 3,600.
+// Whether the timer is finite and at most 3,600.
 pub fn timer_sound(timer: f64) -> bool
     ensures { result ≡ timer_ok timer }
 {
-    if timer <= refusals::HOUR {
-        return timer > -1.0 / 0.0;
-    }
-    false
+    timer.is_finite() && timer <= refusals::HOUR
 }

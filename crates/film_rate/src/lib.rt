@@ -19,29 +19,19 @@ pub struct SpanFrames {
 }
 
 // Whether a part of a rate is in its range.
+#[tactic(auto, unfolding(crate::specs::Spans::rate_part_passes))]
 fn rate_part_passes(n: u32) -> bool
     ensures { result ≡ rate_part_passes n }
 {
-    if n < 1 {
-        return false;
-    }
-    if n > refusals::MOST_RATE_PART {
-        return false;
-    }
-    true
+    (1..=refusals::MOST_RATE_PART).contains(&n)
 }
 
 // Whether a span and a rate are in their ranges.
+#[tactic(auto, unfolding(crate::specs::Spans::span_passes))]
 fn span_passes(span: u64, p: u32, q: u32) -> bool
     ensures { result ≡ span_passes span p q }
 {
-    if span > refusals::LONGEST_SPAN {
-        return false;
-    }
-    if !rate_part_passes(p) {
-        return false;
-    }
-    rate_part_passes(q)
+    span <= refusals::LONGEST_SPAN && rate_part_passes(p) && rate_part_passes(q)
 }
 
 // The frames of a span in range. The product stays below 2^56 and the divisor below 2^36, so neither overflows.

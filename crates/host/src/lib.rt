@@ -9,7 +9,7 @@ ghost use Rattle.timestamp.specs.Timestamps.{bits_of, order_of, order_number};
 ghost use Rattle.refusals.specs.Limits.{sample_room};
 ghost use Rattle.film_rate.specs.Spans.{span_frames_of};
 ghost use Rattle.host.specs.Host.{frame_stamp_of};
-ghost use Rattle.host.specs.Mean.{little_of, word_at, floats_of, bytes_of, judged_mean, mean_answer_of, AnswersMean};
+ghost use Rattle.host.specs.Mean.{word_at, floats_of, bytes_of, judged_mean, mean_answer_of, AnswersMean};
 ghost use Rattle.host.specs.Spans.{host_span_of};
 
 use std::cmp::Ordering;
@@ -51,13 +51,13 @@ pub fn kadwunge_stamp_order(first: i16, second: i16) -> i32
 pub fn kadwunge_frame_stamp(seconds: f64, timestep: f64) -> i32
     ensures { result ≡ frame_stamp_of seconds timestep }
 {
-    if settings::within(0.0009765625, 1.0, timestep) {
-        if settings::within(-refusals::LONGEST_TIME, refusals::LONGEST_TIME, seconds) {
-            return Timestamp::from_seconds(seconds, timestep).value() as i32;
-        }
+    if !settings::within(0.0009765625, 1.0, timestep) {
+        return 65537;
+    }
+    if !settings::within(-refusals::LONGEST_TIME, refusals::LONGEST_TIME, seconds) {
         return 65538;
     }
-    65537
+    Timestamp::from_seconds(seconds, timestep).value() as i32
 }
 
 // The whole frames of a span of microseconds at p over q frames a second, and the remainder; or 31, both being 0 then.
@@ -129,10 +129,8 @@ fn floats_of(bytes: &[u8], n: usize) -> [f64; 64]
     ensures { take n result ≡ floats_of bytes.now n }
 {
     let mut out = [0.0; 64];
-    let mut i: usize = 0;
-    while i < n {
+    for i in 0..n {
         out[i] = float_of(word_at(bytes, 8 * i));
-        i += 1;
     }
     out
 }
@@ -152,25 +150,9 @@ fn word_at(bytes: &[u8], at: usize) -> u64
     requires { at + 8 ≤ length bytes.now }
     ensures { result ≡ word_at bytes.now at }
 {
-    joined(
-        bytes[at],
-        bytes[at + 1],
-        bytes[at + 2],
-        bytes[at + 3],
-        bytes[at + 4],
-        bytes[at + 5],
-        bytes[at + 6],
-        bytes[at + 7],
-    )
-}
-
-// The number that 8 bytes make, the first being the lowest.
-fn joined(a: u8, b: u8, c: u8, d: u8, e: u8, f: u8, g: u8, h: u8) -> u64
-    ensures { result ≡ little_of a b c d e f g h }
-{
-    let low = (a as u64) + 256 * (b as u64) + 65536 * (c as u64) + 16777216 * (d as u64);
-    let high = (e as u64) + 256 * (f as u64) + 65536 * (g as u64) + 16777216 * (h as u64);
-    low + 4294967296 * high
+    let mut word = [0; 8];
+    word.copy_from_slice(&bytes[at..at + 8]);
+    u64::from_le_bytes(word)
 }
 
 // Writes a number into 8 bytes, low byte first.
@@ -178,23 +160,12 @@ fn put(out: &mut [u8], n: u64)
     requires { length out.old ≡ 8 }
     ensures { out.new ≡ bytes_of n }
 {
-    out[0] = (n % 256) as u8;
-    out[1] = (n / 256 % 256) as u8;
-    out[2] = (n / 65536 % 256) as u8;
-    out[3] = (n / 16777216 % 256) as u8;
-    out[4] = (n / 4294967296 % 256) as u8;
-    out[5] = (n / 1099511627776 % 256) as u8;
-    out[6] = (n / 281474976710656 % 256) as u8;
-    out[7] = (n / 72057594037927936 % 256) as u8;
+    out.copy_from_slice(&n.to_le_bytes());
 }
 
 // Zeroes every byte.
 fn clear(out: &mut [u8])
     ensures { out.new ≡ replicate (length out.old) 0 }
 {
-    let mut i: usize = 0;
-    while i < out.len() {
-        out[i] = 0;
-        i += 1;
-    }
+    out.fill(0);
 }

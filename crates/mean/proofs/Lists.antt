@@ -1,56 +1,40 @@
--- Samples in the slots of an array, and what the loops over them keep. Assumes nothing.
-use Rattle.std.proofs.Common.{◌≡◌, ℕ, suc, ◌+◌, ◌<◌, ◌≤◌, Bool, true, false, cond, ◌&&◌, List, [], ◌∷◌, ◌++◌, length, get_or, take, drop, set, sym, refl}
-use Rattle.std.proofs.Common.{ap, ◌∙◌, append_assoc, add-one, arith, length-set, drop_of_length-le, length-take, take-suc, take-take, take-suc-set}
-use Rattle.std.proofs.Common.{drop-set-lt}
-use lib.Seq.{slice, slice-cons, drop-append-le, take-set-lt}
+-- Samples in a list: the places, folds and insertions of the code. Assumes nothing.
+use Rattle.std.proofs.Common.{◌≡◌, ℕ, suc, ◌+◌, ◌-◌, ◌<◌, ◌≤◌, Bool, true, false, cond, not, ◌&&◌, List, [], ◌∷◌, ◌++◌, length, get_or, take, drop, sym, refl}
+use Rattle.std.proofs.Common.{Option, Some, None, ap, ◌∙◌, append_assoc, add-one, add-zero, arith, length-append, length-drop, length-take}
+use Rattle.std.proofs.Common.{drop_of_length-le, take-suc, take-take}
+use lib.Seq.{drop-append-le, drop-append_seam, drop-drop, get_or-drop, take-append-le, take-append_seam, take_all}
 use lib.Ieee.{Float, nan, binary64, lt, add}
+use borrow.Author.Tests.{ltb-false}
+use Rattle.std.specs.List.{fold, insert, list_all, position, position_or_len}
+use Rattle.std.specs.Option.{unwrap_or}
 use Rattle.mean.specs.Mean.{sample_inserted, place_of, sorted_onto, sorted_of, sum_from, samples_ok}
 use Rattle.timestamp.specs.Floats.{sample_ok}
+use Rattle.mean.proofs.Means.{inserted_length, sorted_length}
 
--- ---- parts of a list
+-- ---- folds
 
-module _ {A : Type 0} where
-  -- one element more at the end of a part
-  pub slice_more : (start i : ℕ) (xs : List A) (d : A) → start ≤ i → i < length xs → slice start (i + 1) xs ≡ slice start i xs ++ (get_or xs i d ∷ [])
-  slice_more start i xs d h l =
-      let k : start ≤ length (take i xs) = simp length-take (omega arith) in
-      rw (add-one i, take-suc xs i d l) (drop-append-le start (take i xs) (get_or xs i d ∷ []) k)
+-- the place of a sample is the first at which a greater one stands
+place_is : (x : Float) (ys : List Float) → position_or_len (λ y. lt x y) ys ≡ place_of x ys
+unfolding place_of
+place_is x [] = refl
+place_is x (y ∷ ys) = go (lt x y) (place_is x ys)
+  where
+    go : (b : Bool) → position_or_len (λ y. lt x y) ys ≡ place_of x ys
+        → cond (not b) (1 + position_or_len (λ y. lt x y) ys) 0 ≡ cond b 0 (suc (place_of x ys))
+    go true h = refl
+    go false h = omega arith
 
-  pub slice_none : (i n : ℕ) (xs : List A) → n ≤ i → slice i n xs ≡ []
-  slice_none i n xs h = drop_of_length-le (take n xs) {i = i} (simp length-take (omega arith))
+-- the sum is a fold
+pub sum_folds : (sum : Float) (xs : List Float) → sum_from sum xs ≡ fold (λ s x. add binary64 s x) sum xs
+unfolding sum_from
+sum_folds sum [] = refl
+sum_folds sum (x ∷ xs) = sum_folds (add binary64 sum x) xs
 
--- ---- the place of a sample
-
-pub record Placing (x : Float) (n : ℕ) (xs : List Float) (i : ℕ) : Type 0 where
-  pub passed : i + place_of x (slice i n xs) ≡ place_of x (take n xs)
-  pub high : i ≤ n
-  pub few : n ≤ 64
-  pub long : length xs ≡ 64
-
-pub placing_start : (x : Float) (n : ℕ) (xs : List Float) → n ≤ 64 → length xs ≡ 64 → Placing x n xs 0
-placing_start x n xs f l = record { passed = omega arith; high = omega arith; few = f; long = l }
-
-module _ {x : Float} {n : ℕ} {xs : List Float} {i : ℕ} (s : Placing x n xs i) where
-  here : i < n → place_of x (slice i n xs) ≡ cond (lt x (get_or xs i nan)) 0 (suc (place_of x (slice (suc i) n xs)))
-  unfolding place_of
-  here h = ap (place_of x) (slice-cons i n xs nan h (omega (arith, s.few, s.long)))
-
-  pub placing_found : i < n → lt x (get_or xs i nan) ≡ true → i ≡ place_of x (take n xs)
-  placing_found h t =
-      let e : place_of x (slice i n xs) ≡ 0 = here h ∙ ap (λ (b : Bool). cond b 0 (suc (place_of x (slice (suc i) n xs)))) t in
-      omega (arith, s.passed, e)
-
-  pub placing_next : i < n → lt x (get_or xs i nan) ≡ false → Placing x n xs (i + 1)
-  placing_next h t =
-      let e : place_of x (slice i n xs) ≡ suc (place_of x (slice (suc i) n xs)) = here h ∙ ap (λ (b : Bool). cond b 0 (suc (place_of x (slice (suc i) n
-      xs)))) t in
-      record { passed = rw (add-one i) (omega (arith, s.passed, e)); high = omega arith; few = s.few; long = s.long }
-
-  pub placing_end : n ≤ i → i ≡ place_of x (take n xs)
-  unfolding place_of
-  placing_end h =
-      let e : place_of x (slice i n xs) ≡ 0 = ap (place_of x) (slice_none i n xs h) in
-      omega (arith, s.passed, e)
+-- the test of samples is a test of each
+pub samples_all : (xs : List Float) → samples_ok xs ≡ list_all (λ x. sample_ok x) xs
+unfolding samples_ok
+samples_all [] = refl
+samples_all (x ∷ xs) = ap (λ (b : Bool). sample_ok x && b) (samples_all xs)
 
 -- ---- a sample moved in
 
@@ -76,45 +60,35 @@ inserted_at x (y ∷ ys) = go (lt x y) (inserted_at x ys)
     go true h = refl
     go false h = ap (λ (l : List Float). y ∷ l) h
 
--- `insert` has moved those from the place to before i up by one, and `moved` goes to i
-pub record Moving (target : List Float) (n : ℕ) (out : List Float) (moved : Float) (i : ℕ) : Type 0 where
-  pub whole : take i out ++ (moved ∷ slice i n out) ≡ target
-  pub high : i ≤ n
-  pub few : n < 64
-  pub long : length out ≡ 64
+-- the place as it is found: where the first greater sample stands, or the end
+pub placed : (x : Float) (ys : List Float) {at : Option ℕ} {i : ℕ} → at ≡ position (λ y. lt x y) ys → i ≡ unwrap_or at (length ys) → i ≡ place_of x ys
+placed x ys e f =
+    f ∙ ap (λ (o : Option ℕ). unwrap_or o (length ys)) e ∙ go _ (ltb-false (position_or_len (λ y. lt x y) ys) (length ys)) ∙ place_is x ys
+  where
+    go : (b : Bool) → (b ≡ false → length ys ≤ position_or_len (λ y. lt x y) ys)
+        → unwrap_or (cond b (Some (position_or_len (λ y. lt x y) ys)) None) (length ys) ≡ position_or_len (λ y. lt x y) ys
+    go true h = refl
+    go false h = omega (arith, h refl, place_is x ys, place_most x ys)
 
-pub moving_start : (x : Float) (n p : ℕ) (xs : List Float) → p ≡ place_of x (take n xs) → n < 64 → length xs ≡ 64
-    → Moving (sample_inserted x (take n xs)) n xs x p
-moving_start x n p xs e f l =
-    let m : place_of x (take n xs) ≤ n = omega (arith, place_most x (take n xs), length-take n xs) in
-    record {
-      whole = rw e (ap (λ (ys : List Float). ys ++ (x ∷ slice (place_of x (take n xs)) n xs)) (sym (take-take (place_of x (take n xs)) n xs m))
-          ∙ sym (inserted_at x (take n xs)));
-      high = omega (arith, m, e);
-      few = f;
-      long = l;
-    }
-
-module _ {target : List Float} {n : ℕ} {out : List Float} {moved : Float} {i : ℕ} (s : Moving target n out moved i) where
-  pub moving_next : i < n → Moving target n (set out i moved) (get_or out i nan) (i + 1)
-  moving_next h =
-      let a : take (suc i) (set out i moved) ≡ take i out ++ (moved ∷ []) = take-suc-set out i moved (omega (arith, s.few, s.long)) in
-      let b : slice (suc i) n (set out i moved) ≡ slice (suc i) n out = ap (drop (suc i)) (take-set-lt n out i moved h)
-      ∙ drop-set-lt (suc i) (take n out) i moved (omega arith) in
-      let c : slice i n out ≡ get_or out i nan ∷ slice (suc i) n out = slice-cons i n out nan h (omega (arith, s.few, s.long)) in
-      record {
-        whole = rw (add-one i, a, b) (append_assoc (take i out) (moved ∷ []) (get_or out i nan ∷ slice (suc i) n out)
-            ∙ ap (λ (l : List Float). take i out ++ (moved ∷ l)) (sym c) ∙ s.whole);
-        high = omega arith;
-        few = s.few;
-        long = length-set out i moved ∙ s.long;
-      }
-
-  pub moving_end : n ≤ i → take (n + 1) (set out n moved) ≡ target
-  moving_end h =
-      let e : i ≡ n = omega (arith, s.high) in
-      let a : take (suc n) (set out n moved) ≡ take n out ++ (moved ∷ []) = take-suc-set out n moved (omega (arith, s.few, s.long)) in
-      rw (add-one n, a) (ap (λ (l : List Float). take n out ++ (moved ∷ l)) (sym (slice_none n n out (omega arith))) ∙ rw e at s.whole)
+-- all have moved up: the last slot's content is left over
+pub insert_all : (x : Float) (s out : List Float) {i : ℕ} (j : ℕ) (moved : Float) → 0 < length s → i ≡ place_of x (take (length s - 1) s)
+    → length out ≡ length s → length s ≤ j → insert out j moved ≡ insert s i x → out ≡ sample_inserted x (take (length s - 1) s)
+insert_all x s out {i} j moved some at lo over e =
+    let n = length s - 1 in
+    let f = take (length s - 1) s in
+    let z = get_or s (length s - 1) nan in
+    let lf : length f ≡ n = length-take n s ∙ omega arith in
+    let hi : i ≤ length f = omega (arith, place_most x f) in
+    let se : s ≡ f ++ (z ∷ []) = sym (take_all (suc n) s (omega arith)) ∙ take-suc s n nan (omega arith) in
+    let te : take i s ≡ take i f = ap (take i) se ∙ take-append-le i f (z ∷ []) hi in
+    let de : drop i s ≡ drop i f ++ (z ∷ []) = ap (drop i) se ∙ drop-append-le i f (z ∷ []) hi in
+    let right : insert s i x ≡ sample_inserted x f ++ (z ∷ []) = (λ k. te k ++ (x ∷ de k)) ∙ sym (append_assoc (take i f) (x ∷ drop i f) (z ∷ []))
+    ∙ ap (λ (j : ℕ). (take j f ++ (x ∷ drop j f)) ++ (z ∷ [])) at ∙ ap (λ (l : List Float). l ++ (z ∷ [])) (sym (inserted_at x f)) in
+    let past : length out ≤ j = omega arith in
+    let left : insert out j moved ≡ out ++ (moved ∷ []) = (λ k. take_all j out past k ++ (moved ∷ drop_of_length-le out past k)) in
+    let li : length (sample_inserted x f) ≡ length out = inserted_length x f ∙ omega arith in
+    sym (take-append_seam out (moved ∷ [])) ∙ ap (take (length out)) (sym left ∙ e ∙ right)
+    ∙ ap (λ (k : ℕ). take k (sample_inserted x f ++ (z ∷ []))) (sym li) ∙ take-append_seam (sample_inserted x f) (z ∷ [])
 
 -- ---- sorting
 
@@ -128,79 +102,23 @@ pub sorted_snoc : (xs : List Float) (x : Float) → sorted_of (xs ++ (x ∷ []))
 unfolding sorted_of
 sorted_snoc xs x = onto_snoc [] xs x
 
-pub record Sorting (n : ℕ) (xs out : List Float) (i : ℕ) : Type 0 where
-  pub sorted : take i out ≡ sorted_of (take i xs)
-  pub high : i ≤ n
-  pub few : n ≤ 64
-  pub long : length xs ≡ 64
+-- ---- one more sample in order
 
-pub sorting_start : (n : ℕ) (xs out : List Float) → n ≤ 64 → length xs ≡ 64 → Sorting n xs out 0
-unfolding sorted_of sorted_onto
-sorting_start n xs out f l = record { sorted = refl; high = omega arith; few = f; long = l }
-
-module _ {n : ℕ} {xs out : List Float} {i : ℕ} (s : Sorting n xs out i) where
-  pub sorting_next : {next : List Float} → i < n → take (i + 1) next ≡ sample_inserted (get_or xs i nan) (take i out) → Sorting n xs next (i + 1)
-  sorting_next h e =
-      let t : take (i + 1) xs ≡ take i xs ++ (get_or xs i nan ∷ []) = rw (add-one i) (take-suc xs i nan (omega (arith, s.few, s.long))) in
-      record {
-        sorted = e ∙ ap (sample_inserted (get_or xs i nan)) s.sorted ∙ sym (sorted_snoc (take i xs) (get_or xs i nan)) ∙ ap sorted_of (sym t);
-        high = omega arith;
-        few = s.few;
-        long = s.long;
-      }
-
-  pub sorting_end : n ≤ i → take n out ≡ sorted_of (take n xs)
-  sorting_end h = let e : i ≡ n = omega (arith, s.high) in rw e at s.sorted
-
--- ---- the sum
-
-pub record Summing (total : Float) (end : ℕ) (xs : List Float) (sum : Float) (i : ℕ) : Type 0 where
-  pub rest : sum_from sum (slice i end xs) ≡ total
-  pub few : end ≤ 64
-  pub long : length xs ≡ 64
-
-module _ {total : Float} {end : ℕ} {xs : List Float} {sum : Float} {i : ℕ} (s : Summing total end xs sum i) where
-  pub summing_next : i < end → Summing total end xs (add binary64 sum (get_or xs i nan)) (i + 1)
-  unfolding sum_from
-  summing_next h =
-      record {
-        rest = rw (add-one i) (sym (ap (sum_from sum) (slice-cons i end xs nan h (omega (arith, s.few, s.long)))) ∙ s.rest);
-        few = s.few;
-        long = s.long;
-      }
-
-  pub summing_end : end ≤ i → sum ≡ total
-  unfolding sum_from
-  summing_end h = sym (ap (sum_from sum) (slice_none i end xs h)) ∙ s.rest
-
--- ---- the test of every sample
-
-pub record Testing (n : ℕ) (xs : List Float) (i : ℕ) : Type 0 where
-  pub rest : samples_ok (slice i n xs) ≡ samples_ok (take n xs)
-  pub high : i ≤ n
-  pub few : n ≤ 64
-  pub long : length xs ≡ 64
-
-pub testing_start : (n : ℕ) (xs : List Float) → n ≤ 64 → length xs ≡ 64 → Testing n xs 0
-testing_start n xs f l = record { rest = refl; high = omega arith; few = f; long = l }
-
-module _ {n : ℕ} {xs : List Float} {i : ℕ} (s : Testing n xs i) where
-  tested : i < n → samples_ok (slice i n xs) ≡ sample_ok (get_or xs i nan) && samples_ok (slice (suc i) n xs)
-  unfolding samples_ok
-  tested h = ap samples_ok (slice-cons i n xs nan h (omega (arith, s.few, s.long)))
-
-  pub testing_no : i < n → sample_ok (get_or xs i nan) ≡ false → false ≡ samples_ok (take n xs)
-  testing_no h t = sym (ap (λ (b : Bool). b && samples_ok (slice (suc i) n xs)) t) ∙ sym (tested h) ∙ s.rest
-
-  pub testing_next : i < n → sample_ok (get_or xs i nan) ≡ true → Testing n xs (i + 1)
-  testing_next h t =
-      record {
-        rest = rw (add-one i) (sym (ap (λ (b : Bool). b && samples_ok (slice (suc i) n xs)) t) ∙ sym (tested h) ∙ s.rest);
-        high = omega arith;
-        few = s.few;
-        long = s.long;
-      }
-
-  pub testing_end : n ≤ i → true ≡ samples_ok (take n xs)
-  unfolding samples_ok
-  testing_end h = sym (ap samples_ok (slice_none i n xs h)) ∙ s.rest
+-- the first i are in order and the rest as they were; one more is inserted
+pub sorted_more : (xs s : List Float) {new : List Float} (i : ℕ) → i < length xs → s ≡ sorted_of (take i xs) ++ drop i xs
+    → new ≡ sample_inserted (get_or s i nan) (take (length (take (i + 1) s) - 1) (take (i + 1) s))
+    → new ++ drop (i + 1) s ≡ sorted_of (take (i + 1) xs) ++ drop (i + 1) xs
+sorted_more xs s {new} i h e m =
+    let a = sorted_of (take i xs) in
+    let x = get_or xs i nan in
+    let la : length a ≡ i = sorted_length (take i xs) ∙ length-take i xs ∙ omega arith in
+    let ls : length s ≡ length xs = ap length e ∙ length-append a (drop i xs) ∙ omega (arith, length-drop i xs) in
+    let ts : take i s ≡ a = ap (take i) e ∙ ap (λ (k : ℕ). take k (a ++ drop i xs)) (sym la) ∙ take-append_seam a (drop i xs) in
+    let ds : drop i s ≡ drop i xs = ap (drop i) e ∙ ap (λ (k : ℕ). drop k (a ++ drop i xs)) (sym la) ∙ drop-append_seam a (drop i xs) in
+    let xe : get_or s i nan ≡ x = rw add-zero at (sym (get_or-drop i s 0 nan) ∙ ap (λ (l : List Float). get_or l 0 nan) ds ∙ get_or-drop i xs 0 nan) in
+    let lt : length (take (i + 1) s) - 1 ≡ i = omega (arith, length-take (i + 1) s) in
+    let fe : take (length (take (i + 1) s) - 1) (take (i + 1) s) ≡ a = ap (λ (k : ℕ). take k (take (i + 1) s)) lt ∙ take-take i (i + 1) s (omega arith) ∙ ts in
+    let te : take (i + 1) xs ≡ take i xs ++ (x ∷ []) = rw (add-one i) (take-suc xs i nan h) in
+    let ne : new ≡ sorted_of (take (i + 1) xs) = m ∙ (λ k. sample_inserted (xe k) (fe k)) ∙ sym (sorted_snoc (take i xs) x) ∙ ap sorted_of (sym te) in
+    let de : drop (i + 1) s ≡ drop (i + 1) xs = sym (drop-drop 1 i s) ∙ ap (drop 1) ds ∙ drop-drop 1 i xs in
+    (λ k. ne k ++ de k)

@@ -1,6 +1,8 @@
 -- The mean as the code has it: what the answers of its calls come to. Assumes nothing.
-use Rattle.std.proofs.Common.{◌≡◌, ℕ, zero, suc, ◌+◌, ◌-◌, ◌≤◌, min, Bool, true, false, cond, List, [], ◌∷◌, length, take, drop, pos, sym, refl, ap, ◌∙◌}
-use Rattle.std.proofs.Common.{arith, length-drop, length-take, take-take}
+use Rattle.std.proofs.Common.{◌≡◌, ℕ, zero, suc, ◌+◌, ◌-◌, min, Bool, true, false, cond, List, [], ◌∷◌, length, take, drop, ◌++◌, pos, sym, refl, ap, ◌∙◌}
+use Rattle.std.proofs.Common.{arith, length-drop, length-take}
+use Rattle.std.proofs.lemmas.List.{drop-take, drop_min}
+use lib.Seq.{take-append-le}
 use native.Mathlib.Numerals.{unary_clauses}
 use lib.Ieee.{Float, binary64, lt, div, of_int}
 use Rattle.mean.specs.Mean.{sample_inserted, sorted_onto, sorted_of, sum_from, inner_of, average_of, mean_of}
@@ -35,32 +37,35 @@ take_min {A} (suc n) (x ∷ l) = simp unary_clauses (ap (λ (r : List A). x ∷ 
 
 -- ---- the mean
 
-module _ (xs ordered : List Float) (len d : ℕ) {n : ℕ} (full : length xs ≡ 64) (cut : n ≡ min len 64) (order : take n ordered ≡ sorted_of (take n xs)) where
-  samples_are : take n xs ≡ take len xs
-  samples_are = rw (cut, ← full) (take_min len xs)
+-- the code's slice, from start to before end, holds those inside
+module _ (ordered rest : List Float) (d : ℕ) {end start : ℕ} (cut : end ≡ length ordered - d) (from : start ≡ min d end) where
+  inner_is : take (end - start) (drop start (ordered ++ rest)) ≡ inner_of d ordered
+  inner_is =
+      let e : start + (end - start) ≡ end = omega arith in
+      let l : length (take end ordered) ≡ end = length-take end ordered ∙ omega arith in
+      sym (drop-take start (end - start) (ordered ++ rest)) ∙ ap (λ (k : ℕ). drop start (take k (ordered ++ rest))) e
+      ∙ ap (drop start) (take-append-le end ordered rest (omega arith))
+      ∙ ap (λ (k : ℕ). drop k (take end ordered)) (from ∙ ap (min d) (sym l)) ∙ drop_min d (take end ordered)
+      ∙ ap (λ (k : ℕ). drop d (take k ordered)) cut
 
-  ordered_are : take n ordered ≡ sorted_of (take len xs)
-  ordered_are = order ∙ ap sorted_of samples_are
+  inner_length : length (inner_of d ordered) ≡ end - start
+  inner_length = length-drop d (take (length ordered - d) ordered) ∙ ap (λ (k : ℕ). k - d) (length-take (length ordered - d) ordered) ∙ omega arith
 
-  many : length (sorted_of (take len xs)) ≡ n
-  many = sorted_length (take len xs) ∙ length-take len xs ∙ omega (arith, full, cut)
+module _ (xs : List Float) (len d : ℕ) {n : ℕ} {ordered : List Float} (full : length xs ≡ 64) (cut : n ≡ min len 64)
+    (order : ordered ≡ sorted_of (take n xs)) where
+  ordered_are : ordered ≡ sorted_of (take len xs)
+  ordered_are = order ∙ ap sorted_of (rw (cut, ← full) (take_min len xs))
 
-  inner_is : {end : ℕ} → end ≡ n - d → drop d (take end ordered) ≡ inner_of d (sorted_of (take len xs))
-  inner_is {end} e =
-      let f : end ≤ n = omega arith in
-      let g : take end ordered ≡ take end (sorted_of (take len xs)) = sym (take-take end n ordered f) ∙ ap (take end) ordered_are in
-      let h : end ≡ length (sorted_of (take len xs)) - d = omega (arith, many, e) in
-      ap (drop d) (g ∙ ap (λ (k : ℕ). take k (sorted_of (take len xs))) h)
-
-  inner_length : {end : ℕ} → end ≡ n - d → length (inner_of d (sorted_of (take len xs))) ≡ end - d
-  inner_length e = length-drop d (take (length (sorted_of (take len xs)) - d) (sorted_of (take len xs)))
-      ∙ ap (λ (k : ℕ). k - d) (length-take (length (sorted_of (take len xs)) - d) (sorted_of (take len xs))) ∙ omega (arith, many, e)
+  many : length ordered ≡ n
+  many = ap length order ∙ sorted_length (take n xs) ∙ length-take n xs ∙ omega (arith, full, cut)
 
   -- the sum of those inside, over their number
-  pub mean_is : {end count : ℕ} {sum over : Float} → end ≡ n - d → sum ≡ sum_from zero64 (drop d (take end ordered)) → count ≡ end - d
-      → over ≡ of_int binary64 (pos count) → div binary64 sum over ≡ mean_of d (take len xs)
+  pub mean_is : {end start : ℕ} {sum over : Float} → end ≡ n - d → start ≡ min d end
+      → sum ≡ sum_from zero64 (take (end - start) (drop start (ordered ++ drop n xs)))
+      → over ≡ of_int binary64 (pos (end - start)) → div binary64 sum over ≡ mean_of d (take len xs)
   unfolding mean_of average_of
-  mean_is {end} {count} {sum} {over} e s k o =
-      ap (λ (y : Float). div binary64 y over) (s ∙ ap (sum_from zero64) (inner_is e))
-      ∙ ap (λ (y : Float). div binary64 (sum_from zero64 (inner_of d (sorted_of (take len xs)))) y)
-      (o ∙ ap (λ (m : ℕ). of_int binary64 (pos m)) (k ∙ sym (inner_length e)))
+  mean_is {end} {start} e f s o =
+      let c : end ≡ length ordered - d = omega (arith, many, e) in
+      (λ k. div binary64 ((s ∙ ap (sum_from zero64) (inner_is ordered (drop n xs) d c f)) k)
+      ((o ∙ ap (λ (m : ℕ). of_int binary64 (pos m)) (sym (inner_length ordered (drop n xs) d c f))) k))
+      ∙ ap (λ (ys : List Float). average_of (inner_of d ys)) ordered_are

@@ -2,7 +2,7 @@
 // in range.
 #![tactic(auto)]
 
-ghost use Rattle.std.specs.Prelude.{◌≡◌, ◌+◌, ◌-◌, ◌<◌, ◌≤◌, min, take, drop};
+ghost use Rattle.std.specs.Prelude.{◌≡◌, ◌-◌, ◌<◌, ◌≤◌, length, min, take};
 ghost use Rattle.mean.specs.Mean.{sample_inserted, place_of, sorted_of, sum_from, mean_of, samples_ok};
 ghost use Rattle.timestamp.specs.Floats.{zero64, sample_ok};
 ghost use Rattle.refusals.specs.Limits.{sample_room};
@@ -11,87 +11,60 @@ ghost use Rattle.refusals.specs.Limits.{sample_room};
 pub fn mean_of(samples: [f64; 64], len: usize, discard: usize) -> f64
     ensures { result ≡ mean_of discard (take len samples) }
 {
-    let n = least(len, refusals::SAMPLE_ROOM);
-    let ordered = sorted(samples, n);
-    let end = less(n, discard);
-    let sum = sum_between(ordered, discard, end);
-    sum / std::num::nearest_u64_to_f64(less(end, discard) as u64)
+    let n = len.min(refusals::SAMPLE_ROOM);
+    let mut ordered = samples;
+    insertion_sort(&mut ordered[..n]);
+    let end = n.saturating_sub(discard);
+    let start = discard.min(end);
+    let sum = sum(&ordered[start..end]);
+    sum / std::num::nearest_u64_to_f64((end - start) as u64)
 }
 
-// Where x goes among the first n: before the first that is greater.
-fn place(samples: [f64; 64], n: usize, x: f64) -> usize
-    requires { n ≤ sample_room }
-    ensures { result ≡ place_of x (take n samples) }
+// Puts samples in order, the least first, one by one among those before it. The library's sorts do not serve: the one that keeps equal
+// samples (-0.0 and +0.0) in their order needs a heap for more than 20, and neither says how NaNs, which no test keeps out here, are left.
+fn insertion_sort(samples: &mut [f64])
+    ensures { samples.new ≡ sorted_of samples.old }
 {
-    let mut i: usize = 0;
-    while i < n {
-        if x < samples[i] {
-            return i;
-        }
-        i += 1;
+    for i in 0..samples.len() {
+        let x = samples[i];
+        insert(&mut samples[..i + 1], x);
     }
-    i
 }
 
-// x among the first n: those from its place on move up by one.
-fn insert(samples: [f64; 64], n: usize, x: f64) -> [f64; 64]
-    requires { n < sample_room }
-    ensures { take (n + 1) result ≡ sample_inserted x (take n samples) }
+// x goes to its place among samples in order; those from there on move up by one, into the last slot, which is left for that.
+// (A `rotate_right` moves them by C's memmove; include/kadwunge.h promises that libhost.a uses memcpy and memset alone.)
+fn insert(samples: &mut [f64], x: f64)
+    requires { 0 < length samples.old }
+    ensures { samples.new ≡ sample_inserted x (take (length samples.old - 1) samples.old) }
 {
-    let mut out = samples;
+    let last = samples.len() - 1;
+    let start = place(&samples[..last], x);
     let mut moved = x;
-    let mut i = place(samples, n, x);
-    while i < n {
-        let y = out[i];
-        out[i] = moved;
-        moved = y;
-        i += 1;
+    for i in start..samples.len() {
+        moved = std::mem::replace(&mut samples[i], moved);
     }
-    out[n] = moved;
-    out
 }
 
-// The first n in order.
-fn sorted(samples: [f64; 64], n: usize) -> [f64; 64]
-    requires { n ≤ sample_room }
-    ensures { take n result ≡ sorted_of (take n samples) }
+// Where x goes among samples in order: before the first that is greater.
+fn place(samples: &[f64], x: f64) -> usize
+    ensures place { result ≡ place_of x samples.now }
+    ensures bound { result ≤ length samples.now }
 {
-    let mut out = samples;
-    let mut i: usize = 0;
-    while i < n {
-        let next = insert(out, i, samples[i]);
-        out = next;
-        i += 1;
-    }
-    out
+    samples.iter().position(|y| x < *y).unwrap_or(samples.len())
 }
 
-// The sum of those from `start` to before `end`, upward from +0.0.
-fn sum_between(samples: [f64; 64], start: usize, end: usize) -> f64
-    requires { end ≤ sample_room }
-    ensures { result ≡ sum_from zero64 (drop start (take end samples)) }
+// The sum of samples, upward from +0.0.
+fn sum(samples: &[f64]) -> f64
+    ensures { result ≡ sum_from zero64 samples.now }
 {
-    let mut sum = 0.0;
-    let mut i = start;
-    while i < end {
-        sum = sum + samples[i];
-        i += 1;
-    }
-    sum
+    samples.iter().fold(0.0, |sum, x| sum + *x)
 }
 
 // The smaller of two counts.
 pub fn least(a: usize, b: usize) -> usize
     ensures { result ≡ min a b }
 {
-    if a < b { a } else { b }
-}
-
-// A count less another, and 0 where that is more.
-fn less(a: usize, b: usize) -> usize
-    ensures { result ≡ a - b }
-{
-    if a < b { 0 } else { a - b }
+    a.min(b)
 }
 
 // Whether a sample, or an offset, is finite and within 2^33.
@@ -101,17 +74,17 @@ pub fn sample_sound(x: f64) -> bool
     settings::within(-refusals::LARGEST_SAMPLE, refusals::LARGEST_SAMPLE, x)
 }
 
+// Whether each of the samples is.
+pub fn all_sound(samples: &[f64]) -> bool
+    ensures { result ≡ samples_ok samples.now }
+{
+    samples.iter().all(|x| sample_sound(*x))
+}
+
 // Whether each of the first n is.
 pub fn samples_sound(samples: [f64; 64], n: usize) -> bool
     requires { n ≤ sample_room }
     ensures { result ≡ samples_ok (take n samples) }
 {
-    let mut i: usize = 0;
-    while i < n {
-        if !sample_sound(samples[i]) {
-            return false;
-        }
-        i += 1;
-    }
-    true
+    all_sound(&samples[..n])
 }

@@ -26,31 +26,23 @@ pub enum TweeningMethod {
 
 impl TweeningMethod {
     // The method that a number names.
+    #[tactic(auto, unfolding(crate::specs::Tweening::method_of))]
     pub fn from_number(n: u32) -> TweeningMethod
         ensures { result ≡ method_of n }
     {
-        if n == 0 {
-            return TweeningMethod::MostRecentlyPassed;
+        match n {
+            0 => TweeningMethod::MostRecentlyPassed,
+            1 => TweeningMethod::Nearest,
+            2 => TweeningMethod::Interpolated,
+            _ => TweeningMethod::Unknown,
         }
-        if n == 1 {
-            return TweeningMethod::Nearest;
-        }
-        if n == 2 {
-            return TweeningMethod::Interpolated;
-        }
-        TweeningMethod::Unknown
     }
 
     // Whether it is one of the three methods.
     pub(crate) fn is_known(self) -> bool
         ensures { result ≡ known_of self }
     {
-        match self {
-            TweeningMethod::MostRecentlyPassed => true,
-            TweeningMethod::Nearest => true,
-            TweeningMethod::Interpolated => true,
-            TweeningMethod::Unknown => false,
-        }
+        !matches!(self, TweeningMethod::Unknown)
     }
 
     // The weight t as the method shapes it.
@@ -60,8 +52,7 @@ impl TweeningMethod {
         match self {
             TweeningMethod::MostRecentlyPassed => timestamp::floor(t),
             TweeningMethod::Nearest => timestamp::round(t),
-            TweeningMethod::Interpolated => t,
-            TweeningMethod::Unknown => t,
+            TweeningMethod::Interpolated | TweeningMethod::Unknown => t,
         }
     }
 }
@@ -123,20 +114,11 @@ impl Settings {
     }
 
     // Whether every setting is within its limits. Where it is not, the call is refused with 1.
+    #[tactic(auto, unfolding(crate::specs::Settings::passes_of))]
     pub fn passes(self) -> bool
         ensures { result ≡ passes_of self }
     {
-        if !seconds_pass(self) {
-            return false;
-        }
-        if !thresholds_pass(self) {
-            return false;
-        }
-        if !counts_pass(self) {
-            return false;
-        }
-        let method = self.method;
-        method.is_known()
+        seconds_pass(self) && thresholds_pass(self) && counts_pass(self) && self.method.is_known()
     }
 }
 
@@ -144,10 +126,7 @@ impl Settings {
 pub fn within(lo: f64, hi: f64, x: f64) -> bool
     ensures { result ≡ between lo hi x }
 {
-    if x >= lo {
-        return x <= hi;
-    }
-    false
+    x >= lo && x <= hi
 }
 
 // How many frames of the timestep a lag is.
@@ -185,60 +164,39 @@ pub fn store_count(needed: u32, rate: f64) -> usize
 }
 
 // The timestep, the latencies and the longest update.
+
 fn seconds_pass(s: Settings) -> bool
     ensures { result ≡ seconds_pass s }
 {
-    if !within(0.0009765625, 1.0, s.timestep) {
-        return false;
-    }
-    if !within(0.0009765625, 60.0, s.blend) {
-        return false;
-    }
-    if !within(0.0, 60.0, s.lag) {
-        return false;
-    }
-    if lag_frames(s.lag, s.timestep) > refusals::MOST_LAG_FRAMES {
-        return false;
-    }
-    within(0.0, 64.0 * s.timestep, s.max)
+    within(0.0009765625, 1.0, s.timestep)
+        && within(0.0009765625, 60.0, s.blend)
+        && within(0.0, 60.0, s.lag)
+        && lag_frames(s.lag, s.timestep) <= refusals::MOST_LAG_FRAMES
+        && within(0.0, 64.0 * s.timestep, s.max)
 }
 
 // The request period, the clock's tolerable deviation and the skip's threshold.
+
 fn thresholds_pass(s: Settings) -> bool
     ensures { result ≡ thresholds_pass s }
 {
-    if !within(0.0, refusals::HOUR, s.period) {
-        return false;
-    }
-    if !within(0.0, refusals::HOUR, s.deviation) {
-        return false;
-    }
-    within(0.0, refusals::HOUR, s.skip)
+    within(0.0, refusals::HOUR, s.period)
+        && within(0.0, refusals::HOUR, s.deviation)
+        && within(0.0, refusals::HOUR, s.skip)
 }
 
 // The samples needed and the rate of outliers.
+#[tactic(auto, unfolding(crate::specs::Settings::samples_pass))]
 pub fn samples_pass(needed: u32, rate: f64) -> bool
     ensures { result ≡ samples_pass needed rate }
 {
-    if needed < 1 {
-        return false;
-    }
-    if needed > refusals::MOST_NEEDED {
-        return false;
-    }
-    within(0.0, 1.0, rate)
+    needed >= 1 && needed <= refusals::MOST_NEEDED && within(0.0, 1.0, rate)
 }
 
 // The samples, and how many steps a frame may catch up.
+#[tactic(auto, unfolding(crate::specs::Settings::counts_pass))]
 fn counts_pass(s: Settings) -> bool
     ensures { result ≡ counts_pass s }
 {
-    if !samples_pass(s.needed, s.rate) {
-        return false;
-    }
-    let m = s.m;
-    if m < 1 {
-        return false;
-    }
-    m <= refusals::MOST_STEPS
+    samples_pass(s.needed, s.rate) && s.m >= 1 && s.m <= refusals::MOST_STEPS
 }

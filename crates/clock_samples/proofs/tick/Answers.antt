@@ -10,7 +10,7 @@ returns-then-timer-settings c samples =
     let a = c.args in
     ticked_over (clock_at samples a.c) a.settings.period a.delta c.if-timer-settings.true
 
-pub returns : goal.returns
-returns c samples =
+pub returns-else-timer-settings : goal.returns-else-timer-settings
+returns-else-timer-settings c samples =
     let a = c.args in
     ticked_under (clock_at samples a.c) a.settings.period a.delta c.if-timer-settings.false

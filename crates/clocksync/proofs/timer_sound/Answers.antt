@@ -1,12 +1,15 @@
--- `timer_sound` meets its contract: at most 3,600, and above minus infinity. Assumes nothing.
-use lib.Ieee.{of_bits, neg, div}
-use Rattle.clocksync.proofs.Tests.{timer_up, timer_over}
+-- `timer_sound` meets its contract: finite, and at most 3,600. Assumes nothing.
+use native.Mathlib.Omega.{arith}
+use Rattle.std.proofs.lemmas.Grind.{common_steps}
+use lib.Ieee.{of_bits}
+use Rattle.clocksync.specs.Clock.{timer_ok}
+use Rattle.clocksync.proofs.Tests.{finite_is}
 use Rattle.clocksync.proofs.timer_sound.Goals as goal
 
-pub returns-then-timer : goal.returns-then-timer
-unfolding of_bits neg div
-returns-then-timer c = timer_up c.args.timer c.if-timer.true
+pub returns-then-is_finite : goal.returns-then-is_finite
+unfolding timer_ok of_bits
+returns-then-is_finite c = let f = finite_is c.args.timer in grind (arith, common_steps, f)
 
-pub returns : goal.returns
-unfolding of_bits
-returns c = timer_over c.args.timer c.if-timer.false
+pub returns-else-is_finite : goal.returns-else-is_finite
+unfolding timer_ok of_bits
+returns-else-is_finite c = let f = finite_is c.args.timer in grind (arith, common_steps, f)

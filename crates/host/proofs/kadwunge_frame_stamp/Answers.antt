@@ -1,7 +1,9 @@
 -- `kadwunge_frame_stamp` meets its contract: the two tests in their order, and then the stamp's value. Assumes nothing.
 use borrow.Author.Rules.{rules}
+use native.Mathlib.Omega.{arith}
+use Rattle.std.proofs.lemmas.Grind.{common_steps}
 use mathlib.Core.Path.{◌≡◌, sym, ap, ◌∙◌, subst}
-use mathlib.Core.Bool.{true, false, cond}
+use mathlib.Core.Bool.{true, cond}
 use lib.IntN.{ℤ, pos}
 use lib.Ieee.{Float, of_bits, neg}
 use lib.Ieee.Casts.{to_signed_in}
@@ -11,6 +13,7 @@ use mir.Facts.{to_z-of_z, sfits_widen}
 use Rattle.timestamp.specs.Timestamps.{signed_of}
 use Rattle.timestamp.specs.FloatTimestamps.{from_seconds, stamp_of}
 use Rattle.timestamp.proofs.Signed.{signed_bits}
+use Rattle.timestamp.proofs.Tests.{holds}
 use Rattle.host.specs.Host.{timestep_ok, frame_stamp_of}
 use Rattle.timestamp.specs.Floats.{time_ok}
 use Rattle.host.proofs.kadwunge_frame_stamp.Goals as goal
@@ -21,19 +24,13 @@ overflow_cast-result c =
     let narrow : SFits w16 c.value.result = search rules in
     subst (λ (z : ℤ). SFits w32 z) (sym (to_z-of_z {w = w16} narrow)) (sfits_widen tt narrow)
 
--- what the definition gives, by the answers of its two tests
-module _ (s t : Float) where
-  in_both : timestep_ok t ≡ true → time_ok s ≡ true → stamp_of (from_seconds s t) ≡ frame_stamp_of s t
-  unfolding frame_stamp_of
-  in_both p q = λ i. cond (sym p i) (cond (sym q i) (stamp_of (from_seconds s t)) (pos 65538)) (pos 65537)
+pub returns-then-not-within : goal.returns-then-not-within
+unfolding frame_stamp_of of_bits neg
+returns-then-not-within c = grind (arith, common_steps)
 
-  off-seconds : timestep_ok t ≡ true → time_ok s ≡ false → pos 65538 ≡ frame_stamp_of s t
-  unfolding frame_stamp_of
-  off-seconds p q = λ i. cond (sym p i) (cond (sym q i) (stamp_of (from_seconds s t)) (pos 65538)) (pos 65537)
-
-  off-timestep : timestep_ok t ≡ false → pos 65537 ≡ frame_stamp_of s t
-  unfolding frame_stamp_of
-  off-timestep p = λ i. cond (sym p i) (cond (time_ok s) (stamp_of (from_seconds s t)) (pos 65538)) (pos 65537)
+pub returns-then-not-within-2 : goal.returns-then-not-within-2
+unfolding frame_stamp_of of_bits neg
+returns-then-not-within-2 c = grind (arith, common_steps)
 
 -- the signed value of the stamp that was made
 stamp : (c : After-value) → to_z w32 (of_z w32 (to_z w16 (of_z w16 c.value.result))) ≡ stamp_of
@@ -50,17 +47,11 @@ stamp c =
     ∙ ap signed_of c.from_seconds.ensures
     ∙ signed_bits (stamp_of y) (record { sfits = to_signed_in 15 y })
 
-pub returns-then-within-2 : goal.returns-then-within-2
-unfolding of_bits neg
-returns-then-within-2 c =
-    stamp c
-    ∙ in_both _ _ (sym c.within.ensures ∙ c.if-within.true) (sym c.within-then-within.ensures ∙ c.if-within-2.true)
-
-pub returns-then-within : goal.returns-then-within
-unfolding of_bits neg
-returns-then-within c = off-seconds _ _ (sym c.within.ensures ∙ c.if-within.true)
-    (sym c.within-then-within.ensures ∙ c.if-within-2.false)
+-- the two tests passed
+in_both : (s t : Float) → timestep_ok t ≡ true → time_ok s ≡ true → stamp_of (from_seconds s t) ≡ frame_stamp_of s t
+unfolding frame_stamp_of
+in_both s t p q = λ i. cond (sym p i) (cond (sym q i) (stamp_of (from_seconds s t)) (pos 65538)) (pos 65537)
 
 pub returns : goal.returns
 unfolding of_bits neg
-returns c = off-timestep _ _ (sym c.within.ensures ∙ c.if-within.false)
+returns c = stamp c ∙ in_both _ _ (holds c.if-not-within.false c.within.ensures) (holds c.if-not-within-2.false c.within-2.ensures)

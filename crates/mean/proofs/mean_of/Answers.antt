@@ -6,5 +6,5 @@ use Rattle.mean.proofs.mean_of.Goals as goal
 pub returns : goal.returns
 returns c =
     let a = c.args in
-    mean_is a.samples c.sorted-ordered.result a.len a.discard (search rules) c.least-n.ensures c.sorted-ordered.ensures
-    c.less-end.ensures c.sum_between-sum.ensures c.less.ensures c.nearest_u64_to_f64.ensures
+    mean_is a.samples a.len a.discard (search rules) c.min-n.ensures c.insertion_sort.ensures c.saturating_sub-end.ensures c.min-start.ensures
+    c.sum-sum.ensures c.nearest_u64_to_f64.ensures

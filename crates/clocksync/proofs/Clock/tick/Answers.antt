@@ -9,7 +9,7 @@ returns-then-timer-settings c =
     let a = c.args in
     ticked_over a.self a.settings.period a.delta c.if-timer-settings.true
 
-pub returns : goal.returns
-returns c =
+pub returns-else-timer-settings : goal.returns-else-timer-settings
+returns-else-timer-settings c =
     let a = c.args in
     ticked_under a.self a.settings.period a.delta c.if-timer-settings.false
