@@ -4,7 +4,7 @@
 
 ghost use Rattle.std.specs.Prelude.{◌<◌};
 
-use client::{DisplayTime, ReconciliationStatus};
+use client::ReconciliationStatus;
 use session::calls;
 use session_answers::UpdateAnswer;
 use session_report::ReportAnswer;
@@ -159,10 +159,10 @@ fn status_number(status: ReconciliationStatus) -> u64 {
 }
 
 // The bits of the time that is displayed.
-fn time_bits(time: DisplayTime) -> u64 {
+fn time_bits(time: Option<f64>) -> u64 {
     match time {
-        DisplayTime::NotDisplayed => 0,
-        DisplayTime::DisplayedAt(x) => tape::bits_of(x),
+        None => 0,
+        Some(x) => tape::bits_of(x),
     }
 }
 

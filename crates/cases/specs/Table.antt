@@ -1,6 +1,6 @@
 -- The cases that document 01 marks P, in its order, as one table about the definitions. proofs/Table proves it.
 -- A stamp is given by its signed number; `pos n` is n, and `negsuc n` is -(n + 1). A float `fin s m e` is m * 2 ^ e, negative where s is true.
-use Rattle.std.specs.Prelude.{ℕ, ◌+◌, ◌/◌, ◌%◌, ◌^◌, ◌≡◌, true, false, List, [], ◌∷◌, ◌++◌, pos, negsuc, replicate, Float}
+use Rattle.std.specs.Prelude.{ℕ, ◌+◌, ◌/◌, ◌%◌, ◌^◌, ◌≡◌, true, false, List, [], ◌∷◌, ◌++◌, pos, negsuc, replicate, Float, Option, Some, None}
 use Rattle.std.specs.Float.{fin, binary64}
 use Rattle.std.specs.Float.Ieee.{of_int, to_bits}
 use Rattle.timestamp.specs.Floats.{zero64, one64}
@@ -13,8 +13,6 @@ use Rattle.settings.specs.Settings.{discard_of, store_of}
 use Rattle.settings.specs.Tweening.{shaped_of}
 use Rattle.mean.specs.Mean.{mean_of}
 use Rattle.tape.specs.Words.{word_of}
-use Rattle.client.specs.declared.DisplayTime.{DisplayTime}
-use Rattle.client.specs.declared.DisplayTime.TheVariants.{NotDisplayed, DisplayedAt}
 use Rattle.client.specs.declared.ReconciliationStatus.TheVariants.{AwaitingSnapshot}
 use Rattle.session_state.specs.declared.Stage.{Stage}
 use Rattle.session_state.specs.declared.Stage.TheVariants.{SyncingInitialState, Ready}
@@ -161,7 +159,7 @@ pub record Shows (r : Reply) (f c : ℕ) (words : List ℕ) : Type 0 where
   pub tape : r.tape ≡ words
 
 -- the report of a session in this stage that awaits a snapshot, with both stamps at n and this display time
-abbrev pub report_at : Stage → ℕ → DisplayTime → ReportAnswer
+abbrev pub report_at : Stage → ℕ → Option Float → ReportAnswer
 report_at stage n t = record { refusal = 0; stage = stage; status = AwaitingSnapshot; old = record { 0 = n }; new = record { 0 = n }; time = t }
 
 -- ---- the table
@@ -202,7 +200,7 @@ pub record Marked : Type 0 where
   -- the updates at 1, 2 and 3 s are accepted and play nothing
   pub run_syncs : Shows (heard_once 2 1) 0 0 (replicate 8 0) × Shows (heard_twice 2 1) 0 0 (replicate 8 0) × Shows (heard_thrice 2 1) 0 0 (replicate 8 0)
   -- stamps start at 3
-  pub run_starts : report_of (heard_thrice 2 1).session ≡ report_at SyncingInitialState 3 NotDisplayed
+  pub run_starts : report_of (heard_thrice 2 1).session ≡ report_at SyncingInitialState 3 None
   -- the tape at 4 s
   pub run_four : Shows at_four 1 1 (0x38000005 ∷ 0x20000009 ∷ 0x10000000 ∷ 0x28000009 ∷ 0x18000000 ∷ 0x70000000 ∷ 0 ∷ 0 ∷ [])
   -- the tape at 5 s
@@ -210,4 +208,4 @@ pub record Marked : Type 0 where
   -- the tape at 6 s
   pub run_six : Shows at_six 1 1 (0x10000000 ∷ 0x18000000 ∷ 0x48000000 ∷ replicate 5 0)
   -- then Ready, display time 6.0
-  pub run_ready : report_of at_six.session ≡ report_at Ready 6 (DisplayedAt (seconds_of 6))
+  pub run_ready : report_of at_six.session ≡ report_at Ready 6 (Some (seconds_of 6))

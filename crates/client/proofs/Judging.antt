@@ -9,8 +9,6 @@ use Rattle.command.specs.declared.CommandBuffer.{CommandBuffer}
 use Rattle.command.specs.Buffer.{laid}
 use Rattle.simulation.specs.declared.Simulation.{Simulation}
 use Rattle.simulation.specs.World.{new_world}
-use Rattle.client.specs.declared.Queued.{Queued}
-use Rattle.client.specs.declared.Queued.TheVariants.{Nothing, Held}
 use Rattle.client.specs.declared.ClientWorldSimulations.{ClientWorldSimulations}
 use Rattle.client.specs.Sides.{old_stamp_of, new_stamp_of, starting_with, new_worlds_of}
 use Rattle.client.specs.Status.{later_of, overshot_of, newer_of, status_by, status_of}
@@ -27,16 +25,6 @@ new_is t hl hr hb = λ i. starting_with (hl i) (hr i) (hb i)
 pub later_is : (a b : Timestamp) {o : Ordering} → o ≡ order_of a.0 b.0 → is_gt o ≡ later_of a b
 unfolding later_of
 later_is a b h = ap is_gt h
-
--- no snapshot is queued
-pub newer_none : (n : Timestamp) {q : Queued} → q ≡ Nothing → false ≡ newer_of q n
-unfolding newer_of
-newer_none n e = ap (λ (x : Queued). newer_of x n) (sym e)
-
--- one is
-pub newer_held : (n : Timestamp) {q : Queued} {a : Timestamp} {h : ℕ} {r : Bool} → q ≡ Held a h → r ≡ later_of a n → r ≡ newer_of q n
-unfolding newer_of
-newer_held n e hr = hr ∙ ap (λ (x : Queued). newer_of x n) (sym e)
 
 -- the status, by its four tests; a test that was not made is refl
 pub status_is : (w : ClientWorldSimulations) {o n : Timestamp} {e l v q : Bool}

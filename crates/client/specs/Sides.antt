@@ -1,6 +1,6 @@
 -- The two sides of a client, as document 01 has them under "src/old_new.rs", and the ledger of each, as under "src/client.rs". Side 0 is left and side 1 right.
 -- Definitions only. Assumes nothing.
-use Rattle.std.specs.Prelude.{◌≡◌, ℕ, cond, List, [], ◌++◌, ◌==◌, Float}
+use Rattle.std.specs.Prelude.{◌≡◌, ℕ, cond, List, [], ◌++◌, ◌==◌, Float, None}
 use Rattle.timestamp.specs.Floats.{one64}
 use Rattle.timestamp.specs.declared.Timestamp.{Timestamp}
 use Rattle.tape.specs.Tape.{Puts}
@@ -8,9 +8,6 @@ use Rattle.command.specs.declared.CommandBuffer.{CommandBuffer}
 use Rattle.command.specs.Buffer.{laid}
 use Rattle.simulation.specs.declared.Simulation.{Simulation}
 use Rattle.simulation.specs.World.{Done, new_world}
-use Rattle.client.specs.declared.Queued.TheVariants.{Nothing}
-use Rattle.client.specs.declared.LastStamp.TheVariants.{Never}
-use Rattle.client.specs.declared.DisplayTime.TheVariants.{NotDisplayed}
 use Rattle.client.specs.declared.Snapshots.{Snapshots}
 use Rattle.client.specs.declared.Published.{Published}
 use Rattle.client.specs.declared.ClientWorldSimulations.{ClientWorldSimulations}
@@ -88,9 +85,9 @@ starting_with l r b =
       right = r;
       new = 0;
       base = b;
-      snapshots = record { queued = Nothing; lastqueued = Never; lastreceived = Never };
+      snapshots = record { queued = None; lastqueued = None; lastreceived = None };
       weight = one64;
-      published = record { before = Never; after = Never; time = NotDisplayed };
+      published = record { before = None; after = None; time = None };
     }
 
 -- the worlds of a client whose first stamp is t; the base's midpoint starts at 0

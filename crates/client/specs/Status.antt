@@ -1,7 +1,7 @@
 -- The status of a client: document 01, "src/client.rs". Status is `ReconciliationStatus`, with its weight in Blending and a `FastforwardingHealth` inside
 -- Fastforwarding. Definitions only. Assumes nothing.
 use Rattle.std.specs.Ordering.{is_gt}
-use Rattle.std.specs.Prelude.{Bool, true, false, ◌==◌, Float}
+use Rattle.std.specs.Prelude.{Bool, true, false, ◌==◌, Float, Option, Some, None}
 use Rattle.std.specs.Float.Ieee.{lt}
 use Rattle.timestamp.specs.Floats.{one64}
 use Rattle.timestamp.specs.declared.Timestamp.{Timestamp}
@@ -9,8 +9,7 @@ use Rattle.timestamp.specs.Timestamps.{order_of}
 use Rattle.client.specs.declared.FastforwardingHealth.TheVariants.{Healthy, Obsolete, Overshot}
 use Rattle.client.specs.declared.ReconciliationStatus.{ReconciliationStatus}
 use Rattle.client.specs.declared.ReconciliationStatus.TheVariants.{AwaitingSnapshot, Fastforwarding, Blending}
-use Rattle.client.specs.declared.Queued.{Queued}
-use Rattle.client.specs.declared.Queued.TheVariants.{Nothing, Held}
+use Rattle.client.specs.declared.QueuedSnapshot.{QueuedSnapshot}
 use Rattle.client.specs.declared.ClientWorldSimulations.{ClientWorldSimulations}
 use Rattle.client.specs.Sides.{old_stamp_of, new_stamp_of}
 
@@ -23,9 +22,9 @@ unfoldable pub overshot_of : Timestamp → Timestamp → Bool
 overshot_of n o = later_of n o
 
 -- a queued snapshot is newer than the new world, with the stamp n
-unfoldable pub newer_of : Queued → Timestamp → Bool
-newer_of Nothing n = false
-newer_of (Held a h) n = later_of a n
+unfoldable pub newer_of : Option QueuedSnapshot → Timestamp → Bool
+newer_of None n = false
+newer_of (Some q) n = later_of q.stamp n
 
 -- The tests in their order: the stamps are equal, the weight is below 1, the new world has overshot, a newer snapshot is queued
 abbrev pub status_by : Bool → Bool → Bool → Bool → Float → ReconciliationStatus

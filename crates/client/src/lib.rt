@@ -16,23 +16,9 @@ use timestamp::Timestamp;
 
 // A snapshot that waits to be loaded.
 #[derive(Clone, Copy)]
-pub enum Queued {
-    Nothing,
-    Held { stamp: Timestamp, handle: u32 },
-}
-
-// A stamp that may not be there yet.
-#[derive(Clone, Copy)]
-pub enum LastStamp {
-    Never,
-    Last(Timestamp),
-}
-
-// The time that is displayed, in frames; none until two states are published.
-#[derive(Clone, Copy)]
-pub enum DisplayTime {
-    NotDisplayed,
-    DisplayedAt(f64),
+pub struct QueuedSnapshot {
+    pub stamp: Timestamp,
+    pub handle: u32,
 }
 
 // How the catching up of a loaded snapshot fares.
@@ -51,20 +37,21 @@ pub enum ReconciliationStatus {
     Blending(f64),
 }
 
-// The snapshot that is queued, the stamp of the last one that was, and that of the last one received.
+// The snapshot that is queued, the stamp of the last one that was, and that of the last one received, as far as there was one.
 #[derive(Clone, Copy)]
 pub struct Snapshots {
-    pub queued: Queued,
-    pub lastqueued: LastStamp,
-    pub lastreceived: LastStamp,
+    pub queued: Option<QueuedSnapshot>,
+    pub lastqueued: Option<Timestamp>,
+    pub lastreceived: Option<Timestamp>,
 }
 
-// The stamps of the last two published states, and the time between them that is displayed.
+// The stamps of the last two published states, as far as there are any, and the time that is displayed, in frames; none until two states
+// are published.
 #[derive(Clone, Copy)]
 pub struct Published {
-    pub before: LastStamp,
-    pub after: LastStamp,
-    pub time: DisplayTime,
+    pub before: Option<Timestamp>,
+    pub after: Option<Timestamp>,
+    pub time: Option<f64>,
 }
 
 // Both worlds and all that reconciles them. `new` is the side of the new world, 0 for left; any other number is right.
@@ -125,29 +112,21 @@ pub struct Received {
 pub fn new(stamp: Timestamp) -> ClientWorldSimulations
     ensures { result ≡ new_worlds_of stamp }
 {
-    let none = Queued::Nothing;
-    let queued = LastStamp::Never;
-    let received = LastStamp::Never;
-    let before = LastStamp::Never;
-    let after = LastStamp::Never;
-    let time = DisplayTime::NotDisplayed;
-    let left = simulation::new(stamp);
-    let right = simulation::new(stamp);
     ClientWorldSimulations {
-        left,
-        right,
+        left: simulation::new(stamp),
+        right: simulation::new(stamp),
         new: 0,
         base: command::new(Timestamp(0)),
         snapshots: Snapshots {
-            queued: none,
-            lastqueued: queued,
-            lastreceived: received,
+            queued: None,
+            lastqueued: None,
+            lastreceived: None,
         },
         weight: 1.0,
         published: Published {
-            before,
-            after,
-            time,
+            before: None,
+            after: None,
+            time: None,
         },
     }
 }

@@ -2,7 +2,9 @@
 ghost use Rattle.std.specs.Prelude.{◌≡◌};
 ghost use Rattle.client.specs.Status.{later_of, overshot_of, newer_of, status_of};
 
-use super::{ClientWorldSimulations, FastforwardingHealth, Queued, ReconciliationStatus, sides};
+use super::{
+    ClientWorldSimulations, FastforwardingHealth, QueuedSnapshot, ReconciliationStatus, sides,
+};
 use timestamp::Timestamp;
 
 // Whether the first stamp is later than the second.
@@ -20,13 +22,10 @@ pub fn is_overshot(new: Timestamp, old: Timestamp) -> bool
 }
 
 // Whether a queued snapshot is later than the new world.
-pub fn is_snapshot_newer(q: Queued, new: Timestamp) -> bool
-    ensures { result ≡ newer_of q new }
+pub fn is_snapshot_newer(queued: Option<QueuedSnapshot>, new: Timestamp) -> bool
+    ensures { result ≡ newer_of queued new }
 {
-    match q {
-        Queued::Nothing => false,
-        Queued::Held { stamp, handle: _ } => is_later(stamp, new),
-    }
+    queued.is_some_and(|q| is_later(q.stamp, new))
 }
 
 // The status: equal stamps blend or await by the weight; else the new world is ahead, or behind a newer snapshot, or catching up.
@@ -45,9 +44,7 @@ pub fn infer_current_reconciliation_status(w: ClientWorldSimulations) -> Reconci
     if is_overshot(new, old) {
         return ReconciliationStatus::Fastforwarding(FastforwardingHealth::Overshot);
     }
-    let s = w.snapshots;
-    let q = s.queued;
-    if is_snapshot_newer(q, new) {
+    if is_snapshot_newer(w.snapshots.queued, new) {
         return ReconciliationStatus::Fastforwarding(FastforwardingHealth::Obsolete);
     }
     ReconciliationStatus::Fastforwarding(FastforwardingHealth::Healthy)

@@ -1,5 +1,5 @@
 -- How many commands are held while a frame is played, and how many words it puts on the tape. Assumes nothing.
-use Rattle.std.proofs.Common.{◌≡◌, ℕ, ◌+◌, ◌*◌, ◌≤◌, Bool, true, false, cond, eqb, length, refl, ap, arith, length-append}
+use Rattle.std.proofs.Common.{◌≡◌, ℕ, ◌+◌, ◌*◌, ◌≤◌, Bool, true, false, cond, eqb, length, refl, ap, arith, length-append, Option}
 use lib.Ieee.{Float}
 use Rattle.timestamp.specs.declared.Timestamp.{Timestamp}
 use Rattle.tape.specs.Words.{mix_words, weight_words}
@@ -11,7 +11,7 @@ use Rattle.simulation.specs.declared.Simulation.{Simulation}
 use Rattle.simulation.specs.World.{step_of, reset_of, resets_back, flushed_of, kept_of, load_of, next_stamp}
 use Rattle.simulation.proofs.Few.{step_words_lem, step_applies, reset_words, reset_applies}
 use Rattle.client.specs.declared.ReconciliationStatus.{ReconciliationStatus}
-use Rattle.client.specs.declared.Queued.{Queued}
+use Rattle.client.specs.declared.QueuedSnapshot.{QueuedSnapshot}
 use Rattle.client.specs.declared.ClientWorldSimulations.{ClientWorldSimulations}
 use Rattle.client.specs.declared.Ledger.{Ledger}
 use Rattle.client.specs.declared.Scene.{Scene}
@@ -192,7 +192,8 @@ pub simulated_short : (m : ℕ) (s : Scene) → Few s.worlds → Short (65 + m *
 simulated_short = simulated_by short_steps
 
 -- what a frame begins with
-pub opened_short : (t : ReconciliationStatus) (q : Queued) (p : Float) (s : Scene) → status_of s.worlds ≡ t → Few s.worlds → Short 64 (opened_of t q p s)
+pub opened_short : (t : ReconciliationStatus) (q : Option QueuedSnapshot) (p : Float) (s : Scene) → status_of s.worlds ≡ t → Few s.worlds
+    → Short 64 (opened_of t q p s)
 opened_short t q p s = opened_by_lem (parts_by short_moves (record { m = 0; progress = p })) t q s
 
 -- a frame, with m catch-up steps at most

@@ -1,6 +1,7 @@
 -- What the code of a frame comes to, over plain values: one rule for each return. Assumes nothing.
 use Rattle.std.specs.Ordering.{is_ge}
-use Rattle.std.proofs.Common.{◌≡◌, ℕ, ◌+◌, ◌%◌, ◌^◌, ◌<◌, ◌≤◌, Bool, true, false, ltb, List, pos, refl, ap, ◌∙◌, le-ltb, lt-ltb, eq-eqb, ne_eqb}
+use Rattle.std.proofs.Common.{◌≡◌, ℕ, ◌+◌, ◌%◌, ◌^◌, ◌<◌, ◌≤◌, Bool, true, false, ltb, List, pos, refl, ap, ◌∙◌, le-ltb, lt-ltb, eq-eqb, ne_eqb, cond, sym}
+use Rattle.std.specs.Prelude.{Option, Some, None}
 use lib.Ieee.{Float, fin, binary64, add, lt}
 use Rattle.timestamp.specs.declared.Timestamp.{Timestamp}
 use Rattle.std.specs.declared.cmp.Ordering.{Ordering}
@@ -13,8 +14,7 @@ use Rattle.client.specs.declared.FastforwardingHealth.{FastforwardingHealth}
 use Rattle.client.specs.declared.FastforwardingHealth.TheVariants.{Healthy, Obsolete, Overshot}
 use Rattle.client.specs.declared.ReconciliationStatus.{ReconciliationStatus}
 use Rattle.client.specs.declared.ReconciliationStatus.TheVariants.{AwaitingSnapshot, Fastforwarding, Blending}
-use Rattle.client.specs.declared.Queued.{Queued}
-use Rattle.client.specs.declared.Queued.TheVariants.{Nothing, Held}
+use Rattle.client.specs.declared.QueuedSnapshot.{QueuedSnapshot}
 use Rattle.client.specs.declared.ClientWorldSimulations.{ClientWorldSimulations}
 use Rattle.client.specs.declared.Ledger.{Ledger}
 use Rattle.client.specs.declared.Scene.{Scene}
@@ -38,14 +38,14 @@ use Rattle.client.proofs.Happening.{plays_still, plays_as, plays_then, plays_don
 -- ---- a queued snapshot
 
 -- where nothing is queued nothing is loaded
-pub queued_none : (s : Scene) (q : Queued) (side : ℕ) (was : List ℕ) (place : ℕ) → q ≡ Nothing
+pub queued_none : (s : Scene) (q : Option QueuedSnapshot) (side : ℕ) (was : List ℕ) (place : ℕ) → q ≡ None
     → Plays (loaded_queued s q side) was place (record { scene = s; at = place }) was
 unfolding loaded_queued
 queued_none s q side was place e = rw e (plays_still s was place)
 
 -- a queued snapshot is loaded
-pub queued_held : (s : Scene) (q : Queued) (side : ℕ) {t : Timestamp} {h : ℕ} {was last : List ℕ} {place : ℕ} {r : Shown}
-    → q ≡ Held t h → Plays (loaded_of s side t h) was place r last → Plays (loaded_queued s q side) was place r last
+pub queued_held : (s : Scene) (q : Option QueuedSnapshot) (side : ℕ) {x : QueuedSnapshot} {was last : List ℕ} {place : ℕ} {r : Shown}
+    → q ≡ Some x → Plays (loaded_of s side x.stamp x.handle) was place r last → Plays (loaded_queued s q side) was place r last
 unfolding loaded_queued
 queued_held s q side e p = rw e p
 
@@ -79,7 +79,7 @@ unfolding reset_new
 reset_new_plays s {side} hs ho hw hd hu =
     plays_as (λ i. done_at s (hs i) (reset_of ((hw ∙ ap (world_of s.worlds) hs) i) (ho i) (hs i))) (plays_done s side hd hu)
 
-module _ (t : ReconciliationStatus) (q : Queued) (p : Float) (s : Scene) where
+module _ (t : ReconciliationStatus) (q : Option QueuedSnapshot) (p : Float) (s : Scene) where
   -- awaiting, the queued snapshot is loaded into the old side
   pub opened_awaiting : {side : ℕ} {was last : List ℕ} {place : ℕ} {r : Shown}
       → t ≡ AwaitingSnapshot → side ≡ old_side_of s.worlds → Plays (loaded_queued s q side) was place r last → Plays (opened_of t q p s) was place r last
@@ -174,22 +174,7 @@ show_plays m b s h k = plays_then (published_by b) h k
 
 -- ---- refusal 26
 
--- a snapshot that lies at or before the old stamp
-pub far_behind : (q : Queued) (o : Timestamp) {t : Timestamp} {h d : ℕ} → q ≡ Held t h → d ≡ difference_of o.0 t.0 → d < 32768 → false ≡ too_far_of q o
-unfolding too_far_of
-far_behind q o e hd l = rw (e, ← hd, lt-ltb _ _ l) refl
-
--- one that lies ahead of it
-pub far_ahead : (q : Queued) (o : Timestamp) {t : Timestamp} {h d : ℕ} → q ≡ Held t h → d ≡ difference_of o.0 t.0 → 32768 ≤ d → ltb d 65535 ≡ too_far_of q o
-unfolding too_far_of
-far_ahead q o e hd l = rw (e, ← hd, le-ltb _ _ l) refl
-
--- none
-pub far_none : (q : Queued) (o : Timestamp) → q ≡ Nothing → false ≡ too_far_of q o
-unfolding too_far_of
-far_none q o e = rw e refl
-
-module _ (t : ReconciliationStatus) (q : Queued) (w e : ClientWorldSimulations) where
+module _ (t : ReconciliationStatus) (q : Option QueuedSnapshot) (w e : ClientWorldSimulations) where
   pub stops_awaiting : t ≡ AwaitingSnapshot → false ≡ stops_of t q w e
   unfolding stops_of
   stops_awaiting h = rw h refl
@@ -224,8 +209,8 @@ module _ (t : ReconciliationStatus) (q : Queued) (w e : ClientWorldSimulations) 
 -- ---- the frame
 
 -- one frame: its status, the snapshot that it loads, its beginning, its steps and what it publishes, and whether it stops
-pub frame_plays : (rules : Rules) (s : Scene) {t : ReconciliationStatus} {q : Queued} {b stop : Bool} {was mid last : List ℕ} {place : ℕ} {a r : Shown}
-    → t ≡ status_of s.worlds → q ≡ loads_of t s.worlds.snapshots.queued → Plays (opened_of t q rules.progress s) was place a mid
+pub frame_plays : (rules : Rules) (s : Scene) {t : ReconciliationStatus} {q : Option QueuedSnapshot} {b stop : Bool} {was mid last : List ℕ}
+    {place : ℕ} {a r : Shown} → t ≡ status_of s.worlds → q ≡ loads_of t s.worlds.snapshots.queued → Plays (opened_of t q rules.progress s) was place a mid
     → b ≡ blended_by t q → Plays (shown_of rules.m b a.scene) mid a.at r last
     → stop ≡ stops_of t q s.worlds r.scene.worlds → Frames (frame_of rules s) (frame_stops rules s) was place
     (record { scene = r.scene; at = r.at; stops = stop }) last
@@ -233,7 +218,7 @@ unfolding frame_of frame_stops frame_opened snapshot_of
 frame_plays rules s {t} {q} {b} {stop} {was} {mid} {last} {place} {a} {r} ht hq ha hb hr hs =
     let m : ℕ = rules.m in
     let p : Float = rules.progress in
-    let queued : Queued = s.worlds.snapshots.queued in
+    let queued : Option QueuedSnapshot = s.worlds.snapshots.queued in
     let loaded : q ≡ loads_of (status_of s.worlds) queued = hq ∙ ap (λ (x : ReconciliationStatus). loads_of x queued) ht in
     let opens : Plays (opened_of (status_of s.worlds) (loads_of (status_of s.worlds) queued) p s) was place a mid =
     plays_as (λ i. opened_of (ht i) (loaded i) p s) ha in

@@ -1,14 +1,13 @@
 -- A frame by its elementary moves: who shows a thing of each move of a scene, of none and of one after another, has it of a whole frame. Assumes nothing.
 use Rattle.std.proofs.Common.{◌≡◌, ℕ, zero, suc, ◌+◌, ◌*◌, ◌<◌, ◌≤◌, Bool, true, false, cond, eqb, List, refl, ap, ◌∙◌, subst, append-nil, arith}
+use Rattle.std.specs.Prelude.{Option, Some, None}
 use lib.Ieee.{Float}
 use Rattle.timestamp.specs.declared.Timestamp.{Timestamp}
 use Rattle.simulation.specs.World.{reset_of}
 use Rattle.client.specs.declared.FastforwardingHealth.TheVariants.{Healthy, Obsolete, Overshot}
-use Rattle.client.specs.declared.LastStamp.{LastStamp}
+use Rattle.client.specs.declared.QueuedSnapshot.{QueuedSnapshot}
 use Rattle.client.specs.declared.ReconciliationStatus.{ReconciliationStatus}
 use Rattle.client.specs.declared.ReconciliationStatus.TheVariants.{AwaitingSnapshot, Fastforwarding, Blending}
-use Rattle.client.specs.declared.Queued.{Queued}
-use Rattle.client.specs.declared.Queued.TheVariants.{Nothing, Held}
 use Rattle.client.specs.declared.ClientWorldSimulations.{ClientWorldSimulations}
 use Rattle.client.specs.declared.Scene.{Scene}
 use Rattle.client.specs.Sides.{new_side_of, old_side_of, world_of, with_weight, with_worlds, old_stamp_of, new_stamp_of, Played, still, and_then, done_at}
@@ -90,7 +89,7 @@ old_below w = go (eqb w.new 0)
 -- ---- a frame by its parts
 
 -- what a frame publishes, by the weight or not
-pub published_by_lem : (P : Played → Type 0) (s : Scene) → ((l : LastStamp) (w : Telling) → P (publishes s l w)) → (b : Bool) → P (published_by b s)
+pub published_by_lem : (P : Played → Type 0) (s : Scene) → ((l : Option Timestamp) (w : Telling) → P (publishes s l w)) → (b : Bool) → P (published_by b s)
 published_by_lem P s h true = blended_by_lem P s h
 published_by_lem P s h false = old_by P s h
 
@@ -101,16 +100,16 @@ pub record Parts (P : Law) (rules : Rules) (load steps show : ℕ) : Type 0 wher
   pub resets : (s : Scene) → P load s (reset_new s)
   pub blends : (s : Scene) (t : Float) → status_of s.worlds ≡ Blending t → P load s (still (blended_on s rules.progress))
   pub simulates : (s : Scene) → P steps s (simulated_of rules.m s)
-  pub shows : (s : Scene) (l : LastStamp) (w : Telling) → P show s (publishes s l w)
+  pub shows : (s : Scene) (l : Option Timestamp) (w : Telling) → P show s (publishes s l w)
 
 module _ {P : Law} {rules : Rules} {load steps show : ℕ} (h : Parts P rules load steps show) where
-  queued_by : (s : Scene) (q : Queued) (side : ℕ) → side < 2 → P load s (loaded_queued s q side)
+  queued_by : (s : Scene) (q : Option QueuedSnapshot) (side : ℕ) → side < 2 → P load s (loaded_queued s q side)
   unfolding loaded_queued
-  queued_by s Nothing side l = still_by h.chains load s
-  queued_by s (Held t i) side l = h.loads s side t i l
+  queued_by s None side l = still_by h.chains load s
+  queued_by s (Some q) side l = h.loads s side q.stamp q.handle l
 
   -- what a frame begins with
-  pub opened_by_lem : (r : ReconciliationStatus) (q : Queued) (s : Scene) → status_of s.worlds ≡ r → P load s (opened_of r q rules.progress s)
+  pub opened_by_lem : (r : ReconciliationStatus) (q : Option QueuedSnapshot) (s : Scene) → status_of s.worlds ≡ r → P load s (opened_of r q rules.progress s)
   unfolding opened_of
   opened_by_lem AwaitingSnapshot q s e = queued_by s q (old_side_of s.worlds) (old_below s.worlds)
   opened_by_lem (Blending t) q s e = h.blends s t e
@@ -130,7 +129,7 @@ module _ {P : Law} {rules : Rules} {load steps show : ℕ} (h : Parts P rules lo
   unfolding frame_of frame_opened
   frame_by s =
       let r : ReconciliationStatus = status_of s.worlds in
-      let q : Queued = snapshot_of s in
+      let q : Option QueuedSnapshot = snapshot_of s in
       h.chains.next load (steps + show) s (opened_of r q rules.progress s) (shown_of rules.m (blended_by r q)) (opened_by_lem r q s refl)
       (shown_by_lem (blended_by r q) (opened_of r q rules.progress s).scene)
 
@@ -184,7 +183,7 @@ pub record Moves (P : Law) (load reset step show : ℕ) : Type 0 where
   pub loads : (s : Scene) (side : ℕ) (t : Timestamp) (h : ℕ) → side < 2 → P load s (loaded_of s side t h)
   pub resets : (s : Scene) (side : ℕ) (t : Timestamp) → side < 2 → P reset s (reset_at s side t)
   pub weighs : (s : Scene) (t : Float) → P 0 s (still (with_worlds s (with_weight s.worlds t)))
-  pub shows : (s : Scene) (l : LastStamp) (w : Telling) → P show s (publishes s l w)
+  pub shows : (s : Scene) (l : Option Timestamp) (w : Telling) → P show s (publishes s l w)
 
 module _ {P : Law} {load reset step show : ℕ} (h : Moves P load reset step show) where
   reset_new_by : (s : Scene) → P load s (reset_new s)

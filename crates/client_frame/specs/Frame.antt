@@ -1,7 +1,7 @@
 -- One frame: document 01, "src/client.rs". What its status opens it with, a step of the old world, the catching up of the new one, what is published, and
 -- refusal 26. Definitions only. Assumes nothing.
 use Rattle.std.specs.Ordering.{is_ge}
-use Rattle.std.specs.Prelude.{◌≡◌, ℕ, zero, suc, ◌+◌, ◌%◌, ◌^◌, Bool, true, false, cond, List, ◌==◌, nat_lt, Float}
+use Rattle.std.specs.Prelude.{◌≡◌, ℕ, zero, suc, ◌+◌, ◌%◌, ◌^◌, Bool, true, false, cond, List, ◌==◌, nat_lt, Float, Option, Some, None, is_none}
 use Rattle.std.specs.Float.{binary64}
 use Rattle.std.specs.Float.Ieee.{add}
 use Rattle.timestamp.specs.Floats.{clamped_of}
@@ -12,8 +12,7 @@ use Rattle.simulation.specs.World.{step_of, reset_of}
 use Rattle.client.specs.declared.FastforwardingHealth.TheVariants.{Healthy, Obsolete, Overshot}
 use Rattle.client.specs.declared.ReconciliationStatus.{ReconciliationStatus}
 use Rattle.client.specs.declared.ReconciliationStatus.TheVariants.{AwaitingSnapshot, Fastforwarding, Blending}
-use Rattle.client.specs.declared.Queued.{Queued}
-use Rattle.client.specs.declared.Queued.TheVariants.{Nothing, Held}
+use Rattle.client.specs.declared.QueuedSnapshot.{QueuedSnapshot}
 use Rattle.client.specs.declared.ClientWorldSimulations.{ClientWorldSimulations}
 use Rattle.client.specs.declared.Scene.{Scene}
 use Rattle.client.specs.declared.Framed.{Framed}
@@ -25,17 +24,17 @@ use Rattle.client_load.specs.Load.{loaded_of}
 use Rattle.client_frame.specs.declared.Rules.{Rules}
 
 -- the snapshot that a frame of this status loads
-abbrev pub loads_of : ReconciliationStatus → Queued → Queued
+abbrev pub loads_of : ReconciliationStatus → Option QueuedSnapshot → Option QueuedSnapshot
 loads_of AwaitingSnapshot q = q
-loads_of (Blending t) q = Nothing
-loads_of (Fastforwarding Healthy) q = Nothing
+loads_of (Blending t) q = None
+loads_of (Fastforwarding Healthy) q = None
 loads_of (Fastforwarding Obsolete) q = q
-loads_of (Fastforwarding Overshot) q = Nothing
+loads_of (Fastforwarding Overshot) q = None
 
 -- the queued snapshot is loaded into a side, where there is one
-unfoldable pub loaded_queued : Scene → Queued → ℕ → Played
-loaded_queued s Nothing side = still s
-loaded_queued s (Held t h) side = loaded_of s side t h
+unfoldable pub loaded_queued : Scene → Option QueuedSnapshot → ℕ → Played
+loaded_queued s None side = still s
+loaded_queued s (Some q) side = loaded_of s side q.stamp q.handle
 
 -- the weight a frame on
 unfoldable pub blended_on : Scene → Float → Scene
@@ -46,7 +45,7 @@ unfoldable pub reset_new : Scene → Played
 reset_new s = done_at s (new_side_of s.worlds) (reset_of (world_of s.worlds (new_side_of s.worlds)) (old_stamp_of s.worlds) (new_side_of s.worlds))
 
 -- what a frame begins with: Awaiting swaps the sides and loads, Obsolete loads, Overshot resets the new world, Blending moves the weight on
-unfoldable pub opened_of : ReconciliationStatus → Queued → Float → Scene → Played
+unfoldable pub opened_of : ReconciliationStatus → Option QueuedSnapshot → Float → Scene → Played
 opened_of AwaitingSnapshot q p s = loaded_queued s q (old_side_of s.worlds)
 opened_of (Blending t) q p s = still (blended_on s p)
 opened_of (Fastforwarding Healthy) q p s = still s
@@ -88,9 +87,8 @@ unfoldable pub simulated_of : ℕ → Scene → Played
 simulated_of m s = and_then (stepped_side s (old_side_of s.worlds)) (λ t. caught_of m (old_stamp_of t.worlds) t)
 
 -- a frame of this status that loads q publishes by the weight; any other publishes the old world
-abbrev pub blended_by : ReconciliationStatus → Queued → Bool
-blended_by AwaitingSnapshot Nothing = true
-blended_by AwaitingSnapshot (Held t h) = false
+abbrev pub blended_by : ReconciliationStatus → Option QueuedSnapshot → Bool
+blended_by AwaitingSnapshot q = is_none q
 blended_by (Blending t) q = true
 blended_by (Fastforwarding Healthy) q = false
 blended_by (Fastforwarding Obsolete) q = false
@@ -114,13 +112,13 @@ is_obsolete (Fastforwarding Obsolete) = true
 is_obsolete (Fastforwarding Overshot) = false
 
 -- S - O is 2 or more, or -32,768: so (O - S) modulo 65,536 is from 32,768 to 65,534
-unfoldable pub too_far_of : Queued → Timestamp → Bool
-too_far_of Nothing o = false
-too_far_of (Held t h) o = cond (nat_lt (difference_of o.0 t.0) 32768) false (nat_lt (difference_of o.0 t.0) 65535)
+unfoldable pub too_far_of : Option QueuedSnapshot → Timestamp → Bool
+too_far_of None o = false
+too_far_of (Some q) o = cond (nat_lt (difference_of o.0 q.stamp.0) 32768) false (nat_lt (difference_of o.0 q.stamp.0) 65535)
 
 -- refusal 26, for a frame of this status that loads q and takes the worlds w to e: Healthy with N - O = -32,768, or that ends Obsolete; Obsolete that loads S
 -- with S - O ≥ 2 or = -32,768
-unfoldable pub stops_of : ReconciliationStatus → Queued → ClientWorldSimulations → ClientWorldSimulations → Bool
+unfoldable pub stops_of : ReconciliationStatus → Option QueuedSnapshot → ClientWorldSimulations → ClientWorldSimulations → Bool
 stops_of AwaitingSnapshot q w e = false
 stops_of (Blending t) q w e = false
 stops_of (Fastforwarding Healthy) q w e = cond (difference_of (old_stamp_of w).0 (new_stamp_of w).0 == 32768) true (is_obsolete (status_of e))
@@ -128,7 +126,7 @@ stops_of (Fastforwarding Obsolete) q w e = too_far_of q (old_stamp_of w)
 stops_of (Fastforwarding Overshot) q w e = false
 
 -- the snapshot that the next frame of a scene loads
-unfoldable pub snapshot_of : Scene → Queued
+unfoldable pub snapshot_of : Scene → Option QueuedSnapshot
 snapshot_of s = loads_of (status_of s.worlds) s.worlds.snapshots.queued
 
 -- a scene before its worlds step

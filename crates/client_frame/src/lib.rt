@@ -12,8 +12,8 @@ ghost use Rattle.timestamp.specs.Floats.{clamped_of};
 ghost use Rattle.client_frame.specs.Inner.{put_back};
 
 use client::{
-    ClientWorldSimulations, FastforwardingHealth, Framed, Ledger, Queued, ReconciliationStatus,
-    Scene, Shown, ledgers, sides, status,
+    ClientWorldSimulations, FastforwardingHealth, Framed, Ledger, QueuedSnapshot,
+    ReconciliationStatus, Scene, Shown, ledgers, sides, status,
 };
 use client_publish::Stated;
 use simulation::Simulation;
@@ -27,16 +27,16 @@ pub struct Rules {
 }
 
 // The snapshot that a frame of this status loads.
-pub(crate) fn loads(t: ReconciliationStatus, q: Queued) -> Queued
+pub(crate) fn loads(t: ReconciliationStatus, q: Option<QueuedSnapshot>) -> Option<QueuedSnapshot>
     ensures { result ≡ loads_of t q }
 {
     match t {
         ReconciliationStatus::AwaitingSnapshot => q,
-        ReconciliationStatus::Blending(_) => Queued::Nothing,
+        ReconciliationStatus::Blending(_) => None,
         ReconciliationStatus::Fastforwarding(h) => match h {
-            FastforwardingHealth::Healthy => Queued::Nothing,
+            FastforwardingHealth::Healthy => None,
             FastforwardingHealth::Obsolete => q,
-            FastforwardingHealth::Overshot => Queued::Nothing,
+            FastforwardingHealth::Overshot => None,
         },
     }
 }
@@ -92,7 +92,7 @@ pub(crate) fn reset_new(s: Scene, tape: &mut [u32], at: usize) -> Shown
 pub(crate) fn open(
     s: Scene,
     t: ReconciliationStatus,
-    q: Queued,
+    q: Option<QueuedSnapshot>,
     progress: f64,
     tape: &mut [u32],
     at: usize,
@@ -102,12 +102,12 @@ pub(crate) fn open(
 {
     match t {
         ReconciliationStatus::AwaitingSnapshot => match q {
-            Queued::Nothing => Shown { scene: s, at },
-            Queued::Held { stamp, handle } => client_load::load_snapshot(
+            None => Shown { scene: s, at },
+            Some(snapshot) => client_load::load_snapshot(
                 s,
                 sides::old_side(s.worlds),
-                stamp,
-                handle,
+                snapshot.stamp,
+                snapshot.handle,
                 tape,
                 at,
             ),
@@ -119,12 +119,12 @@ pub(crate) fn open(
         ReconciliationStatus::Fastforwarding(h) => match h {
             FastforwardingHealth::Healthy => Shown { scene: s, at },
             FastforwardingHealth::Obsolete => match q {
-                Queued::Nothing => Shown { scene: s, at },
-                Queued::Held { stamp, handle } => client_load::load_snapshot(
+                None => Shown { scene: s, at },
+                Some(snapshot) => client_load::load_snapshot(
                     s,
                     sides::new_side(s.worlds),
-                    stamp,
-                    handle,
+                    snapshot.stamp,
+                    snapshot.handle,
                     tape,
                     at,
                 ),
@@ -253,17 +253,11 @@ pub(crate) fn simulate_next_frame(s: Scene, m: u32, tape: &mut [u32], at: usize)
 }
 
 // Whether a frame of this status, that loads q, publishes by the weight and not the old world.
-pub fn is_blended(t: ReconciliationStatus, q: Queued) -> bool
+pub fn is_blended(t: ReconciliationStatus, q: Option<QueuedSnapshot>) -> bool
     ensures { result ≡ blended_by t q }
 {
     match t {
-        ReconciliationStatus::AwaitingSnapshot => match q {
-            Queued::Nothing => true,
-            Queued::Held {
-                stamp: _,
-                handle: _,
-            } => false,
-        },
+        ReconciliationStatus::AwaitingSnapshot => q.is_none(),
         ReconciliationStatus::Blending(_) => true,
         ReconciliationStatus::Fastforwarding(h) => match h {
             FastforwardingHealth::Healthy => false,
@@ -290,9 +284,8 @@ pub(crate) fn publish(s: Scene, blended: bool, tape: &mut [u32], at: usize) -> S
     ensures { Plays (published_by blended s) tape.old at result tape.new }
 {
     let r = publish_state(s, blended, tape, at);
-    let state = r.state;
     Shown {
-        scene: client_publish::with_state(s, state),
+        scene: client_publish::with_state(s, r.state),
         at: r.at,
     }
 }
@@ -313,25 +306,19 @@ pub fn is_obsolete(t: ReconciliationStatus) -> bool
 }
 
 // Whether an obsolete world loads a snapshot 2 or more frames ahead of the old world, or half the space away.
-pub fn loads_too_far(q: Queued, old: Timestamp) -> bool
+pub fn loads_too_far(q: Option<QueuedSnapshot>, old: Timestamp) -> bool
     ensures { result ≡ too_far_of q old }
 {
-    match q {
-        Queued::Nothing => false,
-        Queued::Held { stamp, handle: _ } => {
-            let behind = old.sub(stamp).0;
-            if behind < 32768 {
-                return false;
-            }
-            behind < 65535
-        }
-    }
+    q.is_some_and(|snapshot| {
+        let behind = old.sub(snapshot.stamp).0;
+        behind >= 32768 && behind < 65535
+    })
 }
 
 // Whether the Rust stops in a frame of this status that loads q and takes the worlds from w to e: refusal 26.
 pub(crate) fn stops(
     t: ReconciliationStatus,
-    q: Queued,
+    q: Option<QueuedSnapshot>,
     w: ClientWorldSimulations,
     e: ClientWorldSimulations,
 ) -> bool
@@ -368,18 +355,13 @@ pub fn step(s: Scene, rules: Rules, tape: &mut [u32], at: usize) -> Framed
     requires { (at < 2000000000) × (rules.m ≤ most_steps) }
     ensures { Frames (frame_of rules s) (frame_stops rules s) tape.old at result tape.new }
 {
-    let w = s.worlds;
-    let t = status::infer_current_reconciliation_status(w);
-    let snapshots = w.snapshots;
-    let queued = snapshots.queued;
-    let q = loads(t, queued);
+    let t = status::infer_current_reconciliation_status(s.worlds);
+    let q = loads(t, s.worlds.snapshots.queued);
     let a = open(s, t, q, rules.progress, tape, at);
     let b = show(a.scene, rules.m, is_blended(t, q), tape, a.at);
-    let after = b.scene;
-    let e = after.worlds;
     Framed {
-        scene: after,
+        scene: b.scene,
         at: b.at,
-        stops: stops(t, q, w, e),
+        stops: stops(t, q, s.worlds, b.scene.worlds),
     }
 }

@@ -1,7 +1,7 @@
 -- A level frame: both worlds make one step that moves their stamps only. Assumes nothing.
 use Rattle.std.specs.Ordering.{is_ge}
 use Rattle.std.proofs.Common.{◌≡◌, ℕ, zero, suc, ◌+◌, ◌%◌, ◌^◌, Bool, true, false, cond, not, ◌&&◌, eqb, List, [], ◌∷◌, sym, refl, ap, ◌∙◌, arith, eq-eqb}
-use Rattle.std.proofs.Common.{ne_eqb, eqb-true}
+use Rattle.std.proofs.Common.{ne_eqb, eqb-true, Option, Some, None}
 use lib.Ieee.{Float, binary64, add}
 use borrow.Author.Tests.{eqb-false, not-true}
 use Rattle.timestamp.specs.declared.Timestamp.{Timestamp}
@@ -16,10 +16,8 @@ use Rattle.simulation.specs.declared.Simulation.{Simulation}
 use Rattle.simulation.specs.World.{world_with, next_stamp}
 use Rattle.client.specs.declared.ReconciliationStatus.{ReconciliationStatus}
 use Rattle.client.specs.declared.ReconciliationStatus.TheVariants.{AwaitingSnapshot, Fastforwarding, Blending}
-use Rattle.client.specs.declared.Queued.{Queued}
-use Rattle.client.specs.declared.Queued.TheVariants.{Nothing, Held}
+use Rattle.client.specs.declared.QueuedSnapshot.{QueuedSnapshot}
 use Rattle.client.specs.declared.ClientWorldSimulations.{ClientWorldSimulations}
-use Rattle.client.specs.declared.LastStamp.{LastStamp}
 use Rattle.client.specs.declared.Ledger.{Ledger}
 use Rattle.client.specs.declared.Scene.{Scene}
 use Rattle.client.specs.Ledgers.{applies}
@@ -47,13 +45,13 @@ use Rattle.client_frame.proofs.Catching.{turn, stop}
 -- ---- the tests
 
 -- a status that leaves both worlds level is one of equal stamps
-even_by : (e l v n : Bool) (t : Float) (q : Queued) → level_by (status_by e l v n t) q ≡ true → e ≡ true
+even_by : (e l v n : Bool) (t : Float) (q : Option QueuedSnapshot) → level_by (status_by e l v n t) q ≡ true → e ≡ true
 even_by true l v n t q h = refl
 even_by false l true n t q h = h
 even_by false l false true t q h = h
 even_by false l false false t q h = h
 
-status_even : (w : ClientWorldSimulations) (q : Queued) → level_by (status_of w) q ≡ true → (new_stamp_of w).0 ≡ (old_stamp_of w).0
+status_even : (w : ClientWorldSimulations) (q : Option QueuedSnapshot) → level_by (status_of w) q ≡ true → (new_stamp_of w).0 ≡ (old_stamp_of w).0
 unfolding status_of
 status_even w q h = eqb-true _ _ (even_by (eqb (new_stamp_of w).0 (old_stamp_of w).0) _ _ _ _ q h)
 
@@ -280,7 +278,7 @@ record Stays (s : Scene) (p : Played) : Type 0 where
   stamp : old_stamp_of p.scene.worlds ≡ old_stamp_of s.worlds
 
 -- a state
-state_stays : (s : Scene) (l : LastStamp) (w : Telling) → Stays s (publishes s l w)
+state_stays : (s : Scene) (l : Option Timestamp) (w : Telling) → Stays s (publishes s l w)
 unfolding old_stamp_of world_of old_side_of
 state_stays s l w = record { stamp = refl }
 
@@ -314,18 +312,18 @@ record Opens (rules : Rules) (s : Scene) : Type 0 where
   goes : (e : ClientWorldSimulations) → stops_of (status_of s.worlds) (snapshot_of s) s.worlds e ≡ false
 
 -- by the status and what is queued
-opens_by : (t : ReconciliationStatus) (q : Queued) (rules : Rules) (s : Scene) → status_of s.worlds ≡ t → s.worlds.snapshots.queued ≡ q
+opens_by : (t : ReconciliationStatus) (q : Option QueuedSnapshot) (rules : Rules) (s : Scene) → status_of s.worlds ≡ t → s.worlds.snapshots.queued ≡ q
     → level_by t q ≡ true → Opens rules s
 unfolding frame_opened opened_of blended_on loaded_queued stops_of snapshot_of level_weight
-opens_by AwaitingSnapshot Nothing rules s t e h =
+opens_by AwaitingSnapshot None rules s t e h =
     let p : Float = rules.progress in
-    let q : snapshot_of s ≡ Nothing = (λ i. loads_of (t i) (e i)) in
+    let q : snapshot_of s ≡ None = (λ i. loads_of (t i) (e i)) in
     record {
       begins = (λ i. opened_of (t i) (q i) p s) ∙ (λ i. still (with_worlds s (with_weight s.worlds (level_weight (sym t i) s.worlds.weight p))));
       blended = (λ i. blended_by (t i) (q i));
       goes = λ x. (λ i. stops_of (t i) (q i) s.worlds x);
     }
-opens_by AwaitingSnapshot (Held x k) rules s t e h = let z : ◌≡◌ {A = ℕ} 0 1 = cc in absurd (omega arith)
+opens_by AwaitingSnapshot (Some q) rules s t e h = let z : ◌≡◌ {A = ℕ} 0 1 = cc in absurd (omega arith)
 opens_by (Blending x) q rules s t e h =
     let p : Float = rules.progress in
     let w : s.worlds.weight ≡ x = sym (status_weight s.worlds t) in

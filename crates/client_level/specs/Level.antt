@@ -1,6 +1,6 @@
 -- A level frame, by what inner functions of the code ask and give. No contract of a call cites this module: a level frame is a frame, of which Frame of
 -- client_frame is the definition. Definitions only. Assumes nothing.
-use Rattle.std.specs.Prelude.{ℕ, Bool, true, false, not, ◌&&◌, List, [], ◌∷◌, ◌==◌, Float}
+use Rattle.std.specs.Prelude.{ℕ, Bool, true, false, not, ◌&&◌, List, [], ◌∷◌, ◌==◌, Float, Option, is_none}
 use Rattle.std.specs.Float.{binary64}
 use Rattle.std.specs.Float.Ieee.{add}
 use Rattle.tape.specs.Words.{step_word}
@@ -8,8 +8,7 @@ use Rattle.simulation.specs.declared.Simulation.{Simulation}
 use Rattle.simulation.specs.World.{next_stamp}
 use Rattle.client.specs.declared.ReconciliationStatus.{ReconciliationStatus}
 use Rattle.client.specs.declared.ReconciliationStatus.TheVariants.{AwaitingSnapshot, Fastforwarding, Blending}
-use Rattle.client.specs.declared.Queued.{Queued}
-use Rattle.client.specs.declared.Queued.TheVariants.{Nothing, Held}
+use Rattle.client.specs.declared.QueuedSnapshot.{QueuedSnapshot}
 use Rattle.client.specs.declared.ClientWorldSimulations.{ClientWorldSimulations}
 use Rattle.client.specs.Sides.{new_side_of, old_side_of, world_stamp_of}
 use Rattle.client.specs.Status.{status_of}
@@ -21,9 +20,8 @@ abbrev pub world_waits : Simulation → Bool
 world_waits w = waits_of w.commands (next_stamp (world_stamp_of w))
 
 -- a frame of this status, with q queued, leaves both worlds level: it blends, or it awaits and nothing is queued
-abbrev pub level_by : ReconciliationStatus → Queued → Bool
-level_by AwaitingSnapshot Nothing = true
-level_by AwaitingSnapshot (Held t h) = false
+abbrev pub level_by : ReconciliationStatus → Option QueuedSnapshot → Bool
+level_by AwaitingSnapshot q = is_none q
 level_by (Blending t) q = true
 level_by (Fastforwarding h) q = false
 

@@ -9,22 +9,17 @@ ghost use Rattle.client_frame.specs.Frame.{frame_of};
 ghost use Rattle.client_level.specs.Level.{level_by, is_level, level_weight, level_words};
 
 use client::{
-    ClientWorldSimulations, Queued, ReconciliationStatus, Scene, Shown, ledgers, sides, status,
+    ClientWorldSimulations, QueuedSnapshot, ReconciliationStatus, Scene, Shown, ledgers, sides,
+    status,
 };
 use client_frame::Rules;
 
 // Whether a frame of this status, with q queued, leaves both worlds level: it blends, or it awaits and nothing is queued.
-pub(crate) fn stays_level(t: ReconciliationStatus, q: Queued) -> bool
+pub(crate) fn stays_level(t: ReconciliationStatus, q: Option<QueuedSnapshot>) -> bool
     ensures { result ≡ level_by t q }
 {
     match t {
-        ReconciliationStatus::AwaitingSnapshot => match q {
-            Queued::Nothing => true,
-            Queued::Held {
-                stamp: _,
-                handle: _,
-            } => false,
-        },
+        ReconciliationStatus::AwaitingSnapshot => q.is_none(),
         ReconciliationStatus::Blending(_) => true,
         ReconciliationStatus::Fastforwarding(_) => false,
     }
@@ -39,9 +34,7 @@ pub fn is_level(w: ClientWorldSimulations, m: u32) -> bool
         return false;
     }
     let t = status::infer_current_reconciliation_status(w);
-    let s = w.snapshots;
-    let q = s.queued;
-    if !stays_level(t, q) {
+    if !stays_level(t, w.snapshots.queued) {
         return false;
     }
     let left = w.left;

@@ -1,13 +1,12 @@
 -- A snapshot is loaded: document 01, "src/client.rs". The base is drained to its stamp, copied into a side, and that side is the new one.
 -- Definitions only. Assumes nothing.
-use Rattle.std.specs.Prelude.{ℕ, [], ◌∷◌}
+use Rattle.std.specs.Prelude.{ℕ, [], ◌∷◌, None}
 use Rattle.timestamp.specs.Floats.{zero64}
 use Rattle.timestamp.specs.declared.Timestamp.{Timestamp}
 use Rattle.tape.specs.Words.{snapshot_word}
 use Rattle.command.specs.declared.CommandBuffer.{CommandBuffer}
 use Rattle.command.specs.Buffer.{rest_of}
 use Rattle.simulation.specs.World.{load_of, Load}
-use Rattle.client.specs.declared.Queued.TheVariants.{Nothing}
 use Rattle.client.specs.declared.ClientWorldSimulations.{ClientWorldSimulations}
 use Rattle.client.specs.declared.Scene.{Scene}
 use Rattle.client.specs.Ledgers.{loads}
@@ -19,7 +18,7 @@ readied_with w side b =
     with_base
     (with_new
     (with_weight
-    (with_snapshots w (record { queued = Nothing; lastqueued = w.snapshots.lastqueued; lastreceived = w.snapshots.lastreceived }))
+    (with_snapshots w (record { queued = None; lastqueued = w.snapshots.lastqueued; lastreceived = w.snapshots.lastreceived }))
     zero64)
     side)
     b

@@ -5,7 +5,7 @@ ghost use Rattle.std.specs.Prelude.{◌≡◌, ◌<◌};
 ghost use Rattle.client.specs.Sides.{Plays};
 ghost use Rattle.client_load.specs.Load.{readied_with, loaded_of};
 
-use client::{ClientWorldSimulations, Queued, Scene, Shown, Snapshots, ledgers, sides};
+use client::{ClientWorldSimulations, Scene, Shown, Snapshots, ledgers, sides};
 use command::CommandBuffer;
 use timestamp::Timestamp;
 
@@ -14,21 +14,16 @@ use timestamp::Timestamp;
 fn readied(w: ClientWorldSimulations, side: u32, base: CommandBuffer) -> ClientWorldSimulations
     ensures { result ≡ readied_with w side base }
 {
-    let s = w.snapshots;
-    let none = Queued::Nothing;
-    let last = s.lastqueued;
-    let received = s.lastreceived;
-    let next = Snapshots {
-        queued: none,
-        lastqueued: last,
-        lastreceived: received,
-    };
-    let mut t = w;
-    t.snapshots = next;
-    t.weight = 0.0;
-    t.new = side;
-    t.base = base;
-    t
+    ClientWorldSimulations {
+        new: side,
+        base,
+        snapshots: Snapshots {
+            queued: None,
+            ..w.snapshots
+        },
+        weight: 0.0,
+        ..w
+    }
 }
 
 // A snapshot is loaded into a side, which is the new one from then on. The base is drained up to it before it is copied.
@@ -44,21 +39,18 @@ pub fn load_snapshot(
     ensures { Plays (loaded_of s side stamp handle) tape.old at result tape.new }
 {
     let w = s.worlds;
-    let b = w.base;
-    let d = command::drain_up_to(b, stamp);
-    let base = d.buffer;
+    let d = command::drain_up_to(w.base, stamp);
     let r = simulation::apply_completed_snapshot(
         sides::get_side(w, side),
-        base,
+        d.buffer,
         stamp,
         handle,
         side,
         tape,
         at,
     );
-    let sim = r.world;
-    let v = readied(w, side, base);
-    let put = sides::set_side(v, side, sim);
+    let v = readied(w, side, d.buffer);
+    let put = sides::set_side(v, side, r.world);
     let l = ledgers::count_load(sides::get_ledger(s, side), r.copied, r.replaced, r.leftout);
     let mut t = s;
     t.worlds = put;

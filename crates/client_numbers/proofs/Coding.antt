@@ -1,5 +1,6 @@
 -- What the code of a frame and of a skip comes to, over plain values: one rule for each kind of return. Assumes nothing.
 use Rattle.std.proofs.Common.{◌≡◌, ℕ, zero, suc, ◌+◌, ◌-◌, ◌%◌, ◌^◌, ◌<◌, Bool, true, false, cond, eqb, ltb, sym, refl, ap, ◌∙◌, arith, ltb-false, ltb-true}
+use Rattle.std.specs.Prelude.{Option}
 use lib.Ieee.{Float, binary64, add, lt, eq}
 use Rattle.timestamp.specs.Floats.{zero64, one64, clamped_of}
 use Rattle.timestamp.specs.declared.Timestamp.{Timestamp}
@@ -7,8 +8,7 @@ use Rattle.timestamp.specs.Timestamps.{sum_of, difference_of}
 use Rattle.simulation.specs.World.{next_stamp}
 use Rattle.client.specs.declared.ReconciliationStatus.{ReconciliationStatus}
 use Rattle.client.specs.declared.ReconciliationStatus.TheVariants.{Blending}
-use Rattle.client.specs.declared.Queued.{Queued}
-use Rattle.client.specs.declared.LastStamp.{LastStamp}
+use Rattle.client.specs.declared.QueuedSnapshot.{QueuedSnapshot}
 use Rattle.client.specs.Status.{overshot_of, newer_of, status_by}
 use Rattle.client_publish.specs.Publish.{near_one}
 use Rattle.client_frame.specs.declared.Rules.{Rules}
@@ -31,11 +31,11 @@ unfolding status_in
 status_is n he hl hv hq = λ i. status_by (sym he i) (sym hl i) (sym hv i) (sym hq i) n.weight
 
 -- what it opens with, by its status and by what is queued
-pub opens_is : {t u : ReconciliationStatus} {q r : Queued} (w p : Float) → t ≡ u → q ≡ r → opens_with u r w p ≡ opens_with t q w p
+pub opens_is : {t u : ReconciliationStatus} {q r : Option QueuedSnapshot} (w p : Float) → t ≡ u → q ≡ r → opens_with u r w p ≡ opens_with t q w p
 opens_is w p e g = λ i. opens_with (sym e i) (sym g i) w p
 
 -- with the weight a frame on
-pub opens_weight : {t : ReconciliationStatus} (q : Queued) (w p : Float) {x y : Float} → t ≡ Blending x → y ≡ clamped_of (add binary64 w p)
+pub opens_weight : {t : ReconciliationStatus} (q : Option QueuedSnapshot) (w p : Float) {x y : Float} → t ≡ Blending x → y ≡ clamped_of (add binary64 w p)
     → Weight y ≡ opens_with t q w p
 opens_weight q w p e h = ap Weight h ∙ ap (λ (u : ReconciliationStatus). opens_with u q w p) (sym e)
 
@@ -123,7 +123,7 @@ shows_weight b i j t hb hi hx = rw (hb, hi) hx
 pub state_is : {x y : Shows} (o n : Timestamp) → x ≡ y → state_of y o n ≡ state_of x o n
 state_is o n e = ap (λ (z : Shows). state_of z o n) (sym e)
 
-pub shown_is : (x : Shows) (n : Numbers) {l : LastStamp} → l ≡ state_of x n.old n.new → shown_with n l ≡ shown_by x n
+pub shown_is : (x : Shows) (n : Numbers) {l : Option Timestamp} → l ≡ state_of x n.old n.new → shown_with n l ≡ shown_by x n
 unfolding shown_by
 shown_is x n e = ap (shown_with n) e
 

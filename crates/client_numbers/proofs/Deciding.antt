@@ -2,7 +2,7 @@
 -- Assumes nothing.
 use Rattle.std.specs.Ordering.{is_ge}
 use Rattle.std.proofs.Common.{◌≡◌, ℕ, zero, suc, ◌+◌, ◌-◌, ◌%◌, ◌<◌, ◌≤◌, Bool, true, false, cond, ltb, ◌++◌, pos, negsuc, sym, refl, ap, ◌∙◌, arith}
-use Rattle.std.proofs.Common.{ltb-false, ltb-true, le-ltb}
+use Rattle.std.proofs.Common.{ltb-false, ltb-true, le-ltb, Option, Some, None}
 use lib.Ieee.{Float, eq}
 use Rattle.timestamp.specs.Floats.{zero64}
 use Rattle.timestamp.specs.declared.Timestamp.{Timestamp}
@@ -11,8 +11,7 @@ use Rattle.simulation.specs.World.{next_stamp}
 use Rattle.client.specs.declared.FastforwardingHealth.TheVariants.{Healthy, Obsolete, Overshot}
 use Rattle.client.specs.declared.ReconciliationStatus.{ReconciliationStatus}
 use Rattle.client.specs.declared.ReconciliationStatus.TheVariants.{AwaitingSnapshot, Fastforwarding, Blending}
-use Rattle.client.specs.declared.Queued.{Queued}
-use Rattle.client.specs.declared.Queued.TheVariants.{Nothing, Held}
+use Rattle.client.specs.declared.QueuedSnapshot.{QueuedSnapshot}
 use Rattle.client.specs.declared.Scene.{Scene}
 use Rattle.client.specs.Sides.{new_side_of, old_side_of, world_of, old_stamp_of, new_stamp_of, Played, and_then}
 use Rattle.client.specs.Status.{status_of}
@@ -114,17 +113,18 @@ simulates m u =
 
 -- ---- what a frame opens with, publishes, and whether it stops
 
-opens_as : (t : ReconciliationStatus) (q : Queued) (p : Float) (s : Scene) → done_opening (opens_with t q s.worlds.weight p) s ≡ opened_of t (loads_of t q) p s
+opens_as : (t : ReconciliationStatus) (q : Option QueuedSnapshot) (p : Float) (s : Scene)
+    → done_opening (opens_with t q s.worlds.weight p) s ≡ opened_of t (loads_of t q) p s
 unfolding done_opening opened_of loaded_queued blended_on
-opens_as AwaitingSnapshot Nothing p s = refl
-opens_as AwaitingSnapshot (Held a h) p s = refl
+opens_as AwaitingSnapshot None p s = refl
+opens_as AwaitingSnapshot (Some q) p s = refl
 opens_as (Blending t) q p s = refl
 opens_as (Fastforwarding Healthy) q p s = refl
-opens_as (Fastforwarding Obsolete) Nothing p s = refl
-opens_as (Fastforwarding Obsolete) (Held a h) p s = refl
+opens_as (Fastforwarding Obsolete) None p s = refl
+opens_as (Fastforwarding Obsolete) (Some q) p s = refl
 opens_as (Fastforwarding Overshot) q p s = refl
 
-blends_as : (t : ReconciliationStatus) (q : Queued) → blended_by t q ≡ blended_by t (loads_of t q)
+blends_as : (t : ReconciliationStatus) (q : Option QueuedSnapshot) → blended_by t q ≡ blended_by t (loads_of t q)
 blends_as AwaitingSnapshot q = refl
 blends_as (Blending t) q = refl
 blends_as (Fastforwarding Healthy) q = refl
@@ -213,7 +213,7 @@ module _ (rules : Rules) (s : Scene) where
   unfolding done_by decided_of frame_opens frame_of frame_opened snapshot_of shown_of status_in status_of numbers_of opened
   frame_done =
       let t : ReconciliationStatus = status_in (numbers_of s) in
-      let q : Queued = (numbers_of s).queued in
+      let q : Option QueuedSnapshot = (numbers_of s).queued in
       let b : Bool = blended_by t q in
       let p : Played = done_steps (frame_steps rules (numbers_of s)) opened in
       let x : Shows = frame_shows rules (numbers_of s) in

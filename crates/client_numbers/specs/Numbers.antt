@@ -1,6 +1,6 @@
 -- The numbers of a client, and what a frame and a skip make of them: document 01, "src/client.rs". No number depends on what a command buffer holds.
 -- Definitions only. Assumes nothing.
-use Rattle.std.specs.Prelude.{ℕ, zero, suc, ◌+◌, ◌-◌, ◌%◌, ◌^◌, Bool, true, false, cond, ◌==◌, nat_lt, Float}
+use Rattle.std.specs.Prelude.{ℕ, zero, suc, ◌+◌, ◌-◌, ◌%◌, ◌^◌, Bool, true, false, cond, ◌==◌, nat_lt, Float, Option, Some, None}
 use Rattle.std.specs.Float.{binary64}
 use Rattle.std.specs.Float.Ieee.{add, lt, eq}
 use Rattle.timestamp.specs.Floats.{zero64, one64, clamped_of}
@@ -10,10 +10,7 @@ use Rattle.simulation.specs.World.{next_stamp}
 use Rattle.client.specs.declared.FastforwardingHealth.TheVariants.{Healthy, Obsolete, Overshot}
 use Rattle.client.specs.declared.ReconciliationStatus.{ReconciliationStatus}
 use Rattle.client.specs.declared.ReconciliationStatus.TheVariants.{AwaitingSnapshot, Fastforwarding, Blending}
-use Rattle.client.specs.declared.Queued.{Queued}
-use Rattle.client.specs.declared.Queued.TheVariants.{Nothing, Held}
-use Rattle.client.specs.declared.LastStamp.{LastStamp}
-use Rattle.client.specs.declared.LastStamp.TheVariants.{Never, Last}
+use Rattle.client.specs.declared.QueuedSnapshot.{QueuedSnapshot}
 use Rattle.client.specs.Status.{overshot_of, newer_of, status_by}
 use Rattle.client_publish.specs.Publish.{near_one}
 use Rattle.client_frame.specs.declared.Rules.{Rules}
@@ -33,13 +30,13 @@ status_in n =
     status_by (n.new.0 == n.old.0) (lt n.weight one64) (overshot_of n.new n.old) (newer_of n.queued n.new) n.weight
 
 -- what a frame of this status opens with: q is queued, t is the weight and p its progress
-abbrev pub opens_with : ReconciliationStatus → Queued → Float → Float → Opens
-opens_with AwaitingSnapshot Nothing t p = Unchanged
-opens_with AwaitingSnapshot (Held a h) t p = LoadOld a h
+abbrev pub opens_with : ReconciliationStatus → Option QueuedSnapshot → Float → Float → Opens
+opens_with AwaitingSnapshot None t p = Unchanged
+opens_with AwaitingSnapshot (Some q) t p = LoadOld q.stamp q.handle
 opens_with (Blending x) q t p = Weight (clamped_of (add binary64 t p))
 opens_with (Fastforwarding Healthy) q t p = Unchanged
-opens_with (Fastforwarding Obsolete) Nothing t p = Unchanged
-opens_with (Fastforwarding Obsolete) (Held a h) t p = LoadNew a h
+opens_with (Fastforwarding Obsolete) None t p = Unchanged
+opens_with (Fastforwarding Obsolete) (Some q) t p = LoadNew q.stamp q.handle
 opens_with (Fastforwarding Overshot) q t p = Reset
 
 -- the side of the new world, by `new`
@@ -75,7 +72,7 @@ loaded_into n x o i t =
       oldinit = i;
       newinit = true;
       side = x;
-      queued = Nothing;
+      queued = None;
       weight = zero64;
       before = n.before;
       after = n.after;
@@ -167,14 +164,14 @@ shows_by false true j t = OldWorld
 shows_by false false j t = NoWorld
 
 -- the state that is published
-abbrev pub state_of : Shows → Timestamp → Timestamp → LastStamp
-state_of NoWorld o n = Never
-state_of OldWorld o n = Last o
-state_of NewWorld o n = Last n
-state_of (Mix t) o n = Last o
+abbrev pub state_of : Shows → Timestamp → Timestamp → Option Timestamp
+state_of NoWorld o n = None
+state_of OldWorld o n = Some o
+state_of NewWorld o n = Some n
+state_of (Mix t) o n = Some o
 
 -- the numbers with another published state: the one before it is the last one
-abbrev pub shown_with : Numbers → LastStamp → Numbers
+abbrev pub shown_with : Numbers → Option Timestamp → Numbers
 shown_with n l =
     record {
       old = n.old;

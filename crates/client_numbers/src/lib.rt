@@ -8,7 +8,7 @@ ghost use Rattle.client_numbers.specs.Numbers.{state_of};
 ghost use Rattle.client_numbers.specs.Numbers.{shown_by, healthy_stops, stops_in};
 ghost use Rattle.client_numbers.specs.Decided.{DecidesAll, SkipsAll};
 
-use client::{FastforwardingHealth, LastStamp, Queued, ReconciliationStatus, status};
+use client::{FastforwardingHealth, QueuedSnapshot, ReconciliationStatus, status};
 use client_frame::Rules;
 use timestamp::Timestamp;
 
@@ -21,10 +21,10 @@ pub struct Numbers {
     pub oldinit: bool,
     pub newinit: bool,
     pub side: u32,
-    pub queued: Queued,
+    pub queued: Option<QueuedSnapshot>,
     pub weight: f64,
-    pub before: LastStamp,
-    pub after: LastStamp,
+    pub before: Option<Timestamp>,
+    pub after: Option<Timestamp>,
     pub steps: u32,
 }
 
@@ -61,40 +61,41 @@ pub struct Frame {
 pub fn status_of(n: Numbers) -> ReconciliationStatus
     ensures { result ≡ status_in n }
 {
-    let old = n.old;
-    let new = n.new;
-    if new.0 == old.0 {
-        let t = n.weight;
-        if t < 1.0 {
-            return ReconciliationStatus::Blending(t);
+    if n.new.0 == n.old.0 {
+        if n.weight < 1.0 {
+            return ReconciliationStatus::Blending(n.weight);
         }
         return ReconciliationStatus::AwaitingSnapshot;
     }
-    if status::is_overshot(new, old) {
+    if status::is_overshot(n.new, n.old) {
         return ReconciliationStatus::Fastforwarding(FastforwardingHealth::Overshot);
     }
-    let q = n.queued;
-    if status::is_snapshot_newer(q, new) {
+    if status::is_snapshot_newer(n.queued, n.new) {
         return ReconciliationStatus::Fastforwarding(FastforwardingHealth::Obsolete);
     }
     ReconciliationStatus::Fastforwarding(FastforwardingHealth::Healthy)
 }
 
 // What a frame of this status opens with.
-pub(crate) fn opens_with(t: ReconciliationStatus, q: Queued, weight: f64, progress: f64) -> Opens
+pub(crate) fn opens_with(
+    t: ReconciliationStatus,
+    q: Option<QueuedSnapshot>,
+    weight: f64,
+    progress: f64,
+) -> Opens
     ensures { result ≡ opens_with t q weight progress }
 {
     match t {
         ReconciliationStatus::AwaitingSnapshot => match q {
-            Queued::Nothing => Opens::Unchanged,
-            Queued::Held { stamp, handle } => Opens::LoadOld { stamp, handle },
+            None => Opens::Unchanged,
+            Some(QueuedSnapshot { stamp, handle }) => Opens::LoadOld { stamp, handle },
         },
         ReconciliationStatus::Blending(_) => Opens::Weight(client_frame::clamp(weight + progress)),
         ReconciliationStatus::Fastforwarding(h) => match h {
             FastforwardingHealth::Healthy => Opens::Unchanged,
             FastforwardingHealth::Obsolete => match q {
-                Queued::Nothing => Opens::Unchanged,
-                Queued::Held { stamp, handle } => Opens::LoadNew { stamp, handle },
+                None => Opens::Unchanged,
+                Some(QueuedSnapshot { stamp, handle }) => Opens::LoadNew { stamp, handle },
             },
             FastforwardingHealth::Overshot => Opens::Reset,
         },
@@ -125,47 +126,28 @@ pub fn old_side(side: u32) -> u32
 pub(crate) fn opened(n: Numbers, opens: Opens) -> Numbers
     ensures { result ≡ opened_by opens n }
 {
-    let old = n.old;
-    let new = n.new;
-    let before = n.before;
-    let after = n.after;
-    let queued = Queued::Nothing;
     match opens {
         Opens::Unchanged => n,
-        Opens::Weight(weight) => {
-            let mut t = n;
-            t.weight = weight;
-            t
-        }
+        Opens::Weight(weight) => Numbers { weight, ..n },
         Opens::LoadOld { stamp, handle: _ } => Numbers {
-            old: new,
+            old: n.new,
             new: stamp,
             oldinit: n.newinit,
             newinit: true,
             side: old_side(n.side),
-            queued,
+            queued: None,
             weight: 0.0,
-            before,
-            after,
-            steps: n.steps,
+            ..n
         },
         Opens::LoadNew { stamp, handle: _ } => Numbers {
-            old,
             new: stamp,
-            oldinit: n.oldinit,
             newinit: true,
             side: new_side(n.side),
-            queued,
+            queued: None,
             weight: 0.0,
-            before,
-            after,
-            steps: n.steps,
+            ..n
         },
-        Opens::Reset => {
-            let mut t = n;
-            t.new = old;
-            t
-        }
+        Opens::Reset => Numbers { new: n.old, ..n },
     }
 }
 
@@ -229,14 +211,14 @@ pub(crate) fn shows_what(blended: bool, n: Numbers) -> Shows
 }
 
 // The state that is published.
-pub(crate) fn state_of(shows: Shows, old: Timestamp, new: Timestamp) -> LastStamp
+pub(crate) fn state_of(shows: Shows, old: Timestamp, new: Timestamp) -> Option<Timestamp>
     ensures { result ≡ state_of shows old new }
 {
     match shows {
-        Shows::NoWorld => LastStamp::Never,
-        Shows::OldWorld => LastStamp::Last(old),
-        Shows::NewWorld => LastStamp::Last(new),
-        Shows::Mix(_) => LastStamp::Last(old),
+        Shows::NoWorld => None,
+        Shows::OldWorld => Some(old),
+        Shows::NewWorld => Some(new),
+        Shows::Mix(_) => Some(old),
     }
 }
 
@@ -244,22 +226,10 @@ pub(crate) fn state_of(shows: Shows, old: Timestamp, new: Timestamp) -> LastStam
 pub(crate) fn shown(n: Numbers, shows: Shows) -> Numbers
     ensures { result ≡ shown_by shows n }
 {
-    let old = n.old;
-    let new = n.new;
-    let queued = n.queued;
-    let before = n.after;
-    let after = state_of(shows, old, new);
     Numbers {
-        old,
-        new,
-        oldinit: n.oldinit,
-        newinit: n.newinit,
-        side: n.side,
-        queued,
-        weight: n.weight,
-        before,
-        after,
-        steps: n.steps,
+        before: n.after,
+        after: state_of(shows, n.old, n.new),
+        ..n
     }
 }
 
@@ -282,10 +252,7 @@ pub(crate) fn stops_in(t: ReconciliationStatus, n: Numbers, e: Numbers) -> bool
         ReconciliationStatus::Blending(_) => false,
         ReconciliationStatus::Fastforwarding(h) => match h {
             FastforwardingHealth::Healthy => stops_healthy(n, e),
-            FastforwardingHealth::Obsolete => {
-                let q = n.queued;
-                client_frame::loads_too_far(q, n.old)
-            }
+            FastforwardingHealth::Obsolete => client_frame::loads_too_far(n.queued, n.old),
             FastforwardingHealth::Overshot => false,
         },
     }
@@ -295,13 +262,12 @@ pub(crate) fn stops_in(t: ReconciliationStatus, n: Numbers, e: Numbers) -> bool
 pub fn frame_of(n: Numbers, rules: Rules) -> Frame
     ensures { DecidesAll rules n result }
 {
-    let q = n.queued;
     let t = status_of(n);
-    let opens = opens_with(t, q, n.weight, rules.progress);
+    let opens = opens_with(t, n.queued, n.weight, rules.progress);
     let a = opened(n, opens);
     let steps = steps_to(a.old.add(1), a.new, rules.m);
     let b = stepped(a, steps);
-    let shows = shows_what(client_frame::is_blended(t, q), b);
+    let shows = shows_what(client_frame::is_blended(t, n.queued), b);
     let next = shown(b, shows);
     Frame {
         opens,

@@ -10,7 +10,7 @@ use Rattle.tape.specs.Tape.{Puts}
 use Rattle.tape.specs.Words.{publish_word, mix_words, none_word}
 use Rattle.tape.proofs.Writing.{puts_as}
 use Rattle.simulation.specs.declared.Simulation.{Simulation}
-use Rattle.client.specs.declared.LastStamp.TheVariants.{Never, Last}
+use Rattle.std.specs.Prelude.{Some, None}
 use Rattle.client.specs.declared.ClientWorldSimulations.{ClientWorldSimulations}
 use Rattle.client.specs.declared.Scene.{Scene}
 use Rattle.client.specs.Sides.{new_side_of, old_side_of, world_of, world_stamp_of, old_stamp_of, Played}
@@ -24,27 +24,27 @@ states_as e h = record { scene = h.scene ∙ ap (λ (x : Played). x.scene) e; pu
 
 -- nothing is published
 pub none_states : (s : Scene) {was last : List ℕ} {place p word : ℕ}
-    → word ≡ none_word → Puts was place (word ∷ []) p last → States (published_none s) s was place (record { state = Never; at = p }) last
+    → word ≡ none_word → Puts was place (word ∷ []) p last → States (published_none s) s was place (record { state = None; at = p }) last
 unfolding published_none
 none_states s hw hp = record { scene = refl; puts = puts_as (ap (λ (x : ℕ). x ∷ []) hw) hp }
 
 -- the world of a side is published
 pub side_states : (s : Scene) (side : ℕ) {was last : List ℕ} {place p word : ℕ} {w : Simulation} {stamp : Timestamp}
     → w ≡ world_of s.worlds side → stamp ≡ world_stamp_of w → word ≡ publish_word side → Puts was place (word ∷ []) p last
-    → States (published_side s side) s was place (record { state = Last stamp; at = p }) last
+    → States (published_side s side) s was place (record { state = Some stamp; at = p }) last
 unfolding published_side
 side_states s side hw hs hd hp =
     record {
-      scene = ap (λ (x : Timestamp). with_state s (Last x)) (hs ∙ ap world_stamp_of hw);
+      scene = ap (λ (x : Timestamp). with_state s (Some x)) (hs ∙ ap world_stamp_of hw);
       puts = puts_as (ap (λ (x : ℕ). x ∷ []) hd) hp;
     }
 
 -- a mix is published
 pub mix_states : (s : Scene) (weight : Float) {was last : List ℕ} {place p : ℕ} {stamp : Timestamp}
     → stamp ≡ old_stamp_of s.worlds → Puts was place (mix_words weight) p last
-    → States (published_mix s weight) s was place (record { state = Last stamp; at = p }) last
+    → States (published_mix s weight) s was place (record { state = Some stamp; at = p }) last
 unfolding published_mix
-mix_states s weight hs hp = record { scene = ap (λ (x : Timestamp). with_state s (Last x)) hs; puts = hp }
+mix_states s weight hs hp = record { scene = ap (λ (x : Timestamp). with_state s (Some x)) hs; puts = hp }
 
 -- ---- by what is initialised
 

@@ -5,9 +5,9 @@ use mathlib.Core.List.{List, [], ◌∷◌}
 use Prim.Native.Nat.{ℕ}
 use lib.IntN.{pos}
 use lib.Ieee.{Float, fin, eq}
+use Rattle.timestamp.specs.declared.Timestamp.{Timestamp}
 use Rattle.tape.specs.Words.{publish_word, mix_words, none_word}
-use Rattle.client.specs.declared.LastStamp.{LastStamp}
-use Rattle.client.specs.declared.LastStamp.TheVariants.{Never, Last}
+use Rattle.std.specs.Prelude.{Option, Some, None}
 use Rattle.client.specs.declared.Scene.{Scene}
 use Rattle.client.specs.Sides.{new_side_of, old_side_of, world_of, world_stamp_of, old_stamp_of, Played}
 use Rattle.client_publish.specs.Publish.{with_state, published_none, published_side, published_mix, published_old, near_one, published_both, published_blended}
@@ -25,10 +25,10 @@ told (of_side side) = publish_word side ∷ []
 told (of_mix weight) = mix_words weight
 
 -- a state is published from a scene, and told
-abbrev pub publishes : Scene → LastStamp → Telling → Played
+abbrev pub publishes : Scene → Option Timestamp → Telling → Played
 publishes s l w = record { scene = with_state s l; words = told w }
 
-module _ (P : Played → Type 0) (s : Scene) (h : (l : LastStamp) (w : Telling) → P (publishes s l w)) where
+module _ (P : Played → Type 0) (s : Scene) (h : (l : Option Timestamp) (w : Telling) → P (publishes s l w)) where
   -- one of two
   pick_by : (b : Bool) (p q : Played) → P p → P q → P (cond b p q)
   pick_by true p q x y = x
@@ -36,15 +36,15 @@ module _ (P : Played → Type 0) (s : Scene) (h : (l : LastStamp) (w : Telling) 
 
   none_by : P (published_none s)
   unfolding published_none
-  none_by = h Never of_none
+  none_by = h None of_none
 
   side_by : (side : ℕ) → P (published_side s side)
   unfolding published_side
-  side_by side = h (Last (world_stamp_of (world_of s.worlds side))) (of_side side)
+  side_by side = h (Some (world_stamp_of (world_of s.worlds side))) (of_side side)
 
   mix_by : (weight : Float) → P (published_mix s weight)
   unfolding published_mix
-  mix_by weight = h (Last (old_stamp_of s.worlds)) (of_mix weight)
+  mix_by weight = h (Some (old_stamp_of s.worlds)) (of_mix weight)
 
   -- the old world
   pub old_by : P (published_old s)

@@ -1,6 +1,6 @@
 -- What every update ends with: document 01, "src/client.rs" and "src/world/display_state.rs", and refusal 27.
 -- Definitions only. Assumes nothing.
-use Rattle.std.specs.Prelude.{ℕ, Bool, cond, Float}
+use Rattle.std.specs.Prelude.{ℕ, Bool, cond, Float, Option, Some, None}
 use Rattle.std.specs.Float.{binary64}
 use Rattle.std.specs.Float.Ieee.{add, mul}
 use Rattle.timestamp.specs.Floats.{zero64, one64, between}
@@ -9,9 +9,6 @@ use Rattle.timestamp.specs.Timestamps.{difference_of, in_range}
 use Rattle.timestamp.specs.FloatTimestamps.{float_of}
 use Rattle.command.specs.declared.CommandBuffer.{CommandBuffer}
 use Rattle.command.specs.Buffer.{moved_of}
-use Rattle.client.specs.declared.LastStamp.{LastStamp}
-use Rattle.client.specs.declared.LastStamp.TheVariants.{Never, Last}
-use Rattle.client.specs.declared.DisplayTime.TheVariants.{DisplayedAt}
 use Rattle.client.specs.declared.Published.{Published}
 use Rattle.client.specs.declared.ClientWorldSimulations.{ClientWorldSimulations}
 use Rattle.client.specs.Sides.{with_base, old_stamp_of, with_snapshots, with_published}
@@ -26,26 +23,26 @@ unfoldable pub time_of : Timestamp → Timestamp → Float → Float
 time_of b a t = add binary64 (float_of b.0) (mul binary64 t (float_of (difference_of a.0 b.0)))
 
 -- the displayed time is worked out anew where two states are published
-abbrev pub displayed_by : LastStamp → LastStamp → Published → Float → Published
-displayed_by Never a p t = p
-displayed_by (Last b) Never p t = p
-displayed_by (Last b) (Last a) p t = record { before = Last b; after = Last a; time = DisplayedAt (time_of b a t) }
+abbrev pub displayed_by : Option Timestamp → Option Timestamp → Published → Float → Published
+displayed_by None a p t = p
+displayed_by (Some b) None p t = p
+displayed_by (Some b) (Some a) p t = record { before = Some b; after = Some a; time = Some (time_of b a t) }
 
 -- what is displayed of the published states at a shaped weight
 unfoldable pub displayed_of : Published → Float → Published
 displayed_of p t = displayed_by p.before p.after p t
 
 -- the stamp `old` less twice the lag in frames
-abbrev pub back_by : Timestamp → ℕ → LastStamp
-back_by old lag = Last (record { 0 = difference_of (difference_of old.0 lag) lag })
+abbrev pub back_by : Timestamp → ℕ → Option Timestamp
+back_by old lag = Some (record { 0 = difference_of (difference_of old.0 lag) lag })
 
 -- the last queued stamp, set anew where it lies outside the old stamp's range or is later than it
-unfoldable pub revised_of : LastStamp → Timestamp → ℕ → LastStamp
-revised_of Never old lag = Never
-revised_of (Last l) old lag = cond (in_range old.0 l.0) (cond (later_of l old) (back_by old lag) (Last l)) (back_by old lag)
+unfoldable pub revised_of : Option Timestamp → Timestamp → ℕ → Option Timestamp
+revised_of None old lag = None
+revised_of (Some l) old lag = cond (in_range old.0 l.0) (cond (later_of l old) (back_by old lag) (Some l)) (back_by old lag)
 
 -- the worlds with another base, another last queued stamp and other published states
-abbrev pub ending_with : ClientWorldSimulations → CommandBuffer → LastStamp → Published → ClientWorldSimulations
+abbrev pub ending_with : ClientWorldSimulations → CommandBuffer → Option Timestamp → Published → ClientWorldSimulations
 ending_with w b l p =
     with_published
     (with_snapshots

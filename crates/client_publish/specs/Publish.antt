@@ -1,30 +1,29 @@
 -- What a frame publishes: document 01, "Inbox and tape", out words 4 to 7.
 -- Definitions only. Assumes nothing.
-use Rattle.std.specs.Prelude.{ℕ, Bool, false, cond, [], ◌∷◌, negsuc, Float}
+use Rattle.std.specs.Prelude.{ℕ, Bool, false, cond, [], ◌∷◌, negsuc, Float, Option, Some, None}
 use Rattle.std.specs.Float.{fin, binary64}
 use Rattle.std.specs.Float.Ieee.{sub, lt, eq}
 use Rattle.timestamp.specs.Floats.{zero64, one64, abs_of}
+use Rattle.timestamp.specs.declared.Timestamp.{Timestamp}
 use Rattle.tape.specs.Words.{publish_word, mix_words, none_word}
-use Rattle.client.specs.declared.LastStamp.{LastStamp}
-use Rattle.client.specs.declared.LastStamp.TheVariants.{Never, Last}
 use Rattle.client.specs.declared.Scene.{Scene}
 use Rattle.client.specs.Sides.{new_side_of, old_side_of, world_of, with_published, with_worlds, world_stamp_of, old_stamp_of, Played}
 
 -- a state is published: the one before it is the last one, and the displayed time stays
-abbrev pub with_state : Scene → LastStamp → Scene
+abbrev pub with_state : Scene → Option Timestamp → Scene
 with_state s l = with_worlds s (with_published s.worlds (record { before = s.worlds.published.after; after = l; time = s.worlds.published.time }))
 
 -- nothing is published
 unfoldable pub published_none : Scene → Played
-published_none s = record { scene = with_state s Never; words = none_word ∷ [] }
+published_none s = record { scene = with_state s None; words = none_word ∷ [] }
 
 -- the world of a side is published
 unfoldable pub published_side : Scene → ℕ → Played
-published_side s side = record { scene = with_state s (Last (world_stamp_of (world_of s.worlds side))); words = publish_word side ∷ [] }
+published_side s side = record { scene = with_state s (Some (world_stamp_of (world_of s.worlds side))); words = publish_word side ∷ [] }
 
 -- a mix is published, with a weight
 unfoldable pub published_mix : Scene → Float → Played
-published_mix s t = record { scene = with_state s (Last (old_stamp_of s.worlds)); words = mix_words t }
+published_mix s t = record { scene = with_state s (Some (old_stamp_of s.worlds)); words = mix_words t }
 
 -- the old world is published, or nothing where it is not initialised
 unfoldable pub published_old : Scene → Played

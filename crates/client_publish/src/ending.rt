@@ -4,7 +4,7 @@ ghost use Rattle.std.specs.Prelude.{◌≡◌};
 ghost use Rattle.client_publish.specs.Ending.{weight_ok, time_of, displayed_of, revised_of, post_update_of};
 ghost use Rattle.timestamp.specs.Floats.{tween_of};
 
-use client::{ClientWorldSimulations, DisplayTime, LastStamp, Published, Snapshots, sides, status};
+use client::{ClientWorldSimulations, Published, Snapshots, sides, status};
 use timestamp::{FloatTimestamp, Timestamp};
 
 // The weight of the state after the displayed time, not yet shaped.
@@ -34,40 +34,29 @@ pub(crate) fn time_between(before: Timestamp, after: Timestamp, t: f64) -> f64
 }
 
 // The displayed time: worked out anew where two states are published.
+#[tactic(auto, unfolding(crate::specs::Ending::displayed_of))]
 pub fn displayed(p: Published, t: f64) -> Published
     ensures { result ≡ displayed_of p t }
 {
-    let before = p.before;
-    let after = p.after;
-    let time = p.time;
-    let LastStamp::Last(b) = before else {
-        return p;
-    };
-    let LastStamp::Last(a) = after else {
+    let (Some(before), Some(after)) = (p.before, p.after) else {
         return p;
     };
     Published {
-        before,
-        after,
-        time: DisplayTime::DisplayedAt(time_between(b, a, t)),
+        time: Some(time_between(before, after, t)),
+        ..p
     }
 }
 
 // The last queued stamp, set anew where it cannot be compared with the client's stamp or is later than it.
-pub fn revised(last: LastStamp, old: Timestamp, lag: u16) -> LastStamp
+#[tactic(auto, unfolding(crate::specs::Ending::revised_of))]
+pub fn revised(last: Option<Timestamp>, old: Timestamp, lag: u16) -> Option<Timestamp>
     ensures { result ≡ revised_of last old lag }
 {
-    let LastStamp::Last(l) = last else {
-        return last;
-    };
-    let reset = LastStamp::Last(old.sub_frames(lag).sub_frames(lag));
-    if l.in_comparable_range(old) {
-        if status::is_later(l, old) {
-            return reset;
-        }
+    let l = last?;
+    if l.in_comparable_range(old) && !status::is_later(l, old) {
         return last;
     }
-    reset
+    Some(old.sub_frames(lag).sub_frames(lag))
 }
 
 // What every update ends with: the displayed time at a shaped weight, the base's stamp, and the last queued stamp.
@@ -75,23 +64,14 @@ pub fn post_update(w: ClientWorldSimulations, t: f64, lag: u16) -> ClientWorldSi
     ensures { result ≡ post_update_of w t lag }
 {
     let old = sides::last_completed_timestamp(w);
-    let p = w.published;
-    let shown = displayed(p, t);
-    let b = w.base;
-    let m = command::update_timestamp(b, old);
-    let base = m.buffer;
-    let s = w.snapshots;
-    let queued = s.queued;
-    let last = s.lastqueued;
-    let received = s.lastreceived;
-    let snapshots = Snapshots {
-        queued,
-        lastqueued: revised(last, old, lag),
-        lastreceived: received,
-    };
-    let mut v = w;
-    v.published = shown;
-    v.base = base;
-    v.snapshots = snapshots;
-    v
+    let m = command::update_timestamp(w.base, old);
+    ClientWorldSimulations {
+        base: m.buffer,
+        snapshots: Snapshots {
+            lastqueued: revised(w.snapshots.lastqueued, old, lag),
+            ..w.snapshots
+        },
+        published: displayed(w.published, t),
+        ..w
+    }
 }

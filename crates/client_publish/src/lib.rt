@@ -6,34 +6,28 @@ ghost use Rattle.client_publish.specs.Publish.{with_state, published_none, publi
 ghost use Rattle.client_publish.specs.Publish.{published_blended};
 ghost use Rattle.client_publish.specs.Inner.{States};
 
-use client::{ClientWorldSimulations, LastStamp, Published, Scene, sides};
+use client::{ClientWorldSimulations, Published, Scene, sides};
+use timestamp::Timestamp;
 
 pub mod ending;
 
 // The published states move on by one: the last one is now the one before.
-pub fn with_state(s: Scene, state: LastStamp) -> Scene
+pub fn with_state(s: Scene, state: Option<Timestamp>) -> Scene
     ensures { result ≡ with_state s state }
 {
-    let w = s.worlds;
-    let p = w.published;
-    let last = p.after;
-    let time = p.time;
-    let next = Published {
-        before: last,
-        after: state,
-        time,
-    };
-    let mut v = w;
-    v.published = next;
     let mut t = s;
-    t.worlds = v;
+    t.worlds.published = Published {
+        before: s.worlds.published.after,
+        after: state,
+        time: s.worlds.published.time,
+    };
     t
 }
 
 // The state that is published, and the next place on the tape. A scene is built from it once, by `with_state`.
 #[derive(Clone, Copy)]
 pub struct Stated {
-    pub state: LastStamp,
+    pub state: Option<Timestamp>,
     pub at: usize,
 }
 
@@ -43,10 +37,7 @@ pub(crate) fn publish_none(s: Scene, tape: &mut [u32], at: usize) -> Stated
     ensures { States (published_none s) s tape.old at result tape.new }
 {
     let p = tape::put(tape, at, tape::none_word());
-    Stated {
-        state: LastStamp::Never,
-        at: p,
-    }
+    Stated { state: None, at: p }
 }
 
 // The world of a side is published as it is.
@@ -57,7 +48,7 @@ pub(crate) fn publish_side(s: Scene, side: u32, tape: &mut [u32], at: usize) -> 
     let stamp = sides::stamp_of(sides::get_side(s.worlds, side));
     let p = tape::put(tape, at, tape::publish_word(side));
     Stated {
-        state: LastStamp::Last(stamp),
+        state: Some(stamp),
         at: p,
     }
 }
@@ -70,7 +61,7 @@ pub(crate) fn publish_mix(s: Scene, weight: f64, tape: &mut [u32], at: usize) ->
     let stamp = sides::last_completed_timestamp(s.worlds);
     let p = tape::put_mix(tape, at, weight);
     Stated {
-        state: LastStamp::Last(stamp),
+        state: Some(stamp),
         at: p,
     }
 }

@@ -10,10 +10,7 @@ use Rattle.command.specs.declared.Outcome.{Outcome}
 use Rattle.command.specs.Buffer.{inserted_of, taken_by}
 use Rattle.simulation.specs.declared.Scheduled.{Scheduled}
 use Rattle.simulation.specs.World.{scheduled_of}
-use Rattle.client.specs.declared.Queued.{Queued}
-use Rattle.client.specs.declared.Queued.TheVariants.{Nothing, Held}
-use Rattle.client.specs.declared.LastStamp.{LastStamp}
-use Rattle.client.specs.declared.LastStamp.TheVariants.{Never, Last}
+use Rattle.std.specs.Prelude.{Option, Some}
 use Rattle.client.specs.declared.Snapshots.{Snapshots}
 use Rattle.client.specs.declared.Ledger.{Ledger}
 use Rattle.client.specs.declared.Scene.{Scene}
@@ -21,7 +18,6 @@ use Rattle.client.specs.declared.Received.{Received}
 use Rattle.client.specs.Ledgers.{takes}
 use Rattle.client.specs.Sides.{new_side_of, old_side_of, world_of, with_world, with_ledger, ledger_of, with_left, with_right, with_base, with_worlds}
 use Rattle.client.specs.Sides.{with_ledgers}
-use Rattle.client.specs.Status.{later_of}
 use Rattle.client_receive.specs.Inner.{any_full}
 use Rattle.client_receive.specs.Receive.{full_by, offered_base, offered_side, received_of, from_future_of, fresh_of, noted_of, snapshots_by, snapshots_of}
 
@@ -80,26 +76,6 @@ received_is s e {i} {a} {b} {l} {r} {f} hi ha hb hl hr hf =
 
 -- ---- snapshots
 
--- no snapshot was queued before
-pub fresh_first : (t : Timestamp) {l : LastStamp} → l ≡ Never → true ≡ fresh_of l t
-unfolding fresh_of
-fresh_first t e = ap (λ (x : LastStamp). fresh_of x t) (sym e)
-
--- one was
-pub fresh_after : (t : Timestamp) {l : LastStamp} {a : Timestamp} {r : Bool} → l ≡ Last a → r ≡ later_of t a → r ≡ fresh_of l t
-unfolding fresh_of
-fresh_after t e hr = hr ∙ ap (λ (x : LastStamp). fresh_of x t) (sym e)
-
--- no snapshot is queued, and the last queued stamp stays
-pub noted_none : (l : LastStamp) {q : Queued} → q ≡ Nothing → l ≡ noted_of q l
-unfolding noted_of
-noted_none l e = ap (λ (x : Queued). noted_of x l) (sym e)
-
--- one is
-pub noted_held : (l : LastStamp) {q : Queued} {a : Timestamp} {h : ℕ} → q ≡ Held a h → Last a ≡ noted_of q l
-unfolding noted_of
-noted_held l e = ap (λ (x : Queued). noted_of x l) (sym e)
-
 module _ (s : Snapshots) (old t : Timestamp) (h : ℕ) where
   -- the snapshots, by the two tests
   snapshots_is : {f g : Bool} → from_future_of t old ≡ f → fresh_of s.lastqueued t ≡ g → snapshots_by f g s t h ≡ snapshots_of s old t h
@@ -108,20 +84,20 @@ module _ (s : Snapshots) (old t : Timestamp) (h : ℕ) where
 
   -- a snapshot from the future
   pub snapshots_future : {f : Bool} → f ≡ from_future_of t old → f ≡ true
-      → ◌≡◌ {A = Snapshots} (record { queued = s.queued; lastqueued = s.lastqueued; lastreceived = Last t }) (snapshots_of s old t h)
+      → ◌≡◌ {A = Snapshots} (record { queued = s.queued; lastqueued = s.lastqueued; lastreceived = Some t }) (snapshots_of s old t h)
   unfolding snapshots_by
   snapshots_future hf e = snapshots_is (sym hf ∙ e) refl
 
   -- a fresh one
   pub snapshots_fresh : {f g : Bool} → f ≡ from_future_of t old → f ≡ false → g ≡ fresh_of s.lastqueued t → g ≡ true
-      → ◌≡◌ {A = Snapshots} (record { queued = Held t h; lastqueued = Last t; lastreceived = Last t }) (snapshots_of s old t h)
+      → ◌≡◌ {A = Snapshots} (record { queued = Some (record { stamp = t; handle = h }); lastqueued = Some t; lastreceived = Some t }) (snapshots_of s old t h)
   unfolding snapshots_by
   snapshots_fresh hf e hg d = snapshots_is (sym hf ∙ e) (sym hg ∙ d)
 
   -- a stale one
-  pub snapshots_stale : {f g : Bool} {l : LastStamp} → f ≡ from_future_of t old → f ≡ false → g ≡ fresh_of s.lastqueued t → g ≡ false
+  pub snapshots_stale : {f g : Bool} {l : Option Timestamp} → f ≡ from_future_of t old → f ≡ false → g ≡ fresh_of s.lastqueued t → g ≡ false
       → l ≡ noted_of s.queued s.lastqueued
-      → ◌≡◌ {A = Snapshots} (record { queued = s.queued; lastqueued = l; lastreceived = Last t }) (snapshots_of s old t h)
+      → ◌≡◌ {A = Snapshots} (record { queued = s.queued; lastqueued = l; lastreceived = Some t }) (snapshots_of s old t h)
   unfolding snapshots_by
   snapshots_stale hf e hg d hl =
-      ap (λ (x : LastStamp). record { queued = s.queued; lastqueued = x; lastreceived = Last t }) hl ∙ snapshots_is (sym hf ∙ e) (sym hg ∙ d)
+      ap (λ (x : Option Timestamp). record { queued = s.queued; lastqueued = x; lastreceived = Some t }) hl ∙ snapshots_is (sym hf ∙ e) (sym hg ∙ d)

@@ -1,16 +1,13 @@
 -- Commands and snapshots that arrive: document 01, "src/client.rs", and refusal 23.
 -- Definitions only. Assumes nothing.
-use Rattle.std.specs.Prelude.{ℕ, Bool, true, false, ◌||◌}
+use Rattle.std.specs.Prelude.{ℕ, Bool, true, false, ◌||◌, Option, Some, None}
 use Rattle.timestamp.specs.declared.Timestamp.{Timestamp}
 use Rattle.command.specs.Entries.{Entry}
 use Rattle.command.specs.declared.Outcome.{Outcome}
 use Rattle.command.specs.declared.Outcome.TheVariants.{Taken, OutOfRange, Full}
 use Rattle.command.specs.Buffer.{inserted_of, taken_by}
 use Rattle.simulation.specs.World.{scheduled_of}
-use Rattle.client.specs.declared.Queued.{Queued}
-use Rattle.client.specs.declared.Queued.TheVariants.{Nothing, Held}
-use Rattle.client.specs.declared.LastStamp.{LastStamp}
-use Rattle.client.specs.declared.LastStamp.TheVariants.{Never, Last}
+use Rattle.client.specs.declared.QueuedSnapshot.{QueuedSnapshot}
 use Rattle.client.specs.declared.Snapshots.{Snapshots}
 use Rattle.client.specs.declared.ClientWorldSimulations.{ClientWorldSimulations}
 use Rattle.client.specs.declared.Scene.{Scene}
@@ -66,20 +63,20 @@ unfoldable pub from_future_of : Timestamp → Timestamp → Bool
 from_future_of t old = later_of t old
 
 -- a snapshot is later than the last one that was queued, or none was
-unfoldable pub fresh_of : LastStamp → Timestamp → Bool
-fresh_of Never t = true
-fresh_of (Last l) t = later_of t l
+unfoldable pub fresh_of : Option Timestamp → Timestamp → Bool
+fresh_of None t = true
+fresh_of (Some l) t = later_of t l
 
 -- the last queued stamp is the queued snapshot's, where there is one, also after a stale snapshot
-unfoldable pub noted_of : Queued → LastStamp → LastStamp
-noted_of Nothing l = l
-noted_of (Held a h) l = Last a
+unfoldable pub noted_of : Option QueuedSnapshot → Option Timestamp → Option Timestamp
+noted_of None l = l
+noted_of (Some q) l = Some q.stamp
 
 -- the snapshots after one was received: from the future it is only noted; fresh it is queued; stale it is not
 unfoldable pub snapshots_by : Bool → Bool → Snapshots → Timestamp → ℕ → Snapshots
-snapshots_by true f s t h = record { queued = s.queued; lastqueued = s.lastqueued; lastreceived = Last t }
-snapshots_by false true s t h = record { queued = Held t h; lastqueued = Last t; lastreceived = Last t }
-snapshots_by false false s t h = record { queued = s.queued; lastqueued = noted_of s.queued s.lastqueued; lastreceived = Last t }
+snapshots_by true f s t h = record { queued = s.queued; lastqueued = s.lastqueued; lastreceived = Some t }
+snapshots_by false true s t h = record { queued = Some (record { stamp = t; handle = h }); lastqueued = Some t; lastreceived = Some t }
+snapshots_by false false s t h = record { queued = s.queued; lastqueued = noted_of s.queued s.lastqueued; lastreceived = Some t }
 
 -- a snapshot with a stamp and a handle arrives where the old stamp is `old`
 unfoldable pub snapshots_of : Snapshots → Timestamp → Timestamp → ℕ → Snapshots

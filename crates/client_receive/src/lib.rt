@@ -8,7 +8,7 @@ ghost use Rattle.client_receive.specs.Inner.{any_full};
 ghost use Rattle.client_receive.specs.Receive.{full_by, received_of, from_future_of, fresh_of, noted_of, snapshots_of};
 
 use client::{
-    ClientWorldSimulations, LastStamp, Ledger, Queued, Received, Scene, Snapshots, ledgers, sides,
+    ClientWorldSimulations, Ledger, QueuedSnapshot, Received, Scene, Snapshots, ledgers, sides,
     status,
 };
 use command::Outcome;
@@ -101,49 +101,39 @@ pub(crate) fn is_from_future(stamp: Timestamp, old: Timestamp) -> bool
 }
 
 // Whether a snapshot is later than the last one queued, where there was one.
-pub(crate) fn is_fresh(last: LastStamp, stamp: Timestamp) -> bool
+pub(crate) fn is_fresh(last: Option<Timestamp>, stamp: Timestamp) -> bool
     ensures { result ≡ fresh_of last stamp }
 {
-    match last {
-        LastStamp::Never => true,
-        LastStamp::Last(l) => status::is_later(stamp, l),
-    }
+    last.is_none_or(|l| status::is_later(stamp, l))
 }
 
 // The last queued stamp is the queued snapshot's, where there is one.
-pub(crate) fn noted(q: Queued, last: LastStamp) -> LastStamp
-    ensures { result ≡ noted_of q last }
+pub(crate) fn noted(queued: Option<QueuedSnapshot>, last: Option<Timestamp>) -> Option<Timestamp>
+    ensures { result ≡ noted_of queued last }
 {
-    match q {
-        Queued::Nothing => last,
-        Queued::Held { stamp, handle: _ } => LastStamp::Last(stamp),
-    }
+    queued.map(|q| q.stamp).or(last)
 }
 
 // What becomes of the snapshots where one with a stamp and a handle arrives at a client of the stamp `old`.
 pub fn snapshots_with(s: Snapshots, old: Timestamp, stamp: Timestamp, handle: u32) -> Snapshots
     ensures { result ≡ snapshots_of s old stamp handle }
 {
-    let received = LastStamp::Last(stamp);
-    let q = s.queued;
-    let last = s.lastqueued;
     if is_from_future(stamp, old) {
         return Snapshots {
-            queued: q,
-            lastqueued: last,
-            lastreceived: received,
+            lastreceived: Some(stamp),
+            ..s
         };
     }
-    if is_fresh(last, stamp) {
+    if is_fresh(s.lastqueued, stamp) {
         return Snapshots {
-            queued: Queued::Held { stamp, handle },
-            lastqueued: LastStamp::Last(stamp),
-            lastreceived: received,
+            queued: Some(QueuedSnapshot { stamp, handle }),
+            lastqueued: Some(stamp),
+            lastreceived: Some(stamp),
         };
     }
     Snapshots {
-        queued: q,
-        lastqueued: noted(q, last),
-        lastreceived: received,
+        lastqueued: noted(s.queued, s.lastqueued),
+        lastreceived: Some(stamp),
+        ..s
     }
 }

@@ -13,8 +13,7 @@ use borrow.Author.Tests.{lt-ltb, le-ltb}
 use Rattle.settings.specs.declared.Settings.{Settings}
 use Rattle.settings.specs.Settings.{samples_to_discard_of, samples_to_store_of}
 use Rattle.mean.specs.Mean.{mean_of}
-use Rattle.clocksync.specs.declared.Offset.{Offset}
-use Rattle.clocksync.specs.declared.Offset.TheVariants.{NoOffset, Seconds}
+use Rattle.std.specs.Prelude.{Option, Some, None}
 use Rattle.clocksync.specs.declared.Clock.{Clock}
 use Rattle.clocksync.specs.declared.Heard.{Heard}
 use Rattle.clocksync.specs.Clock.{laid_out, held_of, offset_after, sampled_of, filled_of, added_of, named_of, sample_of, settled_of}
@@ -31,7 +30,7 @@ module _ (s : Settings) (was : List Float) (c : ClockNumbers) (x : Float) {n sto
   offset_few h = ap (λ (k : Clock). k.offset) (added_few s (clock_at was c) x room cut refl e h)
 
   -- as many as are stored
-  pub offset_full : {laid : List Float} {discard : ℕ} {mean : Float} {offset : Offset} → store ≤ n + 1 → laid ≡ laid_out (take n was)
+  pub offset_full : {laid : List Float} {discard : ℕ} {mean : Float} {offset : Option Float} → store ≤ n + 1 → laid ≡ laid_out (take n was)
       → discard ≡ samples_to_discard_of s → mean ≡ mean_of discard (take (n + 1) (set laid n x)) → offset ≡ offset_after c.offset mean s.deviation
       → offset ≡ (added_of s (clock_at was c) x).offset
   offset_full h l d m o = ap (λ (k : Clock). k.offset) (added_full s (clock_at was c) x room cut l e h d m o refl)
@@ -53,7 +52,7 @@ filled_parts : (s : Settings) (c : Clock) (xs : List Float) → filled_of s c xs
 unfolding filled_of kept_of
 filled_parts s c xs = go (ltb (length xs) (samples_to_store_of s)) (offset_after c.offset (mean_of (samples_to_discard_of s) xs) s.deviation)
   where
-    go : (b : Bool) (o : Offset) → cond b (sampled_of c c.offset xs) (sampled_of c o (drop 1 xs))
+    go : (b : Bool) (o : Option Float) → cond b (sampled_of c c.offset xs) (sampled_of c o (drop 1 xs))
         ≡ sampled_of c (cond b (sampled_of c c.offset xs) (sampled_of c o (drop 1 xs))).offset (cond b xs (drop 1 xs))
     go true o = refl
     go false o = refl
@@ -86,34 +85,34 @@ module _ (s : Settings) (was : List Float) (len : ℕ) (x : Float) {n store : �
 -- ---- what the clock messages told
 
 module _ (s : Settings) (was : List Float) (c : ClockNumbers) (h : Heard) where
-  settled_none : h.offset ≡ NoOffset → settled_of s (clock_at was c) h ≡ named_of (clock_at was c) h.id
+  settled_none : h.offset ≡ None → settled_of s (clock_at was c) h ≡ named_of (clock_at was c) h.id
   unfolding settled_of
   settled_none e = ap (sample_of s (named_of (clock_at was c) h.id)) e
 
-  settled_one : {x : Float} → h.offset ≡ Seconds x
+  settled_one : {x : Float} → h.offset ≡ Some x
       → settled_of s (clock_at was c) h ≡ filled_of s (named_of (clock_at was c) h.id) (with_sample was c.len x)
   unfolding settled_of held_of
   settled_one e = ap (sample_of s (named_of (clock_at was c) h.id)) e
 
   -- no message: the offset stays
-  pub offset_none : h.offset ≡ NoOffset → c.offset ≡ (settled_of s (clock_at was c) h).offset
+  pub offset_none : h.offset ≡ None → c.offset ≡ (settled_of s (clock_at was c) h).offset
   offset_none e = ap (λ (k : Clock). k.offset) (sym (settled_none e))
 
   -- the last message's offset is a sample
-  pub offset_one : {x : Float} {d : ClockNumbers} {o : Offset} → h.offset ≡ Seconds x → d ≡ settled_numbers c c.offset c.len h.id
+  pub offset_one : {x : Float} {d : ClockNumbers} {o : Option Float} → h.offset ≡ Some x → d ≡ settled_numbers c c.offset c.len h.id
       → o ≡ (added_of s (clock_at was d) x).offset → o ≡ (settled_of s (clock_at was c) h).offset
   unfolding held_of
   offset_one {x} e n p =
       p ∙ ap (λ (k : ClockNumbers). (added_of s (clock_at was k) x).offset) n ∙ ap (λ (k : Clock). k.offset) (sym (settled_one e))
 
   -- no message: the slots stay
-  pub pushes_none : length was ≡ 64 → h.offset ≡ NoOffset → Pushes s was c h c.len was
+  pub pushes_none : length was ≡ 64 → h.offset ≡ None → Pushes s was c h c.len was
   pushes_none room e =
       let k = settled_none e in
       record { room = room; clock = ap (λ (d : Clock). clock_at was (settled_numbers c d.offset c.len h.id)) k ∙ sym k }
 
   -- the last message's offset is a sample
-  pub pushes_one : {x : Float} {r : ℕ} {last : List Float} → h.offset ≡ Seconds x → Adds s was c.len x r last → Pushes s was c h r last
+  pub pushes_one : {x : Float} {r : ℕ} {last : List Float} → h.offset ≡ Some x → Adds s was c.len x r last → Pushes s was c h r last
   pushes_one {x} {r} {last} e a =
       let k = settled_one e in
       let d = filled_of s (named_of (clock_at was c) h.id) (with_sample was c.len x) in
@@ -125,6 +124,6 @@ module _ (s : Settings) (was : List Float) (c : ClockNumbers) (h : Heard) where
       }
 
   -- what callers get of `offset_after` and `push` together: their numbers and slots are the clock after the messages
-  pub pushed_clock : {o : Offset} {r : ℕ} {last : List Float} → o ≡ (settled_of s (clock_at was c) h).offset → Pushes s was c h r last
+  pub pushed_clock : {o : Option Float} {r : ℕ} {last : List Float} → o ≡ (settled_of s (clock_at was c) h).offset → Pushes s was c h r last
       → clock_at last (settled_numbers c o r h.id) ≡ settled_of s (clock_at was c) h
-  pushed_clock {r = r} {last = last} e p = ap (λ (q : Offset). clock_at last (settled_numbers c q r h.id)) e ∙ p.clock
+  pushed_clock {r = r} {last = last} e p = ap (λ (q : Option Float). clock_at last (settled_numbers c q r h.id)) e ∙ p.clock

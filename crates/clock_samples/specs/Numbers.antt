@@ -1,11 +1,9 @@
 -- Document 01, "src/clocksync.rs", over samples that are lent: the clock that samples and numbers are, and what the slots hold after a sample was stored, as
 -- crate `clocksync` defines it. Definitions only. Assumes nothing.
-use Rattle.std.specs.Prelude.{ℕ, ◌+◌, ◌≤◌, min, ◌≡◌, cond, List, [], ◌∷◌, ◌++◌, ltb, length, take, drop, Float}
+use Rattle.std.specs.Prelude.{ℕ, ◌+◌, ◌≤◌, min, ◌≡◌, cond, List, [], ◌∷◌, ◌++◌, ltb, length, take, drop, Float, Option}
 use Rattle.refusals.specs.Limits.{sample_room, most_samples}
 use Rattle.settings.specs.declared.Settings.{Settings}
 use Rattle.settings.specs.Settings.{samples_to_store_of}
-use Rattle.clocksync.specs.declared.Offset.{Offset}
-use Rattle.clocksync.specs.declared.ClientId.{ClientId}
 use Rattle.clocksync.specs.declared.Clock.{Clock}
 use Rattle.clocksync.specs.declared.Ticked.{Ticked}
 use Rattle.clocksync.specs.declared.Heard.{Heard}
@@ -24,7 +22,7 @@ abbrev pub ticked_at : List Float → TickedNumbers → Ticked
 ticked_at samples t = record { clock = clock_at samples t.clock; request = t.request }
 
 -- the numbers after what the clock messages told: the timer stays
-abbrev pub settled_numbers : ClockNumbers → Offset → ℕ → ClientId → ClockNumbers
+abbrev pub settled_numbers : ClockNumbers → Option Float → ℕ → Option ℕ → ClockNumbers
 settled_numbers c o n i = record { offset = o; len = n; timer = c.timer; id = i }
 
 -- ---- one sample more

@@ -8,20 +8,20 @@ ghost use Rattle.mean.specs.Mean.{samples_ok};
 ghost use Rattle.clocksync.specs.Clock.{ticked_of, added_of, settled_of, sound_clock};
 ghost use Rattle.clock_samples.specs.Numbers.{clock_at, ticked_at, settled_numbers, Slots, Moved, Blanked, Adds, Pushes};
 
-use clocksync::{ClientId, Heard, Offset};
+use clocksync::Heard;
 use settings::Settings;
 
 // All of a clock but its samples.
 #[derive(Clone, Copy)]
 pub struct ClockNumbers {
-    // server_seconds_offset
-    pub offset: Offset,
+    // server_seconds_offset, or none yet
+    pub offset: Option<f64>,
     // how many samples there are
     pub len: usize,
     // seconds_since_last_request_sent
     pub timer: f64,
-    // client_id
-    pub id: ClientId,
+    // client_id, or none yet
+    pub id: Option<u32>,
 }
 
 // The numbers of a clock whose timer was moved on, and whether a request goes out.
@@ -49,11 +49,7 @@ pub fn sound(samples: &[f64], c: ClockNumbers, settings: Settings) -> bool
     if !clocksync::timer_sound(c.timer) {
         return false;
     }
-    let offset = c.offset;
-    match offset {
-        Offset::NoOffset => true,
-        Offset::Seconds(x) => mean::sample_sound(x),
-    }
+    c.offset.is_none_or(mean::sample_sound)
 }
 
 // Moves the request timer on by delta. A request goes out where it is then above the period, and the timer starts anew.
@@ -75,16 +71,18 @@ pub fn tick(c: ClockNumbers, settings: Settings, delta: f64) -> TickedNumbers
 }
 
 // The offset after all clock messages of an inbox. No sample is written: `push` does that, once the update is not refused.
-pub fn offset_after(samples: &[f64], c: ClockNumbers, settings: Settings, heard: Heard) -> Offset
+pub fn offset_after(
+    samples: &[f64],
+    c: ClockNumbers,
+    settings: Settings,
+    heard: Heard,
+) -> Option<f64>
     requires { length samples.now ≡ sample_room }
     ensures { result ≡ (settled_of settings (clock_at samples.now c) heard).offset }
 {
-    let last = heard.offset;
-    let old = c.offset;
-    let id = heard.id;
-    match last {
-        Offset::NoOffset => old,
-        Offset::Seconds(x) => offset_with(samples, settled(c, old, c.len, id), settings, x),
+    match heard.offset {
+        None => c.offset,
+        Some(x) => offset_with(samples, settled(c, c.offset, c.len, heard.id), settings, x),
     }
 }
 
@@ -93,15 +91,14 @@ pub fn push(samples: &mut [f64], c: ClockNumbers, settings: Settings, heard: Hea
     requires { length samples.old ≡ sample_room }
     ensures { Pushes settings samples.old c heard result samples.new }
 {
-    let last = heard.offset;
-    match last {
-        Offset::NoOffset => c.len,
-        Offset::Seconds(x) => add(samples, c.len, settings, x),
+    match heard.offset {
+        None => c.len,
+        Some(x) => add(samples, c.len, settings, x),
     }
 }
 
 // The numbers of a clock after all clock messages of an inbox: its timer stays.
-pub fn settled(c: ClockNumbers, offset: Offset, len: usize, id: ClientId) -> ClockNumbers
+pub fn settled(c: ClockNumbers, offset: Option<f64>, len: usize, id: Option<u32>) -> ClockNumbers
     ensures { result ≡ settled_numbers c offset len id }
 {
     ClockNumbers {
@@ -121,20 +118,19 @@ fn all_sound(samples: &[f64], n: usize) -> bool
 }
 
 // The offset after one sample more. Only where the samples to store are together are they copied, for their mean.
-fn offset_with(samples: &[f64], c: ClockNumbers, settings: Settings, x: f64) -> Offset
+fn offset_with(samples: &[f64], c: ClockNumbers, settings: Settings, x: f64) -> Option<f64>
     requires { length samples.now ≡ sample_room }
     ensures { result ≡ (added_of settings (clock_at samples.now c) x).offset }
 {
     let n = c.len.min(refusals::MOST_SAMPLES);
     let count = n + 1;
-    let old = c.offset;
     if count < settings.samples_to_store() {
-        return old;
+        return c.offset;
     }
     let mut all = clocksync::laid(&samples[..n]);
     all[n] = x;
     let mean = mean::mean_of(all, count, settings.samples_to_discard());
-    clocksync::synced(old, mean, settings.deviation)
+    clocksync::synced(c.offset, mean, settings.deviation)
 }
 
 // One sample more, the slots after it at 0. With the samples to store together, the oldest goes.

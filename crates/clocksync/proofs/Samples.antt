@@ -11,8 +11,7 @@ use lib.Ieee.{Float}
 use borrow.Author.Tests.{lt-ltb, le-ltb}
 use Rattle.settings.specs.declared.Settings.{Settings}
 use Rattle.settings.specs.Settings.{samples_to_discard_of, samples_to_store_of}
-use Rattle.clocksync.specs.declared.Offset.{Offset}
-use Rattle.clocksync.specs.declared.ClientId.{ClientId}
+use Rattle.std.specs.Prelude.{Option}
 use Rattle.clocksync.specs.declared.Clock.{Clock}
 use Rattle.mean.specs.Mean.{mean_of}
 use Rattle.clocksync.specs.Clock.{laid_out, held_of, offset_after, sampled_of, filled_of, added_of}
@@ -21,7 +20,7 @@ use Rattle.clocksync.proofs.Lists.{laid_push, take-laid}
 -- ---- one sample more
 
 -- clocks are equal by their parts
-same_clock : {o p : Offset} {xs ys : List Float} {m n : ℕ} (t : Float) (i : ClientId) → o ≡ p → xs ≡ ys → m ≡ n
+same_clock : {o p : Option Float} {xs ys : List Float} {m n : ℕ} (t : Float) (i : Option ℕ) → o ≡ p → xs ≡ ys → m ≡ n
     → ◌≡◌ {A = Clock} (record { offset = o; samples = xs; len = m; timer = t; id = i }) (record { offset = p; samples = ys; len = n; timer = t; id = i })
 same_clock t i a b c = λ k. record { offset = a k; samples = b k; len = c k; timer = t; id = i }
 
@@ -60,7 +59,7 @@ module _ (s : Settings) (c : Clock) (x : Float) {n : ℕ} {laid : List Float} (f
   all_back = ap (take (n + 1)) all_is ∙ ap (λ (k : ℕ). take k (laid_out (held_of c ++ (x ∷ [])))) (sym all_length) ∙ take-laid (held_of c ++ (x ∷ []))
 
   -- as many as are stored
-  pub added_full : {store discard : ℕ} {mean : Float} {offset : Offset} {rest : List Float} → store ≡ samples_to_store_of s → store ≤ n + 1
+  pub added_full : {store discard : ℕ} {mean : Float} {offset : Option Float} {rest : List Float} → store ≡ samples_to_store_of s → store ≤ n + 1
       → discard ≡ samples_to_discard_of s → mean ≡ mean_of discard (take (n + 1) (set laid n x)) → offset ≡ offset_after c.offset mean s.deviation
       → rest ≡ laid_out (slice 1 (n + 1) (set laid n x)) → ◌≡◌ {A = Clock}
       (record { offset = offset; samples = rest; len = n; timer = c.timer; id = c.id }) (added_of s c x)

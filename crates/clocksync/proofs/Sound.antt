@@ -28,8 +28,7 @@ use Rattle.mean.specs.Mean.{sample_inserted, sorted_onto, sorted_of, inner_of, s
 use Rattle.clocksync.specs.Clock.{held_of, new_of, timed_of, ticked_of, deviates_of, offset_after, sampled_of, filled_of, added_of, named_of, sample_of}
 use Rattle.clocksync.specs.Clock.{settled_of}
 use Rattle.clocksync.specs.Clock.{timer_ok, offset_ok, sound_clock}
-use Rattle.clocksync.specs.declared.Offset.{Offset}
-use Rattle.clocksync.specs.declared.Offset.TheVariants.{NoOffset, Seconds}
+use Rattle.std.specs.Prelude.{Option, Some, None}
 use Rattle.clocksync.specs.declared.Clock.{Clock}
 use Rattle.clocksync.specs.declared.Ticked.{Ticked}
 use Rattle.clocksync.specs.declared.Heard.{Heard}
@@ -125,11 +124,11 @@ mean_of_within d xs h k a =
 
 -- ---- the offset
 
-synced_ok : (o : Offset) (mean deviation : Float) → offset_ok o ≡ true → sample_ok mean ≡ true → offset_ok (offset_after o mean deviation) ≡ true
-synced_ok NoOffset mean deviation h k = k
-synced_ok (Seconds x) mean deviation h k = go (deviates_of mean x deviation)
+synced_ok : (o : Option Float) (mean deviation : Float) → offset_ok o ≡ true → sample_ok mean ≡ true → offset_ok (offset_after o mean deviation) ≡ true
+synced_ok None mean deviation h k = k
+synced_ok (Some x) mean deviation h k = go (deviates_of mean x deviation)
   where
-    go : (b : Bool) → offset_ok (cond b (Seconds mean) (Seconds x)) ≡ true
+    go : (b : Bool) → offset_ok (cond b (Some mean) (Some x)) ≡ true
     go true = k
     go false = h
 
@@ -246,7 +245,8 @@ module _ (s : Settings) (pass : passes_of s ≡ true) (c : Clock) (full : length
   unfolding all
   all_length = length-append (held_of c) (x ∷ []) ∙ omega (arith, ap length held_is, length-take c.len c.samples, full, p.held)
 
-  laid_parts : (o : Offset) (ys : List Float) → length ys < samples_to_store_of s → offset_ok o ≡ true → AllWithin (2 ^ 33) ys → Parts s (sampled_of c o ys)
+  laid_parts : (o : Option Float) (ys : List Float) → length ys < samples_to_store_of s → offset_ok o ≡ true → AllWithin (2 ^ 33) ys
+      → Parts s (sampled_of c o ys)
   laid_parts o ys h k w = record {
     fewer = h;
     held = omega (arith, h, (store_few s pass).1);
@@ -283,9 +283,9 @@ settled_parts : (s : Settings) (c : Clock) (h : Heard) → passes_of s ≡ true 
 unfolding settled_of
 settled_parts s c h pass full p k = go h.offset k
   where
-    go : (o : Offset) → offset_ok o ≡ true → Parts s (sample_of s (named_of c h.id) o)
-    go NoOffset k = named_parts s c h p
-    go (Seconds x) k = added_parts s pass (named_of c h.id) full (named_parts s c h p) x k
+    go : (o : Option Float) → offset_ok o ≡ true → Parts s (sample_of s (named_of c h.id) o)
+    go None k = named_parts s c h p
+    go (Some x) k = added_parts s pass (named_of c h.id) full (named_parts s c h p) x k
 
 -- a sample leaves the timer, and so does what is settled
 filled_timer : (s : Settings) (c : Clock) (xs : List Float) → (filled_of s c xs).timer ≡ c.timer
@@ -301,9 +301,9 @@ settled_timer : (s : Settings) (c : Clock) (h : Heard) → (settled_of s c h).ti
 unfolding settled_of
 settled_timer s c h = go h.offset
   where
-    go : (o : Offset) → (sample_of s (named_of c h.id) o).timer ≡ c.timer
-    go NoOffset = refl
-    go (Seconds x) = filled_timer s (named_of c h.id) (held_of (named_of c h.id) ++ (x ∷ []))
+    go : (o : Option Float) → (sample_of s (named_of c h.id) o).timer ≡ c.timer
+    go None = refl
+    go (Some x) = filled_timer s (named_of c h.id) (held_of (named_of c h.id) ++ (x ∷ []))
 
 -- ---- the laws
 

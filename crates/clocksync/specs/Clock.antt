@@ -1,6 +1,7 @@
 -- Document 01, "src/clocksync.rs", and from "Sound" what it says of the clock: the request timer, the clock messages of an inbox, and the one sample that an
 -- update takes from the last of them. Definitions only. Assumes nothing.
 use Rattle.std.specs.Prelude.{ℕ, ◌-◌, min, Bool, true, false, cond, not, ◌&&◌, ◌||◌, List, [], ◌∷◌, ◌++◌, leb, ltb, eqb, length, take, drop, replicate, Float}
+use Rattle.std.specs.Prelude.{Option, Some, None, is_some}
 use Rattle.std.specs.Float.{binary64}
 use Rattle.std.specs.Float.Ieee.{lt, le, add, sub}
 use Rattle.std.specs.Float.Ieee.Scale.{finite}
@@ -10,12 +11,6 @@ use Rattle.settings.specs.Settings.{samples_to_discard_of, samples_to_store_of}
 use Rattle.timestamp.specs.Floats.{hour64, zero64, abs_of, sample_ok}
 use Rattle.clocksync.specs.Offset.{offset_of}
 use Rattle.mean.specs.Mean.{mean_of, samples_ok}
-use Rattle.clocksync.specs.declared.Offset.{Offset}
-use Rattle.clocksync.specs.declared.Offset.TheVariants.{NoOffset, Seconds}
-use Rattle.clocksync.specs.declared.ClientId.{ClientId}
-use Rattle.clocksync.specs.declared.ClientId.TheVariants.{NoId, Id}
-use Rattle.clocksync.specs.declared.ServerTime.{ServerTime}
-use Rattle.clocksync.specs.declared.ServerTime.TheVariants.{NoTime, At}
 use Rattle.clocksync.specs.declared.Clock.{Clock}
 use Rattle.clocksync.specs.declared.Ticked.{Ticked}
 use Rattle.clocksync.specs.declared.Heard.{Heard}
@@ -32,7 +27,7 @@ held_of c = take (min c.len most_samples) c.samples
 
 -- a clock that has heard nothing
 unfoldable pub new_of : Clock
-new_of = record { offset = NoOffset; samples = laid_out []; len = 0; timer = zero64; id = NoId }
+new_of = record { offset = None; samples = laid_out []; len = 0; timer = zero64; id = None }
 
 -- ---- the timer
 
@@ -50,22 +45,22 @@ ticked_of c period delta =
 
 -- what is known before the first message of an inbox
 abbrev pub listen_of : Clock → Heard
-listen_of c = record { id = c.id; offset = NoOffset; other = false }
+listen_of c = record { id = c.id; offset = None; other = false }
 
 -- a message's number is another than the client's
-abbrev pub other_of : ClientId → ℕ → Bool
-other_of NoId n = false
-other_of (Id m) n = not (eqb m n)
+abbrev pub other_of : Option ℕ → ℕ → Bool
+other_of None n = false
+other_of (Some m) n = not (eqb m n)
 
 -- the client's number after a message: the first that came
-abbrev pub first_of : ClientId → ℕ → ClientId
-first_of NoId n = Id n
-first_of (Id m) n = Id m
+abbrev pub first_of : Option ℕ → ℕ → Option ℕ
+first_of None n = Some n
+first_of (Some m) n = Some m
 
 -- what is known after one message more, received at `seconds`: its offset is the latest
 unfoldable pub heard_of : Float → Heard → ℕ → Float → Float → Heard
 heard_of seconds h number send server =
-    record { id = first_of h.id number; offset = Seconds (offset_of send server seconds); other = h.other || other_of h.id number }
+    record { id = first_of h.id number; offset = Some (offset_of send server seconds); other = h.other || other_of h.id number }
 
 -- ---- one sample more
 
@@ -74,12 +69,12 @@ unfoldable pub deviates_of : Float → Float → Float → Bool
 deviates_of mean offset deviation = lt deviation (abs_of (sub binary64 mean offset))
 
 -- the offset after a mean was taken: the mean at the initial sync and where it deviates, else the old one
-abbrev pub offset_after : Offset → Float → Float → Offset
-offset_after NoOffset mean deviation = Seconds mean
-offset_after (Seconds x) mean deviation = cond (deviates_of mean x deviation) (Seconds mean) (Seconds x)
+abbrev pub offset_after : Option Float → Float → Float → Option Float
+offset_after None mean deviation = Some mean
+offset_after (Some x) mean deviation = cond (deviates_of mean x deviation) (Some mean) (Some x)
 
 -- the clock with the samples xs and an offset
-abbrev pub sampled_of : Clock → Offset → List Float → Clock
+abbrev pub sampled_of : Clock → Option Float → List Float → Clock
 sampled_of c o xs = record { offset = o; samples = laid_out xs; len = length xs; timer = c.timer; id = c.id }
 
 -- the clock whose samples have become xs: fewer than are stored stay; else their mean is taken and the oldest goes
@@ -94,13 +89,13 @@ abbrev pub added_of : Settings → Clock → Float → Clock
 added_of s c x = filled_of s c (held_of c ++ (x ∷ []))
 
 -- the clock with another client number
-abbrev pub named_of : Clock → ClientId → Clock
+abbrev pub named_of : Clock → Option ℕ → Clock
 named_of c i = record { offset = c.offset; samples = c.samples; len = c.len; timer = c.timer; id = i }
 
 -- the clock after one sample more, if there is one
-abbrev pub sample_of : Settings → Clock → Offset → Clock
-sample_of s c NoOffset = c
-sample_of s c (Seconds x) = added_of s c x
+abbrev pub sample_of : Settings → Clock → Option Float → Clock
+sample_of s c None = c
+sample_of s c (Some x) = added_of s c x
 
 -- the clock after what the clock messages told
 unfoldable pub settled_of : Settings → Clock → Heard → Clock
@@ -109,15 +104,13 @@ settled_of s c h = sample_of s (named_of c h.id) h.offset
 -- ---- what an update reads off the clock
 
 -- the server's time at a time of the client
-abbrev pub server_seconds_of : Offset → Float → ServerTime
-server_seconds_of NoOffset seconds = NoTime
-server_seconds_of (Seconds x) seconds = At (add binary64 seconds x)
+abbrev pub server_seconds_of : Option Float → Float → Option Float
+server_seconds_of None seconds = None
+server_seconds_of (Some x) seconds = Some (add binary64 seconds x)
 
 -- there is an offset, and the client's number is known
-abbrev pub both_of : Offset → ClientId → Bool
-both_of NoOffset i = false
-both_of (Seconds x) NoId = false
-both_of (Seconds x) (Id n) = true
+abbrev pub both_of : Option Float → Option ℕ → Bool
+both_of o i = is_some o && is_some i
 
 -- the clock is synced
 abbrev pub ready_of : Clock → Bool
@@ -130,9 +123,9 @@ unfoldable pub timer_ok : Float → Bool
 timer_ok t = finite t && le t hour64
 
 -- an offset, if there is one, is finite and within 2^33
-abbrev pub offset_ok : Offset → Bool
-offset_ok NoOffset = true
-offset_ok (Seconds x) = sample_ok x
+abbrev pub offset_ok : Option Float → Bool
+offset_ok None = true
+offset_ok (Some x) = sample_ok x
 
 -- samples fewer than stored, and no more than a clock can hold, and within 2^33; request timer finite and at most 3,600; offset within 2^33
 unfoldable pub sound_clock : Settings → Clock → Bool

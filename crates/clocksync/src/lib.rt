@@ -11,40 +11,19 @@ ghost use Rattle.refusals.specs.Limits.{sample_room};
 
 use settings::Settings;
 
-// The offset from the client's to the server's clock in seconds, or none yet.
-#[derive(Clone, Copy)]
-pub enum Offset {
-    NoOffset,
-    Seconds(f64),
-}
-
-// The number that the server gave this client, or none yet.
-#[derive(Clone, Copy)]
-pub enum ClientId {
-    NoId,
-    Id(u32),
-}
-
-// The server's time, or none before the clock is synced.
-#[derive(Clone, Copy)]
-pub enum ServerTime {
-    NoTime,
-    At(f64),
-}
-
 // The clock's state.
 #[derive(Clone, Copy)]
 pub struct Clock {
-    // server_seconds_offset
-    pub offset: Offset,
+    // server_seconds_offset: from the client's to the server's clock in seconds, or none yet
+    pub offset: Option<f64>,
     // server_seconds_offset_samples, oldest first
     pub samples: [f64; 64],
     // how many samples there are
     pub len: usize,
     // seconds_since_last_request_sent
     pub timer: f64,
-    // client_id
-    pub id: ClientId,
+    // client_id: the number that the server gave this client, or none yet
+    pub id: Option<u32>,
 }
 
 // A clock whose timer was moved on, and whether a request goes out.
@@ -58,8 +37,8 @@ pub struct Ticked {
 // another client.
 #[derive(Clone, Copy)]
 pub struct Heard {
-    pub id: ClientId,
-    pub offset: Offset,
+    pub id: Option<u32>,
+    pub offset: Option<f64>,
     pub other: bool,
 }
 
@@ -69,11 +48,11 @@ impl Clock {
         ensures { result ≡ new_of }
     {
         Clock {
-            offset: Offset::NoOffset,
+            offset: None,
             samples: [0.0; 64],
             len: 0,
             timer: 0.0,
-            id: ClientId::NoId,
+            id: None,
         }
     }
 
@@ -99,10 +78,9 @@ impl Clock {
     pub fn listen(self) -> Heard
         ensures { result ≡ listen_of self }
     {
-        let id = self.id;
         Heard {
-            id,
-            offset: Offset::NoOffset,
+            id: self.id,
+            offset: None,
             other: false,
         }
     }
@@ -111,20 +89,13 @@ impl Clock {
     pub fn settle(self, settings: Settings, heard: Heard) -> Clock
         ensures { result ≡ settled_of settings self heard }
     {
-        let id = heard.id;
-        let offset = self.offset;
-        let samples = self.samples;
         let clock = Clock {
-            offset,
-            samples,
-            len: self.len,
-            timer: self.timer,
-            id,
+            id: heard.id,
+            ..self
         };
-        let last = heard.offset;
-        match last {
-            Offset::NoOffset => clock,
-            Offset::Seconds(x) => clock.add_sample(settings, x),
+        match heard.offset {
+            None => clock,
+            Some(x) => clock.add_sample(settings, x),
         }
     }
 
@@ -137,54 +108,34 @@ impl Clock {
         let mut all = laid(&self.samples[..n]);
         all[n] = x;
         let count = n + 1;
-        let old = self.offset;
-        let timer = self.timer;
-        let id = self.id;
         if count < settings.samples_to_store() {
             return Clock {
-                offset: old,
                 samples: all,
                 len: count,
-                timer,
-                id,
+                ..self
             };
         }
         let mean = mean::mean_of(all, count, settings.samples_to_discard());
-        let offset = synced(old, mean, settings.deviation);
-        let rest = laid(&all[1..count]);
         Clock {
-            offset,
-            samples: rest,
+            offset: synced(self.offset, mean, settings.deviation),
+            samples: laid(&all[1..count]),
             len: n,
-            timer,
-            id,
+            ..self
         }
     }
 
-    // The server's time at a time of this client.
-    pub fn server_seconds(self, seconds: f64) -> ServerTime
+    // The server's time at a time of this client, or none before the clock is synced.
+    pub fn server_seconds(self, seconds: f64) -> Option<f64>
         ensures { result ≡ server_seconds_of self.offset seconds }
     {
-        let offset = self.offset;
-        match offset {
-            Offset::NoOffset => ServerTime::NoTime,
-            Offset::Seconds(x) => ServerTime::At(seconds + x),
-        }
+        self.offset.map(|x| seconds + x)
     }
 
     // Whether there is an offset and the client's number is known.
     pub fn is_ready(self) -> bool
         ensures { result ≡ ready_of self }
     {
-        let offset = self.offset;
-        let id = self.id;
-        match offset {
-            Offset::NoOffset => false,
-            Offset::Seconds(_) => match id {
-                ClientId::NoId => false,
-                ClientId::Id(_) => true,
-            },
-        }
+        self.offset.is_some() && self.id.is_some()
     }
 
     // Whether the clock is as calls leave it: fewer samples than are stored, samples and offset within 2^33, and the timer finite and at
@@ -206,11 +157,7 @@ impl Clock {
         if !timer_sound(self.timer) {
             return false;
         }
-        let offset = self.offset;
-        match offset {
-            Offset::NoOffset => true,
-            Offset::Seconds(x) => mean::sample_sound(x),
-        }
+        self.offset.is_none_or(mean::sample_sound)
     }
 }
 
@@ -219,39 +166,26 @@ impl Heard {
     pub fn hear(self, id: u32, send: f64, server: f64, seconds: f64) -> Heard
         ensures { result ≡ heard_of seconds self id send server }
     {
-        let known = self.id;
-        let first = first_id(known, id);
-        let other = met_other(self.other, known, id);
-        let offset = Offset::Seconds(measured_offset(send, server, seconds));
         Heard {
-            id: first,
-            offset,
-            other,
+            id: first_id(self.id, id),
+            offset: Some(measured_offset(send, server, seconds)),
+            other: met_other(self.other, self.id, id),
         }
     }
 }
 
 // The client's number after a message: the first that came.
-fn first_id(known: ClientId, id: u32) -> ClientId
+fn first_id(known: Option<u32>, id: u32) -> Option<u32>
     ensures { result ≡ first_of known id }
 {
-    match known {
-        ClientId::NoId => ClientId::Id(id),
-        ClientId::Id(_) => known,
-    }
+    known.or(Some(id))
 }
 
 // Whether this message's number, or one before it, is another than the client's.
-fn met_other(was: bool, known: ClientId, id: u32) -> bool
+fn met_other(was: bool, known: Option<u32>, id: u32) -> bool
     ensures { result ≡ was || other_of known id }
 {
-    if was {
-        return true;
-    }
-    match known {
-        ClientId::NoId => false,
-        ClientId::Id(n) => n != id,
-    }
+    was || known.is_some_and(|n| n != id)
 }
 
 // The offset that a clock message measures: the server's time less the middle of the client's two times.
@@ -279,18 +213,12 @@ fn deviates(mean: f64, offset: f64, deviation: f64) -> bool
 }
 
 // The offset after a mean was taken.
-pub fn synced(old: Offset, mean: f64, deviation: f64) -> Offset
+pub fn synced(old: Option<f64>, mean: f64, deviation: f64) -> Option<f64>
     ensures { result ≡ offset_after old mean deviation }
 {
     match old {
-        Offset::NoOffset => Offset::Seconds(mean),
-        Offset::Seconds(x) => {
-            if deviates(mean, x, deviation) {
-                Offset::Seconds(mean)
-            } else {
-                old
-            }
-        }
+        Some(x) if !deviates(mean, x, deviation) => old,
+        _ => Some(mean),
     }
 }
 

@@ -5,8 +5,8 @@ use mathlib.Core.Path.{◌≡◌, refl}
 use Prim.Native.Nat.{◌<◌}
 use lib.Dec.{eqb}
 use Rattle.client.specs.declared.ClientWorldSimulations.{ClientWorldSimulations}
-use Rattle.client.specs.declared.Queued.{Queued}
-use Rattle.client.specs.declared.Queued.TheVariants.{Nothing, Held}
+use Rattle.client.specs.declared.QueuedSnapshot.{QueuedSnapshot}
+use Rattle.std.specs.Prelude.{Option, Some, None}
 use Rattle.client.specs.Sides.{new_side_of, old_side_of, world_of, old_stamp_of, new_stamp_of}
 use Rattle.session_laws.proofs.TraceFrames.{QueuedFits, Fitting}
 use Rattle.session_state.specs.declared.Session.{Session}
@@ -30,9 +30,9 @@ lawful s (k ∷ cs) a = (one_call s k a.0, lawful (session_of k) cs a.1)
 
 -- ---- what the types say
 
-queued_fits : (q : Queued) → Stamp q → QueuedFits q
-queued_fits Nothing h = tt
-queued_fits (Held t n) h = h
+queued_fits : (q : Option QueuedSnapshot) → Stamp q → QueuedFits q
+queued_fits None h = tt
+queued_fits (Some q) h = h
 
 below_by : (b : Bool) (w : ClientWorldSimulations) → eqb w.new 0 ≡ b → w.left.commands.timestamp.0 < 65536
     → w.right.commands.timestamp.0 < 65536 → ((old_stamp_of w).0 < 65536) × ((new_stamp_of w).0 < 65536)

@@ -10,9 +10,10 @@ use denote.RattleType.{Valss}
 use denote.Signature.{types_at}
 use denote.Floats.{passes}
 use denote.Laws.{Ises, Are, Is}
-use Rattle.client.specs.contracts.Queued as queued-row
-use Rattle.client.specs.declared.Queued.{Queued}
-use Rattle.client.specs.declared.Queued.TheVariants.{Nothing, Held}
+use Rattle.std.specs.contracts.option.Option as option-row
+use Rattle.client.specs.contracts.QueuedSnapshot as snapshot-row
+use Rattle.client.specs.declared.QueuedSnapshot.{QueuedSnapshot}
+use Rattle.std.specs.Prelude.{Option, Some, None}
 use Rattle.session.specs.contracts.calls.update as update
 use Rattle.session.proofs.calls.update.Kinds as update-kinds
 use Rattle.session.proofs.calls.update.Reads as update-reads
@@ -38,9 +39,9 @@ issue_answers κs a r e h = h
 
 -- ---- the types
 
-queued_typed : (q : Queued) (vs : List Val) → Is queued-row.the_row q vs → Stamp q
-queued_typed Nothing vs p = tt
-queued_typed (Held t h) vs p = p.1.1.1.1.0.1.1.0.1
+queued_typed : (q : Option QueuedSnapshot) (vs : List Val) → Is (option-row.the_row snapshot-row.the_row) q vs → Stamp q
+queued_typed None vs p = tt
+queued_typed (Some q) vs p = p.1.1.1.1.0.1.1.0.1.1.0.1
 
 -- whoever owns update's parameters, as the check reads them, has a session of its types; the other calls take the same struct
 pub update_typed : (κs : Lfts 2) (a : ArgsD update.signature κs) (vss : Valss (types_at (update.signature).params κs)) →

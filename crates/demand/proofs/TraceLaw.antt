@@ -8,8 +8,8 @@ use lib.ListN.{length}
 use mathlib.Core.Bool.{cond}
 use Rattle.timestamp.specs.declared.Timestamp.{Timestamp}
 use Rattle.tape.specs.Words.{steps_on}
-use Rattle.client.specs.declared.Queued.{Queued}
-use Rattle.client.specs.declared.Queued.TheVariants.{Nothing, Held}
+use Rattle.client.specs.declared.QueuedSnapshot.{QueuedSnapshot}
+use Rattle.std.specs.Prelude.{Option, Some, None}
 use Rattle.client.specs.declared.Scene.{Scene}
 use Rattle.client.specs.Sides.{old_stamp_of, new_stamp_of}
 use Rattle.client_frame.specs.declared.Rules.{Rules}
@@ -81,13 +81,13 @@ trace_most m b (SkipFrom s t ∷ es) l = trace_most m (lag_skipped s t) es l
 
 -- ---- where the catching up starts
 
-gap_none : (q : Queued) (o : Timestamp) (b : ℕ) → load_by q o ≡ NoLoad → gap_by q o.0 b ≡ b
-gap_none Nothing o b e = refl
-gap_none (Held t h) o b e = absurd (let z : ◌≡◌ {A = ℕ} 0 1 = cc in omega arith)
+gap_none : (q : Option QueuedSnapshot) (o : Timestamp) (b : ℕ) → load_by q o ≡ NoLoad → gap_by q o.0 b ≡ b
+gap_none None o b e = refl
+gap_none (Some q) o b e = absurd (let z : ◌≡◌ {A = ℕ} 0 1 = cc in omega arith)
 
-gap_loaded : (q : Queued) (o : Timestamp) (b g : ℕ) → load_by q o ≡ Loaded g → gap_by q o.0 b ≡ g
-gap_loaded Nothing o b g e = absurd (let z : ◌≡◌ {A = ℕ} 0 1 = cc in omega arith)
-gap_loaded (Held t h) o b g e = lag_is o.0 t.0 ∙ ap gap_in e
+gap_loaded : (q : Option QueuedSnapshot) (o : Timestamp) (b g : ℕ) → load_by q o ≡ Loaded g → gap_by q o.0 b ≡ g
+gap_loaded None o b g e = absurd (let z : ◌≡◌ {A = ℕ} 0 1 = cc in omega arith)
+gap_loaded (Some q) o b g e = lag_is o.0 q.stamp.0 ∙ ap gap_in e
   where
     gap_in : Loading → ℕ
     gap_in NoLoad = 0

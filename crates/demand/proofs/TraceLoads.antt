@@ -17,8 +17,8 @@ use Rattle.simulation.specs.World.{next_stamp, step_of, resets_back, kept_of, fl
 use Rattle.client.specs.declared.FastforwardingHealth.TheVariants.{Healthy, Obsolete, Overshot}
 use Rattle.client.specs.declared.ReconciliationStatus.{ReconciliationStatus}
 use Rattle.client.specs.declared.ReconciliationStatus.TheVariants.{AwaitingSnapshot, Fastforwarding, Blending}
-use Rattle.client.specs.declared.Queued.{Queued}
-use Rattle.client.specs.declared.Queued.TheVariants.{Nothing, Held}
+use Rattle.client.specs.declared.QueuedSnapshot.{QueuedSnapshot}
+use Rattle.std.specs.Prelude.{Option, Some, None}
 use Rattle.client.specs.declared.Scene.{Scene}
 use Rattle.client.specs.Sides.{new_side_of, old_side_of, world_of, old_stamp_of, and_then, done_at}
 use Rattle.client.specs.Status.{status_of}
@@ -121,12 +121,12 @@ at_most =
 
 -- ---- the load of a frame
 
-loaded_once : (s : Scene) (q : Queued) (x : ℕ) (o : Timestamp) → snapshot_words (loaded_queued s q x).words ≡ count_load (load_by q o)
+loaded_once : (s : Scene) (q : Option QueuedSnapshot) (x : ℕ) (o : Timestamp) → snapshot_words (loaded_queued s q x).words ≡ count_load (load_by q o)
 unfolding loaded_queued
-loaded_once s Nothing x o = loads_none
-loaded_once s (Held t h) x o = loaded_one s x t h
+loaded_once s None x o = loads_none
+loaded_once s (Some q) x o = loaded_one s x q.stamp q.handle
 
-opened_once : (t : ReconciliationStatus) (q : Queued) (p : Float) (s : Scene) (o : Timestamp)
+opened_once : (t : ReconciliationStatus) (q : Option QueuedSnapshot) (p : Float) (s : Scene) (o : Timestamp)
     → snapshot_words (opened_of t (loads_of t q) p s).words ≡ count_load (load_by (loads_of t q) o)
 unfolding opened_of reset_new done_at
 opened_once AwaitingSnapshot q p s o = loaded_once s q (old_side_of s.worlds) o

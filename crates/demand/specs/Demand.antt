@@ -1,14 +1,13 @@
 -- Demand 3: one statement about any list of updates and issues, from any sound session whose worlds exist. Document 01, "src/client.rs" and
 -- "Contracts and cases". Definitions only. Assumes nothing.
-use Rattle.std.specs.Prelude.{true, cond, List, [], ◌∷◌, ◌++◌, ◌≡◌, ℕ, ◌+◌, ◌-◌, ◌*◌, ◌%◌, ◌<◌, ◌≤◌, eqb, length, replicate}
+use Rattle.std.specs.Prelude.{true, cond, List, [], ◌∷◌, ◌++◌, ◌≡◌, ℕ, ◌+◌, ◌-◌, ◌*◌, ◌%◌, ◌<◌, ◌≤◌, eqb, length, replicate, Option, Some, None}
 use Rattle.timestamp.specs.declared.Timestamp.{Timestamp}
 use Rattle.timestamp.specs.Timestamps.{difference_of}
 use Rattle.tape.specs.Words.{steps_on}
 use Rattle.command.specs.Buffer.{held}
 use Rattle.settings.specs.declared.Settings.{Settings}
 use Rattle.client.specs.declared.ClientWorldSimulations.{ClientWorldSimulations}
-use Rattle.client.specs.declared.Queued.{Queued}
-use Rattle.client.specs.declared.Queued.TheVariants.{Nothing, Held}
+use Rattle.client.specs.declared.QueuedSnapshot.{QueuedSnapshot}
 use Rattle.client.specs.declared.Scene.{Scene}
 use Rattle.client.specs.Sides.{old_side_of, new_side_of, world_of, old_stamp_of, new_stamp_of}
 use Rattle.client_frame.specs.declared.Rules.{Rules}
@@ -51,9 +50,9 @@ pub data Loading : Type 0 where
   Loaded : (g : ℕ) → Loading
 
 -- the load of a queued snapshot
-abbrev pub load_by : Queued → Timestamp → Loading
-load_by Nothing o = NoLoad
-load_by (Held t h) o = Loaded (difference_of o.0 t.0)
+abbrev pub load_by : Option QueuedSnapshot → Timestamp → Loading
+load_by None o = NoLoad
+load_by (Some q) o = Loaded (difference_of o.0 q.stamp.0)
 
 -- the load of a frame
 abbrev pub load_in : Scene → Loading
@@ -215,9 +214,9 @@ AllSound [] = Unit {0}
 AllSound (c ∷ cs) = (sound_of (session_of c) ≡ true) × AllSound cs
 
 -- what the types say of a snapshot that is queued: its stamp has 16 bits
-abbrev pub Stamp : Queued → Type 0
-Stamp Nothing = Unit {0}
-Stamp (Held t h) = t.0 < 65536
+abbrev pub Stamp : Option QueuedSnapshot → Type 0
+Stamp None = Unit {0}
+Stamp (Some q) = q.stamp.0 < 65536
 
 -- of what the types say of a session, what the theorem needs, and no more: its floats and its clock's slots (`FloatsFit`), and that stamps have 16 bits
 pub record Typed (s : Session) : Type 0 where

@@ -10,8 +10,7 @@ use Rattle.timestamp.specs.declared.Timestamp.{Timestamp}
 use Rattle.timestamp.specs.Timestamps.{difference_of}
 use Rattle.command.specs.Entries.{Entry}
 use Rattle.simulation.specs.World.{next_stamp}
-use Rattle.client.specs.declared.LastStamp.TheVariants.{Never}
-use Rattle.client.specs.declared.DisplayTime.TheVariants.{NotDisplayed}
+use Rattle.std.specs.Prelude.{None}
 use Rattle.client.specs.Sides.{old_stamp_of, Plays}
 use Rattle.client_skip.specs.Skip.{skipped_of}
 use Rattle.client_frame.specs.declared.Rules.{Rules}
@@ -29,7 +28,7 @@ use Rattle.play.proofs.Sound.{skip_lent}
 
 -- some numbers that no frame changes, with this midpoint
 abbrev pub any_fixed : Timestamp → Fixed
-any_fixed t = record { midpoint = t; lastqueued = Never; lastreceived = Never; time = NotDisplayed }
+any_fixed t = record { midpoint = t; lastqueued = None; lastreceived = None; time = None }
 
 -- ---- its parts
 

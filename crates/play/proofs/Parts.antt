@@ -13,7 +13,7 @@ use Rattle.command.specs.Buffer.{rest_of, emptied_of}
 use Rattle.command.proofs.Ledger.{rest_stamp, emptied_stamp}
 use Rattle.simulation.specs.World.{Done, step_of, reset_of, load_of, Load}
 use Rattle.client.specs.Ledgers.{loads}
-use Rattle.client.specs.declared.LastStamp.{LastStamp}
+use Rattle.std.specs.Prelude.{Option}
 use Rattle.client.specs.declared.Scene.{Scene}
 use Rattle.client.specs.Sides.{new_side_of, old_side_of, world_of, with_world, ledger_of, with_ledger, with_weight, with_worlds, old_stamp_of, new_stamp_of}
 use Rattle.client.specs.Sides.{put_of}
@@ -129,7 +129,7 @@ module _ {c : Bool} {k : Fixed} {o n : Half} {b : CommandBuffer} {s : Scene} (h 
   weighed_parts t = record { side = h.side; fixed = h.fixed; old = h.old; new = h.new; base = h.base }
 
   -- another published state
-  state_parts : (l : LastStamp) → Parts c k o n b (with_state s l)
+  state_parts : (l : Option Timestamp) → Parts c k o n b (with_state s l)
   unfolding old_half new_half fixed_of ledger_of new_side_of old_side_of world_of
   state_parts l = record { side = h.side; fixed = h.fixed; old = h.old; new = h.new; base = h.base }
 

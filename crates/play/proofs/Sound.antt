@@ -10,8 +10,7 @@ use Rattle.command.specs.Entries.{Entry}
 use Rattle.command.specs.Buffer.{rest_of}
 use Rattle.command.specs.Soundness.{sound_buffer}
 use Rattle.command.proofs.Soundness.{rest_sound, emptied_sound}
-use Rattle.client.specs.declared.LastStamp.TheVariants.{Never}
-use Rattle.client.specs.declared.DisplayTime.TheVariants.{NotDisplayed}
+use Rattle.std.specs.Prelude.{None}
 use Rattle.client.specs.declared.Scene.{Scene}
 use Rattle.client.specs.Sides.{new_side_of, old_side_of, world_of, Played}
 use Rattle.client_skip.specs.Skip.{skips_back, skipped_of}
@@ -145,7 +144,7 @@ skip_sound s t h =
 
 -- any scene with this midpoint
 abbrev any_fixed : Timestamp → Fixed
-any_fixed t = record { midpoint = t; lastqueued = Never; lastreceived = Never; time = NotDisplayed }
+any_fixed t = record { midpoint = t; lastqueued = None; lastreceived = None; time = None }
 
 module _ {n : Numbers} {w : Books} {mid : Timestamp} {l r b : List Entry} where
   lent_sound : AllLent n w mid l r b → SoundBuffers (scene_with (any_fixed mid) n w l r b)

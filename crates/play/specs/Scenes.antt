@@ -1,13 +1,11 @@
 -- The scene that numbers, ledgers and three lent buffers stand for, and what a frame and a skip of it leave in the code's hands.
 -- Definitions only. Assumes nothing.
-use Rattle.std.specs.Prelude.{ℕ, Bool, cond, List, ◌≡◌, eqb}
+use Rattle.std.specs.Prelude.{ℕ, Bool, cond, List, ◌≡◌, eqb, Float, Option}
 use Rattle.timestamp.specs.declared.Timestamp.{Timestamp}
 use Rattle.tape.specs.Tape.{Puts}
 use Rattle.command.specs.declared.CommandBuffer.{CommandBuffer}
 use Rattle.command.specs.Entries.{Entry}
 use Rattle.command.specs.Slots.{buffer_at, Lent, AllSlots}
-use Rattle.client.specs.declared.LastStamp.{LastStamp}
-use Rattle.client.specs.declared.DisplayTime.{DisplayTime}
 use Rattle.client.specs.declared.Ledger.{Ledger}
 use Rattle.client.specs.declared.Scene.{Scene}
 use Rattle.client.specs.Sides.{new_side_of, old_side_of, world_of, ledger_of, Played}
@@ -25,9 +23,9 @@ use Rattle.play.specs.declared.Books.{Books}
 -- what no frame and no skip changes: the base's midpoint, the stamps of the last snapshot queued and of the last one received, and the displayed time
 pub record Fixed : Type 0 where
   pub midpoint : Timestamp
-  pub lastqueued : LastStamp
-  pub lastreceived : LastStamp
-  pub time : DisplayTime
+  pub lastqueued : Option Timestamp
+  pub lastreceived : Option Timestamp
+  pub time : Option Float
 
 -- of a scene
 unfoldable pub fixed_of : Scene → Fixed

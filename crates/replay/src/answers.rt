@@ -4,10 +4,10 @@ use super::output::Out;
 use super::samples::Room;
 use super::session_calls::Tape;
 use client::{
-    ClientWorldSimulations, DisplayTime, FastforwardingHealth, LastStamp, Ledger, Published,
-    Queued, ReconciliationStatus, Snapshots, status,
+    ClientWorldSimulations, FastforwardingHealth, Ledger, Published, QueuedSnapshot,
+    ReconciliationStatus, Snapshots, status,
 };
-use clocksync::{ClientId, Clock, Offset};
+use clocksync::Clock;
 use command::CommandBuffer;
 use host::HostSpanFrames;
 use session_answers::UpdateAnswer;
@@ -79,18 +79,18 @@ fn status_weight(s: ReconciliationStatus) -> f64 {
 }
 
 // The time that is displayed.
-fn time(out: &mut Out, at: usize, t: DisplayTime) -> usize {
+fn time(out: &mut Out, at: usize, t: Option<f64>) -> usize {
     match t {
-        DisplayTime::NotDisplayed => output::text(out, at, b" time=none"),
-        DisplayTime::DisplayedAt(x) => named_float(out, at, b" time=", x),
+        None => output::text(out, at, b" time=none"),
+        Some(x) => named_float(out, at, b" time=", x),
     }
 }
 
 // A name and a stamp that may not be there.
-fn last_stamp(out: &mut Out, at: usize, name: &[u8], l: LastStamp) -> usize {
+fn last_stamp(out: &mut Out, at: usize, name: &[u8], l: Option<Timestamp>) -> usize {
     match l {
-        LastStamp::Never => none(out, at, name),
-        LastStamp::Last(t) => named_stamp(out, at, name, t),
+        None => none(out, at, name),
+        Some(t) => named_stamp(out, at, name, t),
     }
 }
 
@@ -102,11 +102,11 @@ fn entry(out: &mut Out, at: usize, t: Timestamp, handle: u32) -> usize {
 }
 
 // The snapshot that is queued.
-fn queued(out: &mut Out, at: usize, q: Queued) -> usize {
+fn queued(out: &mut Out, at: usize, q: Option<QueuedSnapshot>) -> usize {
     let n = output::text(out, at, b" queued=");
     match q {
-        Queued::Nothing => output::text(out, n, b"none"),
-        Queued::Held { stamp, handle } => entry(out, n, stamp, handle),
+        None => output::text(out, n, b"none"),
+        Some(s) => entry(out, n, s.stamp, s.handle),
     }
 }
 
@@ -269,18 +269,18 @@ fn report_stamps(out: &mut Out, at: usize, a: ReportAnswer) -> usize {
 }
 
 // The offset of the clock.
-fn offset(out: &mut Out, at: usize, o: Offset) -> usize {
+fn offset(out: &mut Out, at: usize, o: Option<f64>) -> usize {
     match o {
-        Offset::NoOffset => output::text(out, at, b" offset=none"),
-        Offset::Seconds(x) => named_float(out, at, b" offset=", x),
+        None => output::text(out, at, b" offset=none"),
+        Some(x) => named_float(out, at, b" offset=", x),
     }
 }
 
 // The client's number.
-fn id(out: &mut Out, at: usize, i: ClientId) -> usize {
+fn id(out: &mut Out, at: usize, i: Option<u32>) -> usize {
     match i {
-        ClientId::NoId => output::text(out, at, b" id=none"),
-        ClientId::Id(n) => named(out, at, b" id=", n as u64),
+        None => output::text(out, at, b" id=none"),
+        Some(n) => named(out, at, b" id=", n as u64),
     }
 }
 

@@ -41,7 +41,8 @@ use Rattle.session_stage.specs.Stage.{synced_of, stage_after}
 use Rattle.session_state.specs.Session.{scene_of}
 use Rattle.client.specs.Ledgers.{closed_of}
 use Rattle.session_answers.specs.Inner.{accepted_by}
-use Rattle.session.specs.Calls.{times_ok, refused_at_once, heard_other, clock_after, request_of, clock_moved_of, clock_update_of, concluded_of, server_time_by}
+use Rattle.std.specs.Prelude.{unwrap_or}
+use Rattle.session.specs.Calls.{times_ok, refused_at_once, heard_other, clock_after, request_of, clock_moved_of, clock_update_of, concluded_of}
 use Rattle.session.specs.Calls.{lagged_of, unreceived, scene_after, played_of, worlds_update_of, update_by, update_of}
 use Rattle.session.specs.Inner.{end_refusal_of, unended_with}
 
@@ -171,7 +172,7 @@ module _ (s : Session) (c : Clock) (request : Bool) (u : Run) {was mid : List �
 
 -- the frames, from the parts that the code has
 pub played_by : (s : Session) (got : Received) (c : Clock) (delta seconds : Float) (inbox : List ℕ) {w : ClientWorldSimulations} {x : Float}
-    {was last : List ℕ} {a : Advanced} → w ≡ noted_in inbox got.scene.worlds → x ≡ server_time_by (server_seconds_of c.offset seconds) seconds
+    {was last : List ℕ} {a : Advanced} → w ≡ noted_in inbox got.scene.worlds → x ≡ unwrap_or (server_seconds_of c.offset seconds) seconds
     → Advances (unended_of s.settings (with_worlds got.scene w) s.overshoot delta (add binary64 x s.settings.lag)) was a last
     → Advances (unended_with s got c delta seconds inbox) was a last
 played_by s got c delta seconds inbox {w} {x} {was} {last} {a} hw hx h =

@@ -1,6 +1,6 @@
 -- The calls open and update: document 01, "Kept, and written anew", "src/client/stage.rs", and both sections "Turned down".
 -- Definitions only. Assumes nothing.
-use Rattle.std.specs.Prelude.{ℕ, Bool, true, false, ◌&&◌, List, leb, length, Float}
+use Rattle.std.specs.Prelude.{ℕ, Bool, true, false, ◌&&◌, List, leb, length, Float, unwrap_or}
 use Rattle.std.specs.Float.{binary64}
 use Rattle.std.specs.Float.Ieee.{add}
 use Rattle.refusals.specs.Refusals.{accepted, open_refusal_by, once_refusal_by, syncing_refusal_by, arrival_refusal_by, end_refusal_by}
@@ -8,8 +8,6 @@ use Rattle.settings.specs.declared.Settings.{Settings}
 use Rattle.settings.specs.Settings.{passes_of}
 use Rattle.timestamp.specs.Floats.{between, tween_of, hour64, minus_hour64, time_ok}
 use Rattle.clocksync.specs.declared.Clock.{Clock}
-use Rattle.clocksync.specs.declared.ServerTime.{ServerTime}
-use Rattle.clocksync.specs.declared.ServerTime.TheVariants.{NoTime, At}
 use Rattle.clocksync.specs.Clock.{new_of, ticked_of, listen_of, settled_of, server_seconds_of}
 use Rattle.inbox_refusal.specs.Refusal.{refusal_of}
 use Rattle.client.specs.declared.Scene.{Scene}
@@ -75,14 +73,9 @@ concluded_of s c request r len =
     unless_refused (end_refusal_by r.stop (weight_ok (tween_of r.overshoot s.settings.timestep)) (leb (length r.played.words) len)) s len
     (accepted_of s c request r len)
 
--- the server's time by a clock; a clock without an offset gives the client's own
-abbrev pub server_time_by : ServerTime → Float → Float
-server_time_by NoTime seconds = seconds
-server_time_by (At t) seconds = t
-
--- the server's time with the lag, by which an update is played
+-- the server's time by a clock with the lag, by which an update is played; a clock without an offset gives the client's own time
 abbrev pub lagged_of : Session → Clock → Float → Float
-lagged_of s c seconds = add binary64 (server_time_by (server_seconds_of c.offset seconds) seconds) s.settings.lag
+lagged_of s c seconds = add binary64 (unwrap_or (server_seconds_of c.offset seconds) seconds) s.settings.lag
 
 -- nothing is received yet
 abbrev pub unreceived : Session → Received

@@ -1,15 +1,15 @@
 // The calls: open and update, and beside them issue and report, which have crates of their own. Each hands
 // what its tests found to `refusals`, which knows the numbers and their order.
-ghost use Rattle.std.specs.Prelude.{◌≡◌, ◌≤◌, length};
+ghost use Rattle.std.specs.Prelude.{◌≡◌, ◌≤◌, length, unwrap_or};
 ghost use Rattle.clocksync.specs.Clock.{server_seconds_of};
 ghost use Rattle.fixed_timestepper.specs.TimeKeeper.{Advances};
 ghost use Rattle.refusals.specs.Limits.{most_steps};
 ghost use Rattle.session_answers.specs.Answers.{Updates};
 ghost use Rattle.session.specs.Inner.{end_refusal_of, unended_with};
-ghost use Rattle.session.specs.Calls.{open_of, times_ok, refused_at_once, clock_update_of, server_time_by, update_of};
+ghost use Rattle.session.specs.Calls.{open_of, times_ok, refused_at_once, clock_update_of, update_of};
 
 use client::Received;
-use clocksync::{Clock, ServerTime};
+use clocksync::Clock;
 use fixed_timestepper::Advanced;
 use session_answers::{OpenAnswer, UpdateAnswer};
 pub use session_issue::issue;
@@ -75,12 +75,9 @@ pub(crate) fn update_clock(
 
 // The server's time at a time of this client; the client's own time where there is no offset.
 pub(crate) fn server_time(clock: Clock, seconds: f64) -> f64
-    ensures { result ≡ server_time_by (server_seconds_of clock.offset seconds) seconds }
+    ensures { result ≡ unwrap_or (server_seconds_of clock.offset seconds) seconds }
 {
-    match clock.server_seconds(seconds) {
-        ServerTime::NoTime => seconds,
-        ServerTime::At(x) => x,
-    }
+    clock.server_seconds(seconds).unwrap_or(seconds)
 }
 
 // The frames of an update and its skip, after its commands: its snapshots are received, and the worlds are played by the server's time

@@ -20,8 +20,7 @@ use Rattle.settings.specs.Settings.{passes_of}
 use Rattle.command.specs.Entries.{Entry}
 use Rattle.command.specs.Slots.{buffer_at, AllSlots}
 use Rattle.command.specs.Soundness.{sound_buffer}
-use Rattle.clocksync.specs.declared.Offset.{Offset}
-use Rattle.clocksync.specs.declared.Offset.TheVariants.{NoOffset, Seconds}
+use Rattle.std.specs.Prelude.{Option, unwrap_or}
 use Rattle.clocksync.specs.declared.Clock.{Clock}
 use Rattle.clocksync.specs.declared.Heard.{Heard}
 use Rattle.clocksync.specs.Clock.{ticked_of, settled_of, server_seconds_of, sound_clock}
@@ -63,7 +62,7 @@ use Rattle.session_in_place.specs.declared.LentAnswer.{LentAnswer}
 use Rattle.session_answers.specs.Answers.{Reply, unplayed_of, refused_with, Updates}
 use Rattle.session_answers.specs.Inner.{accepted_by}
 use Rattle.session_in_place.specs.AnswersLent.{answer_with, Leaves, Accepts}
-use Rattle.session.specs.Calls.{times_ok, refused_at_once, clock_update_of, worlds_update_of, update_by, update_of, server_time_by}
+use Rattle.session.specs.Calls.{times_ok, refused_at_once, clock_update_of, worlds_update_of, update_by, update_of}
 use Rattle.session.specs.Inner.{unended_with}
 use Rattle.session_in_place.specs.Lent.{ArraysLent, session_after, UpdatesLent, listening, Scanned, Settles, SyncsLent, Concludes}
 use Rattle.session.proofs.Answering.{once_is, once_few, clock_refused, clock_moved, played_by}
@@ -121,14 +120,7 @@ scanned s seconds words h e =
 
 -- ---- the clock
 
--- the server's time by an offset
-pub server_none : (o : Offset) (seconds : Float) → o ≡ NoOffset → seconds ≡ server_time_by (server_seconds_of o seconds) seconds
-server_none o seconds e = sym (ap (λ (x : Offset). server_time_by (server_seconds_of x seconds) seconds) e)
-
-pub server_at_lem : (o : Offset) (seconds x : Float) → o ≡ Seconds x → add binary64 seconds x ≡ server_time_by (server_seconds_of o seconds) seconds
-server_at_lem o seconds x e = sym (ap (λ (y : Offset). server_time_by (server_seconds_of y seconds) seconds) e)
-
-pub settles : (c : Settings) (was : List Float) (n : ClockNumbers) (h : Heard) {o : Offset} {k : ℕ} {r : ClockNumbers} {last : List Float}
+pub settles : (c : Settings) (was : List Float) (n : ClockNumbers) (h : Heard) {o : Option Float} {k : ℕ} {r : ClockNumbers} {last : List Float}
     → o ≡ (settled_of c (clock_at was n) h).offset → Pushes c was n h k last → r ≡ settled_numbers n o k h.id → Settles c was n h r last
 settles c was n h {o} {k} {r} {last} ho hp hr =
     record { room = hp.room; clock = (λ i. clock_at last (hr i)) ∙ (λ i. clock_at last (settled_numbers n (ho i) k h.id)) ∙ hp.clock }
@@ -223,8 +215,8 @@ module _ (c : Settings) (s : State) (delta seconds : Float) (words : List ℕ) (
       refused_lent _ c s ss whole len (record { samples = room; slots = hr.slots }) e h
       (worlds_refused whole delta seconds words refl hs.heard refl got_is hn len e (h.replies whole))
 
-  module _ (e : n ≡ 0) {t : TickedNumbers} (ht : (xs : List Float) → ticked_at xs t ≡ ticked_of (clock_at xs s.clock) c.period delta) {o : Offset}
-      (ho : o ≡ (settled_of c (clock_at ss t.clock) scan.heard).offset) {x : Float} (hx : x ≡ server_time_by (server_seconds_of o seconds) seconds)
+  module _ (e : n ≡ 0) {t : TickedNumbers} (ht : (xs : List Float) → ticked_at xs t ≡ ticked_of (clock_at xs s.clock) c.period delta) {o : Option Float}
+      (ho : o ≡ (settled_of c (clock_at ss t.clock) scan.heard).offset) {x : Float} (hx : x ≡ unwrap_or (server_seconds_of o seconds) seconds)
       {was mid : List ℕ} {v : Advanced} {l₂ r₂ b₂ : List Entry}
       (hv : RunsAt (λ y. unended_of c y s.overshoot delta (add binary64 x c.lag)) (numbers_in s.worlds scan.snapshots.queued) (books_of z)
       s.worlds.midpoint l₁ r₁ b₁ was v l₂ r₂ b₂ mid) where
@@ -246,7 +238,7 @@ module _ (c : Settings) (s : State) (delta seconds : Float) (words : List ℕ) (
 
     played : Advances (unended_with whole got clock delta seconds words) was kept mid
     played =
-        played_by whole got clock delta seconds words noted (hx ∙ (λ i. server_time_by (server_seconds_of (ho i) seconds) seconds))
+        played_by whole got clock delta seconds words noted (hx ∙ (λ i. unwrap_or (server_seconds_of (ho i) seconds) seconds))
         (subst (λ y. Advances (unended_of c y s.overshoot delta (add binary64 x c.lag)) was kept mid)
         (scene_is s.worlds l r b z l₁ r₁ b₁ scan.snapshots) (hv.runs (fixed_in s.worlds scan.snapshots) refl))
 

@@ -10,9 +10,7 @@ use Rattle.timestamp.specs.declared.Timestamp.{Timestamp}
 use Rattle.timestamp.specs.Timestamps.{bits_of}
 use Rattle.timestamp.specs.FloatTimestamps.{from_seconds, stamp_of}
 use Rattle.settings.specs.declared.Settings.{Settings}
-use Rattle.clocksync.specs.declared.Offset.{Offset}
-use Rattle.clocksync.specs.declared.Offset.TheVariants.{NoOffset, Seconds}
-use Rattle.clocksync.specs.declared.ClientId.{ClientId}
+use Rattle.std.specs.Prelude.{Option, Some, None}
 use Rattle.clocksync.specs.Clock.{server_seconds_of, both_of}
 use Rattle.clock_samples.specs.declared.ClockNumbers.{ClockNumbers}
 use Rattle.clock_samples.specs.Numbers.{clock_at}
@@ -61,7 +59,7 @@ module _ (k : Settings) (s : State) (c : ClockNumbers) (seconds : Float) (l r b 
     syncs_not ht = record { slots = full; session = not_ready ht }
 
   -- it is: the worlds start at the stamp of the server's time
-  module _ (h : p ≡ true) {x : Float} (hx : c.offset ≡ Seconds x) {t : Timestamp}
+  module _ (h : p ≡ true) {x : Float} (hx : c.offset ≡ Some x) {t : Timestamp}
       (ht : t.0 ≡ bits_of (stamp_of (from_seconds (add binary64 seconds x) k.timestep))) {q : State} {l₁ r₁ b₁ : List Entry}
       (hs : Starts c t q l₁ r₁ b₁) where
     ready : (was ss : List Float) → session_at k q ss l₁ r₁ b₁ ≡ synced_of (session_at k s was l r b) (clock_at ss c) seconds
@@ -78,8 +76,8 @@ module _ (k : Settings) (s : State) (c : ClockNumbers) (seconds : Float) (l r b 
     syncs_at = record { slots = hs.slots; session = ready }
 
 -- a ready clock has an offset
-pub never_without : (o : Offset) (n : ClientId) {p : Bool} → p ≡ both_of o n → p ≡ true → o ≡ NoOffset → {A : Type 0} → A
+pub never_without : (o : Option Float) (n : Option ℕ) {p : Bool} → p ≡ both_of o n → p ≡ true → o ≡ None → {A : Type 0} → A
 never_without o n hp h e {A} =
-    let z : true ≡ false = sym h ∙ hp ∙ ap (λ (x : Offset). both_of x n) e in
+    let z : true ≡ false = sym h ∙ hp ∙ ap (λ (x : Option Float). both_of x n) e in
     let y : ◌≡◌ {A = ℕ} 0 1 = ap (λ (x : Bool). cond x 0 1) z in
     absurd (omega arith)

@@ -1,14 +1,12 @@
 -- The call update over arrays that are lent: what it asks of them and what it leaves in them. Definitions only. Assumes nothing.
 use Prim.{⊥}
-use Rattle.std.specs.Prelude.{ℕ, false, cond, List, ◌≡◌, eqb, length, Float}
+use Rattle.std.specs.Prelude.{ℕ, false, cond, List, ◌≡◌, eqb, length, Float, Option, None}
 use Rattle.refusals.specs.Limits.{sample_room}
 use Rattle.refusals.specs.Refusals.{accepted}
 use Rattle.settings.specs.declared.Settings.{Settings}
 use Rattle.command.specs.Entries.{Entry}
 use Rattle.command.specs.Slots.{AllSlots}
-use Rattle.clocksync.specs.declared.ClientId.{ClientId}
 use Rattle.clocksync.specs.declared.Heard.{Heard}
-use Rattle.clocksync.specs.declared.Offset.TheVariants.{NoOffset}
 use Rattle.clocksync.specs.Clock.{settled_of}
 use Rattle.clock_samples.specs.declared.ClockNumbers.{ClockNumbers}
 use Rattle.clock_samples.specs.declared.TickedNumbers.{TickedNumbers}
@@ -49,8 +47,8 @@ pub record UpdatesLent (reply : Reply) (c : Settings) (s : State) (ss : List Flo
 -- ---- its parts
 
 -- what is known before the first clock message: `listen_of` of clocksync, by the id alone
-abbrev pub listening : ClientId → Heard
-listening i = record { id = i; offset = NoOffset; other = false }
+abbrev pub listening : Option ℕ → Heard
+listening i = record { id = i; offset = None; other = false }
 
 -- what an inbox that is not too long holds for a session
 pub record Scanned (s : State) (seconds : Float) (words : List ℕ) (r : Scan) : Type 0 where

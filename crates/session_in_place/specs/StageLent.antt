@@ -1,5 +1,5 @@
 -- The first stage over arrays that are lent: the worlds that the code makes, and what it leaves. Definitions only. Assumes nothing.
-use Rattle.std.specs.Prelude.{false, List, [], ◌≡◌, Float}
+use Rattle.std.specs.Prelude.{false, List, [], ◌≡◌, Float, None}
 use Rattle.refusals.specs.Limits.{buffer_room}
 use Rattle.timestamp.specs.Floats.{zero64, one64}
 use Rattle.timestamp.specs.declared.Timestamp.{Timestamp}
@@ -10,9 +10,6 @@ use Rattle.command.specs.Entries.{Entry}
 use Rattle.command.specs.Lists.{pad}
 use Rattle.command.specs.Buffer.{blank}
 use Rattle.command.specs.Slots.{AllSlots}
-use Rattle.client.specs.declared.Queued.TheVariants.{Nothing}
-use Rattle.client.specs.declared.LastStamp.TheVariants.{Never}
-use Rattle.client.specs.declared.DisplayTime.TheVariants.{NotDisplayed}
 use Rattle.session_state.specs.declared.Stage.TheVariants.{SyncingInitialState}
 use Rattle.session_lent.specs.declared.World.{World}
 use Rattle.session_lent.specs.declared.Worlds.{Worlds}
@@ -33,9 +30,9 @@ new_numbers t =
       new = 0;
       base = 0;
       midpoint = record { 0 = 0 };
-      snapshots = record { queued = Nothing; lastqueued = Never; lastreceived = Never };
+      snapshots = record { queued = None; lastqueued = None; lastreceived = None };
       weight = one64;
-      published = record { before = Never; after = Never; time = NotDisplayed };
+      published = record { before = None; after = None; time = None };
     }
 
 -- a session whose worlds start at the stamp t

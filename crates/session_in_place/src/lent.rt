@@ -1,6 +1,6 @@
 // An update over lent arrays: the samples of the clock and the slots of the three buffers stay where the caller has them, and the numbers of the session go by
 // value. Refused, it leaves the samples as they were; what the slots hold then is no longer the session's.
-ghost use Rattle.std.specs.Prelude.{◌≡◌, ◌≤◌, leb, length};
+ghost use Rattle.std.specs.Prelude.{◌≡◌, ◌≤◌, leb, length, unwrap_or};
 ghost use Rattle.refusals.specs.Limits.{sample_room, most_steps};
 ghost use Rattle.refusals.specs.Refusals.{end_refusal_by};
 ghost use Rattle.timestamp.specs.Floats.{tween_of};
@@ -11,13 +11,13 @@ ghost use Rattle.client_publish.specs.Ending.{weight_ok};
 ghost use Rattle.inbox_scan.specs.Scan.{Scans};
 ghost use Rattle.session_lent.specs.Lent.{session_at, old_in};
 ghost use Rattle.session_play.specs.Play.{WorldsLent};
-ghost use Rattle.session.specs.Calls.{times_ok, server_time_by, worlds_update_of, update_of};
+ghost use Rattle.session.specs.Calls.{times_ok, worlds_update_of, update_of};
 ghost use Rattle.session_in_place.specs.Lent.{ArraysLent, UpdatesLent, listening, Scanned, Settles, SyncsLent, Concludes};
 
 use super::{LentAnswer, answers, stage};
 use client_publish::ending;
 use clock_samples::{ClockNumbers, TickedNumbers};
-use clocksync::{Heard, Offset};
+use clocksync::Heard;
 use frames::Advanced;
 use inbox_scan::Scan;
 use session_lent::State;
@@ -37,24 +37,19 @@ pub(crate) fn times_ok(delta: f64, seconds: f64) -> bool
 pub(crate) fn scan_of(s: State, seconds: f64, inbox: &[u32]) -> Scan
     ensures { Scans inbox.now seconds (listening s.clock.id) s.worlds.snapshots (old_in s.worlds).stamp result }
 {
-    let c = s.clock;
-    let id = c.id;
-    let w = s.worlds;
-    let old = session_lent::old_world(w);
-    let stamp = old.stamp;
-    let snapshots = w.snapshots;
+    let old = session_lent::old_world(s.worlds);
     let heard = Heard {
-        id,
-        offset: Offset::NoOffset,
+        id: s.clock.id,
+        offset: None,
         other: false,
     };
-    inbox_scan::scan_inbox(inbox, seconds, heard, snapshots, stamp)
+    inbox_scan::scan_inbox(inbox, seconds, heard, s.worlds.snapshots, old.stamp)
 }
 
 // The numbers of the clock after an update: its sample is taken.
 pub(crate) fn settle(
     c: ClockNumbers,
-    offset: Offset,
+    offset: Option<f64>,
     heard: Heard,
     settings: Settings,
     samples: &mut [f64],
@@ -63,8 +58,7 @@ pub(crate) fn settle(
     ensures { Settles settings samples.old c heard result samples.new }
 {
     let len = clock_samples::push(samples, c, settings, heard);
-    let id = heard.id;
-    clock_samples::settled(c, offset, len, id)
+    clock_samples::settled(c, offset, len, heard.id)
 }
 
 // An update while the clock syncs.
@@ -98,13 +92,10 @@ pub(crate) fn sync(
 }
 
 // The server's time by an offset; the client's own time where there is none.
-pub(crate) fn server_time(offset: Offset, seconds: f64) -> f64
-    ensures { result ≡ server_time_by (server_seconds_of offset seconds) seconds }
+pub(crate) fn server_time(offset: Option<f64>, seconds: f64) -> f64
+    ensures { result ≡ unwrap_or (server_seconds_of offset seconds) seconds }
 {
-    match offset {
-        Offset::NoOffset => seconds,
-        Offset::Seconds(x) => seconds + x,
-    }
+    offset.map_or(seconds, |x| seconds + x)
 }
 
 // The refusal of an update whose frames have ended, or ACCEPTED; the tape has room for `room` words.
@@ -124,7 +115,7 @@ pub(crate) fn conclude(
     s: State,
     scan: Scan,
     t: TickedNumbers,
-    offset: Offset,
+    offset: Option<f64>,
     a: Advanced,
     samples: &mut [f64],
     base: &mut [u64],
@@ -173,12 +164,10 @@ pub(crate) fn play(
     }
     let t = clock_samples::tick(s.clock, settings, delta);
     let offset = clock_samples::offset_after(samples, t.clock, settings, heard);
-    let snapshots = scan.snapshots;
-    let queued = snapshots.queued;
     let server = server_time(offset, seconds) + settings.lag;
     let a = session_play::advance(
         w,
-        queued,
+        scan.snapshots.queued,
         got,
         s.overshoot,
         delta,

@@ -2,7 +2,7 @@
 ghost use Rattle.std.specs.Prelude.{◌≡◌};
 ghost use Rattle.session_report.specs.Report.{unreported, reported_of, report_of};
 
-use client::{DisplayTime, ReconciliationStatus};
+use client::ReconciliationStatus;
 use session_report::ReportAnswer;
 use session_state::{Session, Stage};
 use timestamp::Timestamp;
@@ -11,16 +11,13 @@ use timestamp::Timestamp;
 fn refuse_report(refusal: u32) -> ReportAnswer
     ensures { result ≡ unreported refusal }
 {
-    let stage = Stage::SyncingClock;
-    let status = ReconciliationStatus::AwaitingSnapshot;
-    let time = DisplayTime::NotDisplayed;
     ReportAnswer {
         refusal,
-        stage,
-        status,
+        stage: Stage::SyncingClock,
+        status: ReconciliationStatus::AwaitingSnapshot,
         old: Timestamp(0),
         new: Timestamp(0),
-        time,
+        time: None,
     }
 }
 
@@ -29,22 +26,14 @@ fn report_worlds(session: Session) -> ReportAnswer
     ensures { result ≡ reported_of session }
 {
     let w = session_lent::worlds_of(session.worlds);
-    let stage = session.stage;
-    let s = w.snapshots;
-    let q = s.queued;
-    let n = session_play::numbers_of(w, q);
-    let status = client_numbers::status_of(n);
-    let published = w.published;
-    let time = published.time;
-    let old = n.old;
-    let new = n.new;
+    let n = session_play::numbers_of(w, w.snapshots.queued);
     ReportAnswer {
         refusal: refusals::ACCEPTED,
-        stage,
-        status,
-        old,
-        new,
-        time,
+        stage: session.stage,
+        status: client_numbers::status_of(n),
+        old: n.old,
+        new: n.new,
+        time: w.published.time,
     }
 }
 

@@ -4,9 +4,8 @@ ghost use Rattle.std.specs.Prelude.{◌≡◌};
 ghost use Rattle.command.specs.Slots.{AllSlots};
 ghost use Rattle.session_in_place.specs.StageLent.{new_numbers, clocked_in, Starts, Syncs};
 
-use client::{DisplayTime, LastStamp, Published, Queued, Snapshots};
+use client::{Published, Snapshots};
 use clock_samples::ClockNumbers;
-use clocksync::Offset;
 use session_lent::{State, World, Worlds};
 use session_state::Stage;
 use settings::Settings;
@@ -16,12 +15,6 @@ use timestamp::Timestamp;
 pub(crate) fn new_worlds(stamp: Timestamp) -> Worlds
     ensures { result ≡ new_numbers stamp }
 {
-    let queued = Queued::Nothing;
-    let lastqueued = LastStamp::Never;
-    let lastreceived = LastStamp::Never;
-    let before = LastStamp::Never;
-    let after = LastStamp::Never;
-    let time = DisplayTime::NotDisplayed;
     Worlds {
         left: World {
             len: 0,
@@ -37,15 +30,15 @@ pub(crate) fn new_worlds(stamp: Timestamp) -> Worlds
         base: 0,
         midpoint: Timestamp(0),
         snapshots: Snapshots {
-            queued,
-            lastqueued,
-            lastreceived,
+            queued: None,
+            lastqueued: None,
+            lastreceived: None,
         },
         weight: 1.0,
         published: Published {
-            before,
-            after,
-            time,
+            before: None,
+            after: None,
+            time: None,
         },
     }
 }
@@ -96,13 +89,11 @@ pub fn synced(
     ensures { Syncs settings s clock seconds left.old right.old base.old result left.new right.new
         base.new }
 {
-    let offset = clock.offset;
-    let id = clock.id;
-    if !session_lent::is_ready(offset, id) {
+    if !session_lent::is_ready(clock.offset, clock.id) {
         return with_clock(s, clock);
     }
     // a ready clock has an offset
-    let Offset::Seconds(x) = offset else {
+    let Some(x) = clock.offset else {
         return with_clock(s, clock);
     };
     let stamp = Timestamp::from_seconds(seconds + x, settings.timestep);

@@ -21,8 +21,7 @@ use Rattle.command.specs.Buffer.{held}
 use Rattle.command.proofs.Soundness.{sound_few}
 use Rattle.command.specs.Entries.{entry_of}
 use Rattle.client.specs.declared.ClientWorldSimulations.{ClientWorldSimulations}
-use Rattle.client.specs.declared.DisplayTime.{DisplayTime}
-use Rattle.client.specs.declared.DisplayTime.TheVariants.{NotDisplayed, DisplayedAt}
+use Rattle.std.specs.Prelude.{Option, Some, None}
 use Rattle.client.specs.declared.Ledger.{Ledger}
 use Rattle.client.specs.declared.Scene.{Scene}
 use Rattle.client.specs.declared.Received.{Received}
@@ -181,10 +180,10 @@ unfolding refused_with
 refused_settles n x s len w = none_settles (eqb x 0) x s (commands_on x (replicate len 0)) w (commands_on_zeros x len)
 
 -- the worlds of a session that an update leaves exist
-pub stage_kept : (g : Stage) (t : DisplayTime) → has_worlds g ≡ true → has_worlds (stage_after g t) ≡ true
+pub stage_kept : (g : Stage) (t : Option Float) → has_worlds g ≡ true → has_worlds (stage_after g t) ≡ true
 stage_kept SyncingClock t h = h
-stage_kept SyncingInitialState NotDisplayed h = refl
-stage_kept SyncingInitialState (DisplayedAt x) h = refl
+stage_kept SyncingInitialState None h = refl
+stage_kept SyncingInitialState (Some x) h = refl
 stage_kept Ready t h = refl
 
 accepted_settles : {n : ℕ} (x : ℕ) (s : Session) (c : Clock) (request : Bool) (r : Run) (len : ℕ) → x < 2 → has_worlds s.stage ≡ true

@@ -21,13 +21,9 @@ use Rattle.refusals.proofs.Accepted.{open_accepted, open_refused}
 use Rattle.command.proofs.Entries.{entry_plain}
 use Rattle.client_publish.specs.Ending.{weight_ok}
 use Rattle.clocksync.specs.declared.Clock.{Clock}
-use Rattle.clocksync.specs.declared.Offset.{Offset}
-use Rattle.clocksync.specs.declared.Offset.TheVariants.{NoOffset, Seconds}
+use Rattle.std.specs.Prelude.{Option, Some, None, is_some, is_none}
 use Rattle.clocksync.specs.Clock.{new_of, server_seconds_of, both_of, ready_of, sound_clock}
 use Rattle.clocksync.proofs.Sound.{parts_of, new_sound}
-use Rattle.clocksync.proofs.Ready.{has_offset}
-use Rattle.client.specs.declared.DisplayTime.{DisplayTime}
-use Rattle.client.specs.declared.DisplayTime.TheVariants.{NotDisplayed, DisplayedAt}
 use Rattle.client_receive.specs.Receive.{received_of}
 use Rattle.session_state.specs.Session.{has_worlds, with_clock, with_worlds_of}
 use Rattle.session_laws.specs.Soundness.{FloatsFit, OpenSound, OpenUnsound, UpdateSound, IssueSound}
@@ -40,7 +36,7 @@ use Rattle.session_state.specs.declared.Stage.{Stage}
 use Rattle.session_state.specs.declared.Stage.TheVariants.{SyncingClock, SyncingInitialState, Ready}
 use Rattle.session_state.specs.declared.Session.{Session}
 use Rattle.session_issue.specs.declared.IssueAnswer.{IssueAnswer}
-use Rattle.session_state.specs.Sound.{no_offset, connected_of, sound_of}
+use Rattle.session_state.specs.Sound.{connected_of, sound_of}
 use Rattle.session.specs.Calls.{start_of, open_of, times_ok, clock_after, request_of, lagged_of, scene_after, played_of, update_of}
 use Rattle.session_answers.specs.Answers.{Reply, refused_with, accepted_of}
 use Rattle.session_stage.specs.Stage.{started_at, synced_of, stage_after}
@@ -91,13 +87,13 @@ open_unsound c h = go (sound_of (start_of c)) (λ e. (sound_facts (start_of c) e
 
 -- ---- a session without worlds has no offset
 
-pub no_worlds_no_offset : (s : Session) → sound_of s ≡ true → s.stage ≡ SyncingClock → s.clock.offset ≡ NoOffset
+pub no_worlds_no_offset : (s : Session) → sound_of s ≡ true → s.stage ≡ SyncingClock → s.clock.offset ≡ None
 unfolding connected_of
 no_worlds_no_offset s h e = go s.clock.offset (subst (λ (x : Stage). connected_of x s.clock ≡ true) e (sound_facts s h).connected)
   where
-    go : (o : Offset) → no_offset o ≡ true → o ≡ NoOffset
-    go NoOffset k = refl
-    go (Seconds x) k = not_true k
+    go : (o : Option Float) → is_none o ≡ true → o ≡ None
+    go None k = refl
+    go (Some x) k = not_true k
 
 -- ---- an update while the clock syncs
 
@@ -111,15 +107,15 @@ module _ (s : Session) (delta seconds : Float) (inbox : List ℕ) (g : Given s d
   after_sound : sound_clock s.settings (clock_after s delta seconds inbox) ≡ true
   after_sound = let f = sound_facts s g.sound in clock_after_sound s delta seconds inbox g.fit f.settings g.times f.clock
 
-  started_sound : (o : Offset) → (clock_after s delta seconds inbox).offset ≡ o → ready_of (clock_after s delta seconds inbox) ≡ true
+  started_sound : (o : Option Float) → (clock_after s delta seconds inbox).offset ≡ o → ready_of (clock_after s delta seconds inbox) ≡ true
       → sound_of (started_at s (clock_after s delta seconds inbox) (server_seconds_of o seconds)) ≡ true
   unfolding connected_of
-  started_sound NoOffset e r = not_true (sym (ap (λ (o : Offset). both_of o (clock_after s delta seconds inbox).id) e) ∙ r)
-  started_sound (Seconds x) e r =
+  started_sound None e r = not_true (sym (ap (λ (o : Option Float). both_of o (clock_after s delta seconds inbox).id) e) ∙ r)
+  started_sound (Some x) e r =
       let f = sound_facts s g.sound in
       let c = clock_after s delta seconds inbox in
       let t : Timestamp = record { 0 = bits_of (stamp_of (from_seconds (add binary64 seconds x) s.settings.timestep)) } in
-      facts_sound (started_at s c (server_seconds_of (Seconds x) seconds))
+      facts_sound (started_at s c (server_seconds_of (Some x) seconds))
       (record {
         settings = f.settings;
         clock = after_sound;
@@ -145,9 +141,9 @@ module _ (s : Session) (delta seconds : Float) (inbox : List ℕ) (g : Given s d
         overshoot = f.overshoot;
       })
     where
-      none : (o : Offset) → (clock_after s delta seconds inbox).offset ≡ o → no_offset o ≡ true
-      none NoOffset i = refl
-      none (Seconds x) i = not_false (sym (clock_after_first s delta seconds inbox (no_worlds_no_offset s g.sound e) (ap has_offset i)) ∙ r)
+      none : (o : Option Float) → (clock_after s delta seconds inbox).offset ≡ o → is_none o ≡ true
+      none None i = refl
+      none (Some x) i = not_false (sym (clock_after_first s delta seconds inbox (no_worlds_no_offset s g.sound e) (ap is_some i)) ∙ r)
 
   synced_sound : s.stage ≡ SyncingClock → sound_of (synced_of s (clock_after s delta seconds inbox) seconds) ≡ true
   unfolding synced_of
@@ -167,9 +163,9 @@ module _ (s : Session) (delta seconds : Float) (inbox : List ℕ) (g : Given s d
         slots = ap (λ (c : Clock). length c.samples) i ∙ clock_after_slots s delta seconds inbox g.fit.slots;
       }
 
-  started_fit : (o : Offset) → FloatsFit (started_at s (clock_after s delta seconds inbox) (server_seconds_of o seconds))
-  started_fit NoOffset = g.fit
-  started_fit (Seconds x) = after_fit _ refl refl
+  started_fit : (o : Option Float) → FloatsFit (started_at s (clock_after s delta seconds inbox) (server_seconds_of o seconds))
+  started_fit None = g.fit
+  started_fit (Some x) = after_fit _ refl refl
 
   synced_fit : FloatsFit (synced_of s (clock_after s delta seconds inbox) seconds)
   unfolding synced_of
@@ -192,11 +188,11 @@ refused_not n s len h e = absurd (h e)
 
 -- ---- an update once worlds exist
 
-stage_connected : (x : Stage) (t : DisplayTime) (c : Clock) → (x ≡ SyncingClock → ⊥) → ready_of c ≡ true → connected_of (stage_after x t) c ≡ true
+stage_connected : (x : Stage) (t : Option Float) (c : Clock) → (x ≡ SyncingClock → ⊥) → ready_of c ≡ true → connected_of (stage_after x t) c ≡ true
 unfolding connected_of
 stage_connected SyncingClock t c n r = absurd (n refl)
-stage_connected SyncingInitialState NotDisplayed c n r = r
-stage_connected SyncingInitialState (DisplayedAt y) c n r = r
+stage_connected SyncingInitialState None c n r = r
+stage_connected SyncingInitialState (Some y) c n r = r
 stage_connected Ready t c n r = r
 
 stage_ready : (x : Stage) (c : Clock) → (x ≡ SyncingClock → ⊥) → connected_of x c ≡ true → ready_of c ≡ true

@@ -30,18 +30,16 @@ use Rattle.inbox.proofs.Bounds.{Bounded, messages_bounded}
 use Rattle.clocksync.specs.declared.Clock.{Clock as ClockState}
 use Rattle.clocksync.specs.declared.Heard.{Heard}
 use Rattle.clocksync.specs.declared.Ticked.{Ticked}
-use Rattle.clocksync.specs.declared.Offset.{Offset}
-use Rattle.clocksync.specs.declared.Offset.TheVariants.{NoOffset, Seconds}
+use Rattle.client.specs.declared.QueuedSnapshot.{QueuedSnapshot}
+use Rattle.std.specs.Prelude.{Option, Some, None, is_some, unwrap_or}
 use Rattle.mean.specs.Mean.{mean_of}
 use Rattle.clocksync.specs.Clock.{laid_out, held_of, timed_of, ticked_of, listen_of, heard_of, offset_after, sampled_of, filled_of, named_of, sample_of}
 use Rattle.clocksync.specs.Clock.{settled_of}
 use Rattle.clocksync.specs.Clock.{server_seconds_of, ready_of, offset_ok, sound_clock}
 use Rattle.clocksync.proofs.Sound.{sample_within, measured_ok, clock_sound, clock_timer_fits}
-use Rattle.clocksync.proofs.Ready.{has_offset, has_id, ready_id, heard_id, ready_stays, first_offset_ready}
+use Rattle.clocksync.proofs.Ready.{ready_id, heard_id, ready_stays, first_offset_ready}
 use Rattle.command.specs.Entries.{entry_of}
 use Rattle.command.proofs.Entries.{entry_plain}
-use Rattle.client.specs.declared.Queued.{Queued}
-use Rattle.client.specs.declared.Queued.TheVariants.{Nothing, Held}
 use Rattle.client.specs.declared.ClientWorldSimulations.{ClientWorldSimulations}
 use Rattle.client.specs.declared.Received.{Received}
 use Rattle.client.specs.Sides.{new_side_of, old_side_of, world_of, old_stamp_of, new_stamp_of}
@@ -53,19 +51,19 @@ use Rattle.session_laws.proofs.SoundRuns.{InStep}
 use Rattle.session_state.specs.declared.Session.{Session}
 use Rattle.session_state.specs.Sound.{queued_sound, weight_sound, init_sound, buffers_sound, worlds_sound, overshoot_sound, connected_of, sound_of}
 use Rattle.inbox_passes.specs.Passes.{hear_one, heard_in, receive_one, received_in, note_one, noted_in}
-use Rattle.session.specs.Calls.{times_ok, clock_after, server_time_by, scene_after, unreceived}
+use Rattle.session.specs.Calls.{times_ok, clock_after, scene_after, unreceived}
 
 -- ---- sound worlds
 
-queued_tells : (q : Queued) → queued_sound q ≡ true → SmallQueued q
+queued_tells : (q : Option QueuedSnapshot) → queued_sound q ≡ true → SmallQueued q
 unfolding queued_sound
-queued_tells Nothing h = tt
-queued_tells (Held t n) h = ltb-true n (2 ^ 24) h
+queued_tells None h = tt
+queued_tells (Some q) h = ltb-true q.handle (2 ^ 24) h
 
-queued_holds : (q : Queued) → SmallQueued q → queued_sound q ≡ true
+queued_holds : (q : Option QueuedSnapshot) → SmallQueued q → queued_sound q ≡ true
 unfolding queued_sound
-queued_holds Nothing h = refl
-queued_holds (Held t n) h = lt-ltb n (2 ^ 24) h
+queued_holds None h = refl
+queued_holds (Some q) h = lt-ltb q.handle (2 ^ 24) h
 
 weight_tells : (w : ClientWorldSimulations) → weight_sound w ≡ true → Weighed w
 unfolding weight_sound
@@ -233,8 +231,8 @@ heard_ok seconds h ms w b k = over_keeps (λ (x : Heard). offset_ok x.offset ≡
 
 -- a number that is known stays known, and an offset that is heard comes with one
 pub record Known (had : Bool) (h : Heard) : Type 0 where
-  pub kept : had ≡ true → has_id h.id ≡ true
-  pub brought : has_offset h.offset ≡ true → has_id h.id ≡ true
+  pub kept : had ≡ true → is_some h.id ≡ true
+  pub brought : is_some h.offset ≡ true → is_some h.id ≡ true
 
 heard_known : (seconds : Float) (h : Heard) (ms : List Message) (had : Bool) → Each Bounded ms → Known had h → Known had (over (hear_one seconds) h ms)
 heard_known seconds h ms had b k = over_keeps (Known had) (hear_one seconds) one h ms b k
@@ -278,9 +276,9 @@ settled_slots : (s : Settings) (c : ClockState) (h : Heard) → length c.samples
 unfolding settled_of
 settled_slots s c h e = go h.offset
   where
-    go : (o : Offset) → length (sample_of s (named_of c h.id) o).samples ≡ 64
-    go NoOffset = e
-    go (Seconds x) =
+    go : (o : Option Float) → length (sample_of s (named_of c h.id) o).samples ≡ 64
+    go None = e
+    go (Some x) =
         let n = named_of c h.id in
         filled_slots s n (held_of n ++ (x ∷ [])) (omega (arith, length-append (held_of n) (x ∷ []), held_short n))
 
@@ -303,10 +301,10 @@ module _ (s : Session) (delta seconds : Float) (inbox : List ℕ) where
       (heard_in seconds inbox (listen_of s.clock)) (ap length (ticked_samples s.clock s.settings.period delta) ∙ e)
 
   -- what is heard knows the client's number where the clock did, and where there is an offset
-  known : Known (has_id s.clock.id) (heard_in seconds inbox (listen_of s.clock))
+  known : Known (is_some s.clock.id) (heard_in seconds inbox (listen_of s.clock))
   unfolding heard_in
   known =
-      heard_known seconds (listen_of s.clock) (messages_of inbox) (has_id s.clock.id) (messages_bounded inbox)
+      heard_known seconds (listen_of s.clock) (messages_of inbox) (is_some s.clock.id) (messages_bounded inbox)
       (record { kept = λ z. z; brought = λ z. absurd (false≢true z) })
 
   -- a clock that is ready stays so
@@ -315,13 +313,13 @@ module _ (s : Session) (delta seconds : Float) (inbox : List ℕ) where
       ready_stays s.settings s.clock delta (heard_in seconds inbox (listen_of s.clock)) h (known.kept (ready_id s.clock.offset s.clock.id h))
 
   -- the first offset comes with an id
-  pub clock_after_first : s.clock.offset ≡ NoOffset → has_offset (clock_after s delta seconds inbox).offset ≡ true
+  pub clock_after_first : s.clock.offset ≡ None → is_some (clock_after s delta seconds inbox).offset ≡ true
       → ready_of (clock_after s delta seconds inbox) ≡ true
   clock_after_first e h = first_offset_ready s.settings s.clock delta (heard_in seconds inbox (listen_of s.clock)) e known.brought h
 
 -- the server's time with the lag is within 2^34
-pub server_within : (c : Settings) (o : Offset) (seconds : Float) → passes_of c ≡ true → Within seconds (2 ^ 32) → offset_ok o ≡ true
-    → Within (add binary64 (server_time_by (server_seconds_of o seconds) seconds) c.lag) (2 ^ 34)
+pub server_within : (c : Settings) (o : Option Float) (seconds : Float) → passes_of c ≡ true → Within seconds (2 ^ 32) → offset_ok o ≡ true
+    → Within (add binary64 (unwrap_or (server_seconds_of o seconds) seconds) c.lag) (2 ^ 34)
 unfolding le
 server_within c o seconds pass w ok = go o ok
   where
@@ -331,9 +329,9 @@ server_within c o seconds pass w ok = go o ok
         within_of_tests c.lag (fin true 15 (pos 2)) (fin false 15 (pos 2)) 60 l.number (refl, refl) (refl, refl)
         (float_le_trans (fin true 15 (pos 2)) zero64 c.lag tt l.low) l.high
 
-    go : (o : Offset) → offset_ok o ≡ true → Within (add binary64 (server_time_by (server_seconds_of o seconds) seconds) c.lag) (2 ^ 34)
-    go NoOffset k = within_widen (add binary64 seconds c.lag) (2 ^ 32 + 60) (2 ^ 34) (lit≤ tt) (add_within seconds c.lag (2 ^ 32) 60 (lit< tt) w lag)
-    go (Seconds x) k = within_widen (add binary64 (add binary64 seconds x) c.lag) (2 ^ 32 + 2 ^ 33 + 60) (2 ^ 34) (lit≤ tt)
+    go : (o : Option Float) → offset_ok o ≡ true → Within (add binary64 (unwrap_or (server_seconds_of o seconds) seconds) c.lag) (2 ^ 34)
+    go None k = within_widen (add binary64 seconds c.lag) (2 ^ 32 + 60) (2 ^ 34) (lit≤ tt) (add_within seconds c.lag (2 ^ 32) 60 (lit< tt) w lag)
+    go (Some x) k = within_widen (add binary64 (add binary64 seconds x) c.lag) (2 ^ 32 + 2 ^ 33 + 60) (2 ^ 34) (lit≤ tt)
         (add_within (add binary64 seconds x) c.lag (2 ^ 32 + 2 ^ 33) 60 (lit< tt)
         (add_within seconds x (2 ^ 32) (2 ^ 33) (lit< tt) w (sample_within x k)) lag)
 

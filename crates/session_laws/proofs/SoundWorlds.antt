@@ -15,8 +15,8 @@ use Rattle.command.proofs.Soundness.{new_sound, inserted_sound, moved_sound, res
 use Rattle.command.proofs.Ledger.{inserted_stamp, moved_stamp, emptied_stamp}
 use Rattle.simulation.specs.declared.Simulation.{Simulation}
 use Rattle.simulation.specs.World.{Done, Load, next_stamp, scheduled_of, step_of, resets_back, kept_of, flushed_of, reset_of, load_of}
-use Rattle.client.specs.declared.Queued.{Queued}
-use Rattle.client.specs.declared.Queued.TheVariants.{Nothing, Held}
+use Rattle.client.specs.declared.QueuedSnapshot.{QueuedSnapshot}
+use Rattle.std.specs.Prelude.{Option, Some, None}
 use Rattle.client.specs.declared.Snapshots.{Snapshots}
 use Rattle.client.specs.declared.Published.{Published}
 use Rattle.client.specs.declared.ClientWorldSimulations.{ClientWorldSimulations}
@@ -30,9 +30,9 @@ use Rattle.client_receive.specs.Receive.{offered_base, offered_side, received_of
 -- ---- what stays sound
 
 -- a queued snapshot's handle is within 24 bits
-abbrev pub SmallQueued : Queued → Type 0
-SmallQueued Nothing = Unit {0}
-SmallQueued (Held t h) = h < 2 ^ 24
+abbrev pub SmallQueued : Option QueuedSnapshot → Type 0
+SmallQueued None = Unit {0}
+SmallQueued (Some q) = q.handle < 2 ^ 24
 
 -- the old world is initialised only if the new one is; the test says that the left world is new
 abbrev pub InitOrder : Bool → Bool → Bool → Type 0

@@ -19,8 +19,8 @@ use Rattle.simulation.specs.World.{reset_of, load_of}
 use Rattle.client.specs.declared.FastforwardingHealth.TheVariants.{Healthy, Obsolete, Overshot}
 use Rattle.client.specs.declared.ReconciliationStatus.{ReconciliationStatus}
 use Rattle.client.specs.declared.ReconciliationStatus.TheVariants.{AwaitingSnapshot, Fastforwarding, Blending}
-use Rattle.client.specs.declared.Queued.{Queued}
-use Rattle.client.specs.declared.Queued.TheVariants.{Nothing, Held}
+use Rattle.client.specs.declared.QueuedSnapshot.{QueuedSnapshot}
+use Rattle.std.specs.Prelude.{Option, Some, None}
 use Rattle.client.specs.declared.ClientWorldSimulations.{ClientWorldSimulations}
 use Rattle.client.specs.declared.Scene.{Scene}
 use Rattle.client.specs.Sides.{new_side_of, old_side_of, world_of, with_world, with_worlds, world_stamp_of, old_stamp_of, new_stamp_of, Played, still}
@@ -36,9 +36,9 @@ use Rattle.session_laws.proofs.TraceStamps.{done_words, reset_marks}
 use Rattle.session_laws.proofs.TraceSteps.{lag_in, then_scene, then_marks, Simulates, shown}
 
 -- a queued snapshot's stamp has 16 bits
-abbrev pub QueuedFits : Queued → Type 0
-QueuedFits Nothing = Unit {0}
-QueuedFits (Held t h) = t.0 < 65536
+abbrev pub QueuedFits : Option QueuedSnapshot → Type 0
+QueuedFits None = Unit {0}
+QueuedFits (Some q) = q.stamp.0 < 65536
 
 -- the stamps of a client's worlds, and of the snapshot that waits, have 16 bits
 pub record Fitting (w : ClientWorldSimulations) : Type 0 where
@@ -47,9 +47,9 @@ pub record Fitting (w : ClientWorldSimulations) : Type 0 where
   pub queued : QueuedFits w.snapshots.queued
 
 -- from where the catching up starts: how far behind the snapshot is that is loaded, or else the new world
-abbrev pub gap_by : Queued → ℕ → ℕ → ℕ
-gap_by Nothing o b = b
-gap_by (Held t h) o b = lag_of o t.0
+abbrev pub gap_by : Option QueuedSnapshot → ℕ → ℕ → ℕ
+gap_by None o b = b
+gap_by (Some q) o b = lag_of o q.stamp.0
 
 -- ---- what a status tells
 
@@ -90,7 +90,7 @@ overshot_far w h e =
 -- ---- what a frame opens with
 
 -- the old stamp stays, the new one is where the catching up starts, and no step word is put
-pub record Opens (q : Queued) (s : Scene) (p : Played) : Type 0 where
+pub record Opens (q : Option QueuedSnapshot) (s : Scene) (p : Played) : Type 0 where
   pub old : (old_stamp_of p.scene.worlds).0 ≡ (old_stamp_of s.worlds).0
   pub fitting : Fitting s.worlds → QueuedFits q → Fitting p.scene.worlds
   pub behind : Fitting s.worlds → gap_by q (old_stamp_of s.worlds).0 (lag_in s.worlds) ≤ 32767
@@ -98,12 +98,12 @@ pub record Opens (q : Queued) (s : Scene) (p : Played) : Type 0 where
   pub steps : p.scene.steps ≡ s.steps
   pub none : (y : ℕ) → steps_on y p.words ≡ 0
 
-opens_still : (s : Scene) → Opens Nothing s (still s)
+opens_still : (s : Scene) → Opens None s (still s)
 unfolding steps_on
 opens_still s = record { old = refl; fitting = λ h k. h; behind = λ f l. refl; steps = refl; none = λ y. refl }
 
 -- the weight moves on
-opens_blended : (s : Scene) (p : Float) → Opens Nothing s (still (blended_on s p))
+opens_blended : (s : Scene) (p : Float) → Opens None s (still (blended_on s p))
 unfolding blended_on steps_on old_stamp_of new_stamp_of old_side_of new_side_of world_of
 opens_blended s p =
     record { old = refl; fitting = λ h k. record { old = h.old; new = h.new; queued = h.queued }; behind = λ f l. refl; steps = refl; none = λ y. refl }
@@ -121,13 +121,13 @@ module _ (w : ClientWorldSimulations) (b : CommandBuffer) (W : Simulation) where
   pub loaded_new : (x : ℕ) → new_stamp_of (with_world (readied_with w x b) x W) ≡ world_stamp_of W
   loaded_new x = loaded_by x (eqb x 0) refl
 
-  queue_by : (x : ℕ) (c : Bool) → eqb x 0 ≡ c → (with_world (readied_with w x b) x W).snapshots.queued ≡ Nothing
+  queue_by : (x : ℕ) (c : Bool) → eqb x 0 ≡ c → (with_world (readied_with w x b) x W).snapshots.queued ≡ None
   unfolding with_world readied_with
   queue_by x true e = simp e
   queue_by x false e = simp e
 
   -- nothing is queued
-  pub loaded_queue : (x : ℕ) → (with_world (readied_with w x b) x W).snapshots.queued ≡ Nothing
+  pub loaded_queue : (x : ℕ) → (with_world (readied_with w x b) x W).snapshots.queued ≡ None
   loaded_queue x = queue_by x (eqb x 0) refl
 
   swap_by : (c : Bool) → eqb w.new 0 ≡ c → old_stamp_of (with_world (readied_with w (old_side_of w) b) (old_side_of w) W) ≡ new_stamp_of w
@@ -170,10 +170,12 @@ unfolding load_of
 load_stamp w b t = moved_stamp b t
 
 -- a load whose worlds have these stamps
-opens_loaded : (s : Scene) (x : ℕ) (t : Timestamp) (h : ℕ) → (old_stamp_of (loaded_of s x t h).scene.worlds).0 ≡ (old_stamp_of s.worlds).0
-    → new_stamp_of (loaded_of s x t h).scene.worlds ≡ t →
-    (loaded_of s x t h).scene.worlds.snapshots.queued ≡ Nothing → Opens (Held t h) s (loaded_of s x t h)
-opens_loaded s x t h eo en eq =
+opens_loaded : (s : Scene) (x : ℕ) (a : QueuedSnapshot) → (old_stamp_of (loaded_of s x a.stamp a.handle).scene.worlds).0 ≡ (old_stamp_of s.worlds).0
+    → new_stamp_of (loaded_of s x a.stamp a.handle).scene.worlds ≡ a.stamp → (loaded_of s x a.stamp a.handle).scene.worlds.snapshots.queued ≡ None
+    → Opens (Some a) s (loaded_of s x a.stamp a.handle)
+opens_loaded s x a eo en eq =
+    let t : Timestamp = a.stamp in
+    let h : ℕ = a.handle in
     let n : (new_stamp_of (loaded_of s x t h).scene.worlds).0 ≡ t.0 = ap (λ (u : Timestamp). u.0) en in
     record {
       old = eo;
@@ -184,32 +186,36 @@ opens_loaded s x t h eo en eq =
     }
 
 -- into the side that was old, where the stamps are equal
-opens_swapped : (s : Scene) (t : Timestamp) (h : ℕ) → (new_stamp_of s.worlds).0 ≡ (old_stamp_of s.worlds).0
-    → Opens (Held t h) s (loaded_of s (old_side_of s.worlds) t h)
-opens_swapped s t h e =
+opens_swapped : (s : Scene) (a : QueuedSnapshot) → (new_stamp_of s.worlds).0 ≡ (old_stamp_of s.worlds).0
+    → Opens (Some a) s (loaded_of s (old_side_of s.worlds) a.stamp a.handle)
+opens_swapped s a e =
+    let t : Timestamp = a.stamp in
+    let h : ℕ = a.handle in
     let x : ℕ = old_side_of s.worlds in
     let b : CommandBuffer = rest_of s.worlds.base t in
     let W : Simulation = (load_of (world_of s.worlds x) b t).world in
     let q : (loaded_of s x t h).scene.worlds ≡ with_world (readied_with s.worlds x b) x W = loaded_worlds s x t h in
-    opens_loaded s x t h
+    opens_loaded s x a
     (ap (λ (w : ClientWorldSimulations). (old_stamp_of w).0) q ∙ ap (λ (u : Timestamp). u.0) (swapped_old s.worlds b W) ∙ e)
     (ap new_stamp_of q ∙ loaded_new s.worlds b W x ∙ load_stamp (world_of s.worlds x) b t)
     (ap (λ (w : ClientWorldSimulations). w.snapshots.queued) q ∙ loaded_queue s.worlds b W x)
 
 -- into the new side
-opens_obsolete : (s : Scene) (t : Timestamp) (h : ℕ) → Opens (Held t h) s (loaded_of s (new_side_of s.worlds) t h)
-opens_obsolete s t h =
+opens_obsolete : (s : Scene) (a : QueuedSnapshot) → Opens (Some a) s (loaded_of s (new_side_of s.worlds) a.stamp a.handle)
+opens_obsolete s a =
+    let t : Timestamp = a.stamp in
+    let h : ℕ = a.handle in
     let x : ℕ = new_side_of s.worlds in
     let b : CommandBuffer = rest_of s.worlds.base t in
     let W : Simulation = (load_of (world_of s.worlds x) b t).world in
     let q : (loaded_of s x t h).scene.worlds ≡ with_world (readied_with s.worlds x b) x W = loaded_worlds s x t h in
-    opens_loaded s x t h
+    opens_loaded s x a
     (ap (λ (w : ClientWorldSimulations). (old_stamp_of w).0) q ∙ ap (λ (u : Timestamp). u.0) (loaded_old s.worlds b W))
     (ap new_stamp_of q ∙ loaded_new s.worlds b W x ∙ load_stamp (world_of s.worlds x) b t)
     (ap (λ (w : ClientWorldSimulations). w.snapshots.queued) q ∙ loaded_queue s.worlds b W x)
 
 -- the new world is reset, where it is more than half a cycle behind
-opens_reset : (s : Scene) → (Fitting s.worlds → 32767 < lag_in s.worlds) → Opens Nothing s (reset_new s)
+opens_reset : (s : Scene) → (Fitting s.worlds → 32767 < lag_in s.worlds) → Opens None s (reset_new s)
 unfolding reset_new
 opens_reset s far =
     let x : ℕ = new_side_of s.worlds in
@@ -230,21 +236,22 @@ opens_reset s far =
       none = λ y. ap (steps_on y) (done_words s x d) ∙ reset_marks y (world_of s.worlds x) (old_stamp_of s.worlds) x;
     }
 
-opens_by : (t : ReconciliationStatus) (q : Queued) (p : Float) (s : Scene) → status_of s.worlds ≡ t → Opens (loads_of t q) s (opened_of t (loads_of t q) p s)
+opens_by : (t : ReconciliationStatus) (q : Option QueuedSnapshot) (p : Float) (s : Scene) → status_of s.worlds ≡ t
+    → Opens (loads_of t q) s (opened_of t (loads_of t q) p s)
 unfolding opened_of loaded_queued
-opens_by AwaitingSnapshot Nothing p s e = opens_still s
-opens_by AwaitingSnapshot (Held t h) p s e = opens_swapped s t h (awaiting_equal s.worlds e)
+opens_by AwaitingSnapshot None p s e = opens_still s
+opens_by AwaitingSnapshot (Some q) p s e = opens_swapped s q (awaiting_equal s.worlds e)
 opens_by (Blending t) q p s e = opens_blended s p
 opens_by (Fastforwarding Healthy) q p s e = opens_still s
-opens_by (Fastforwarding Obsolete) Nothing p s e = opens_still s
-opens_by (Fastforwarding Obsolete) (Held t h) p s e = opens_obsolete s t h
+opens_by (Fastforwarding Obsolete) None p s e = opens_still s
+opens_by (Fastforwarding Obsolete) (Some q) p s e = opens_obsolete s q
 opens_by (Fastforwarding Overshot) q p s e = opens_reset s (λ f. overshot_far s.worlds f e)
 
 pub opens : (rules : Rules) (s : Scene) → Opens (snapshot_of s) s (frame_opened rules s)
 unfolding frame_opened snapshot_of
 opens rules s = opens_by (status_of s.worlds) s.worlds.snapshots.queued rules.progress s refl
 
-loads_fit : (t : ReconciliationStatus) (q : Queued) → QueuedFits q → QueuedFits (loads_of t q)
+loads_fit : (t : ReconciliationStatus) (q : Option QueuedSnapshot) → QueuedFits q → QueuedFits (loads_of t q)
 loads_fit AwaitingSnapshot q h = h
 loads_fit (Blending t) q h = tt
 loads_fit (Fastforwarding Healthy) q h = tt

@@ -12,7 +12,7 @@ use Rattle.tape.specs.Words.{count_if, steps_on}
 use Rattle.tape.proofs.Counting.{steps_on-append, steps_on_publish, steps_on_none, steps_on_mix}
 use Rattle.simulation.specs.World.{next_stamp, step_of}
 use Rattle.client.specs.declared.ClientWorldSimulations.{ClientWorldSimulations}
-use Rattle.client.specs.declared.LastStamp.{LastStamp}
+use Rattle.std.specs.Prelude.{Option}
 use Rattle.client.specs.declared.Scene.{Scene}
 use Rattle.client.specs.Sides.{new_side_of, old_side_of, world_of, with_world, old_stamp_of, new_stamp_of, Played, still, and_then}
 use Rattle.client_publish.specs.Publish.{with_state}
@@ -285,7 +285,7 @@ pub record Shows (s : Scene) (p : Played) : Type 0 where
   pub steps : p.scene.steps ≡ s.steps
   pub none : (y : ℕ) → steps_on y p.words ≡ 0
 
-shows_state : (s : Scene) (l : LastStamp) (ws : List ℕ) → ((y : ℕ) → steps_on y ws ≡ 0) → Shows s (record { scene = with_state s l; words = ws })
+shows_state : (s : Scene) (l : Option Timestamp) (ws : List ℕ) → ((y : ℕ) → steps_on y ws ≡ 0) → Shows s (record { scene = with_state s l; words = ws })
 unfolding new_side_of old_stamp_of new_stamp_of old_side_of world_of
 shows_state s l ws h = record { side = refl; old = refl; new = refl; snapshots = refl; weight = refl; steps = refl; none = h }
 

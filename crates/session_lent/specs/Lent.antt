@@ -1,11 +1,9 @@
 -- A session over arrays that are lent: its numbers go by value, and beside them stand the samples of its clock and the slots of its three buffers. What it
 -- means is document 01's session, and whether it is sound is read as under "Turned down by the session". Definitions only. Assumes nothing.
-use Rattle.std.specs.Prelude.{Bool, true, cond, List, eqb, Float}
+use Rattle.std.specs.Prelude.{ℕ, Bool, true, cond, List, eqb, Float, Option, is_none}
 use Rattle.std.specs.Float.Ieee.{eq}
 use Rattle.timestamp.specs.Floats.{zero64, one64, between}
 use Rattle.settings.specs.declared.Settings.{Settings}
-use Rattle.clocksync.specs.declared.Offset.{Offset}
-use Rattle.clocksync.specs.declared.ClientId.{ClientId}
 use Rattle.clocksync.specs.Clock.{both_of}
 use Rattle.clocksync.specs.declared.Clock.{Clock}
 use Rattle.clock_samples.specs.declared.ClockNumbers.{ClockNumbers}
@@ -18,7 +16,6 @@ use Rattle.client.specs.declared.ClientWorldSimulations.{ClientWorldSimulations}
 use Rattle.session_state.specs.declared.Stage.{Stage}
 use Rattle.session_state.specs.declared.Stage.TheVariants.{SyncingClock, SyncingInitialState, Ready}
 use Rattle.session_state.specs.declared.Session.{Session}
-use Rattle.session_state.specs.Sound.{no_offset}
 use Rattle.session_lent.specs.declared.World.{World}
 use Rattle.session_lent.specs.declared.Worlds.{Worlds}
 use Rattle.session_lent.specs.declared.State.{State}
@@ -92,7 +89,7 @@ unfoldable pub init_in : Worlds → Bool
 init_in w = cond (old_in w).init (new_in w).init true
 
 -- offset and id present once worlds exist, no offset before
-abbrev pub connected_in : Stage → Offset → ClientId → Bool
-connected_in SyncingClock o i = no_offset o
+abbrev pub connected_in : Stage → Option Float → Option ℕ → Bool
+connected_in SyncingClock o i = is_none o
 connected_in SyncingInitialState o i = both_of o i
 connected_in Ready o i = both_of o i

@@ -6,13 +6,13 @@ ghost use Rattle.std.specs.Prelude.{◌≡◌, length};
 ghost use Rattle.refusals.specs.Limits.{sample_room};
 ghost use Rattle.clocksync.specs.Clock.{both_of};
 ghost use Rattle.command.specs.Slots.{AllSlots};
-ghost use Rattle.session_state.specs.Sound.{no_offset, buffers_sound, worlds_sound, sound_of};
+ghost use Rattle.session_state.specs.Sound.{buffers_sound, worlds_sound, sound_of};
 ghost use Rattle.session_lent.specs.Lent.{world_at, worlds_at, session_at, world_in, worlds_in, clock_in, state_in};
 ghost use Rattle.session_lent.specs.Lent.{old_in, new_in, weight_in, init_in, connected_in};
 
-use client::{ClientWorldSimulations, Published, Queued, Snapshots};
+use client::{ClientWorldSimulations, Published, Snapshots};
 use clock_samples::ClockNumbers;
-use clocksync::{ClientId, Clock, Offset};
+use clocksync::Clock;
 use command::CommandBuffer;
 use session_state::{Session, Stage};
 use settings::Settings;
@@ -98,34 +98,18 @@ pub(crate) fn init_sound(w: Worlds) -> bool
 }
 
 // Whether there is an offset and the client's number is known.
-pub fn is_ready(offset: Offset, id: ClientId) -> bool
+pub fn is_ready(offset: Option<f64>, id: Option<u32>) -> bool
     ensures { result ≡ both_of offset id }
 {
-    match offset {
-        Offset::NoOffset => false,
-        Offset::Seconds(_) => match id {
-            ClientId::NoId => false,
-            ClientId::Id(_) => true,
-        },
-    }
-}
-
-// There is no offset.
-pub(crate) fn no_offset(offset: Offset) -> bool
-    ensures { result ≡ no_offset offset }
-{
-    match offset {
-        Offset::NoOffset => true,
-        Offset::Seconds(_) => false,
-    }
+    offset.is_some() && id.is_some()
 }
 
 // Once worlds exist there is an offset and an id; before, there is no offset.
-pub(crate) fn connected(stage: Stage, offset: Offset, id: ClientId) -> bool
+pub(crate) fn connected(stage: Stage, offset: Option<f64>, id: Option<u32>) -> bool
     ensures { result ≡ connected_in stage offset id }
 {
     match stage {
-        Stage::SyncingClock => no_offset(offset),
+        Stage::SyncingClock => offset.is_none(),
         Stage::SyncingInitialState => is_ready(offset, id),
         Stage::Ready => is_ready(offset, id),
     }
@@ -158,9 +142,7 @@ pub(crate) fn worlds_sound(w: Worlds, left: &[u64], right: &[u64], base: &[u64])
     if !buffers_sound(w, left, right, base) {
         return false;
     }
-    let s = w.snapshots;
-    let q = s.queued;
-    if !session_state::queued_sound(q) {
+    if !session_state::queued_sound(w.snapshots.queued) {
         return false;
     }
     if !weight_sound(w) {
@@ -188,10 +170,7 @@ pub fn is_sound(
     if !clock_samples::sound(samples, c, settings) {
         return false;
     }
-    let stage = s.stage;
-    let offset = c.offset;
-    let id = c.id;
-    if !connected(stage, offset, id) {
+    if !connected(s.stage, c.offset, c.id) {
         return false;
     }
     if !worlds_sound(s.worlds, left, right, base) {
@@ -237,13 +216,11 @@ pub fn worlds_of(w: ClientWorldSimulations) -> Worlds
 pub(crate) fn clock_of(c: Clock) -> ClockNumbers
     ensures { result ≡ clock_in c }
 {
-    let offset = c.offset;
-    let id = c.id;
     ClockNumbers {
-        offset,
+        offset: c.offset,
         len: c.len,
         timer: c.timer,
-        id,
+        id: c.id,
     }
 }
 
@@ -313,19 +290,16 @@ pub fn session_of(
 ) -> Session
     ensures { result ≡ session_at settings s samples left right base }
 {
-    let stage = s.stage;
     let c = s.clock;
-    let offset = c.offset;
-    let id = c.id;
     Session {
         settings,
-        stage,
+        stage: s.stage,
         clock: Clock {
-            offset,
+            offset: c.offset,
             samples,
             len: c.len,
             timer: c.timer,
-            id,
+            id: c.id,
         },
         worlds: worlds_with(s.worlds, left, right, base),
         overshoot: s.overshoot,

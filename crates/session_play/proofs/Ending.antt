@@ -3,6 +3,7 @@ use mathlib.Core.Path.{◌≡◌, ap, ◌∙◌}
 use mathlib.Core.List.{List}
 use Prim.Native.Nat.{ℕ}
 use lib.Ieee.{Float}
+use Rattle.timestamp.specs.declared.Timestamp.{Timestamp}
 use Rattle.timestamp.specs.Floats.{tween_of}
 use Rattle.timestamp.specs.Timestamps.{bits_of}
 use Rattle.settings.specs.declared.Settings.{Settings}
@@ -12,7 +13,7 @@ use Rattle.command.specs.Entries.{Entry}
 use Rattle.command.specs.Buffer.{moved_of}
 use Rattle.command.specs.Slots.{buffer_at}
 use Rattle.slots.specs.After.{Leaves}
-use Rattle.client.specs.declared.LastStamp.{LastStamp}
+use Rattle.std.specs.Prelude.{Option}
 use Rattle.client.specs.declared.Published.{Published}
 use Rattle.client.specs.declared.Snapshots.{Snapshots}
 use Rattle.client.specs.Sides.{old_stamp_of}
@@ -30,7 +31,7 @@ module _ (c : Settings) (w : Worlds) (s : Snapshots) (a : Advanced) where
   abbrev pub published_in : Published
   published_in = record { before = a.numbers.before; after = a.numbers.after; time = w.published.time }
 
-  pub ends : {b b₁ : List Entry} {x y : World} {t u : Float} {p : Published} {lag k gone : ℕ} {q : LastStamp}
+  pub ends : {b b₁ : List Entry} {x y : World} {t u : Float} {p : Published} {lag k gone : ℕ} {q : Option Timestamp}
       → t ≡ tween_of a.overshoot c.timestep → u ≡ shaped_of c.method t → p ≡ displayed_of published_in u → lag ≡ bits_of (lag_frame_count_of c)
       → q ≡ revised_of s.lastqueued a.numbers.old lag
       → Leaves (moved_of (buffer_at b a.books.base w.midpoint) a.numbers.old).buffer gone a.books.base b₁ k a.numbers.old

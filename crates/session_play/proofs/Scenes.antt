@@ -14,7 +14,8 @@ use Rattle.command.specs.Entries.{Entry}
 use Rattle.command.specs.Slots.{buffer_at, Lent}
 use Rattle.command.proofs.Soundness.{sound_tells}
 use Rattle.client.specs.declared.Ledger.{Ledger}
-use Rattle.client.specs.declared.Queued.{Queued}
+use Rattle.client.specs.declared.QueuedSnapshot.{QueuedSnapshot}
+use Rattle.std.specs.Prelude.{Option}
 use Rattle.client.specs.declared.Snapshots.{Snapshots}
 use Rattle.client.specs.declared.Scene.{Scene}
 use Rattle.client.specs.Ledgers.{empty_ledger, with_held, closed_of}
@@ -65,7 +66,7 @@ arrived_by_lem w a hx hy = λ i. record {
 }
 
 -- the numbers
-pub numbers_by : (w : Worlds) (q : Queued) {o n : World} → o ≡ old_in w → n ≡ new_in w
+pub numbers_by : (w : Worlds) (q : Option QueuedSnapshot) {o n : World} → o ≡ old_in w → n ≡ new_in w
     → ◌≡◌ {A = Numbers} (record {
       old = o.stamp;
       new = n.stamp;
@@ -106,7 +107,7 @@ module _ (n : Numbers) (v : Books) where
 
 -- ---- left and right by old and new
 
-module _ (w : Worlds) (q : Queued) (v : Books) where
+module _ (w : Worlds) (q : Option QueuedSnapshot) (v : Books) where
   left_by_lem : (x : Bool) → eqb w.new 0 ≡ x → left_in (numbers_in w q) v ≡ holding_in w.left v.left
   unfolding old_in new_in
   left_by_lem true e = rw e refl
@@ -186,7 +187,7 @@ worlds_ready h =
     never : false ≡ true → {A : Type 0} → A
     never e {A} = let z : ◌≡◌ {A = ℕ} 0 1 = cc in absurd (omega arith)
 
-module _ (w : Worlds) (q : Queued) (a : Arrived) {l r b : List Entry} {n : Numbers} (hn : n ≡ numbers_in w q) where
+module _ (w : Worlds) (q : Option QueuedSnapshot) (a : Arrived) {l r b : List Entry} {n : Numbers} (hn : n ≡ numbers_in w q) where
   -- and then be played
   pub ready_lent : Ready a (midpoints_of w) l r b → AllLent n (books_of a) w.midpoint l r b
   ready_lent h =

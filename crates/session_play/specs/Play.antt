@@ -1,12 +1,12 @@
 -- The worlds of a session over lent slots, before and after its frames: document 01, "src/client.rs". What each is as a scene is said by the definitions of
 -- arrivals, play and frames. Definitions only. Assumes nothing.
-use Rattle.std.specs.Prelude.{ℕ, false, List, ◌≡◌, length}
+use Rattle.std.specs.Prelude.{ℕ, false, List, ◌≡◌, length, Option}
 use Rattle.refusals.specs.Limits.{buffer_room}
 use Rattle.settings.specs.declared.Settings.{Settings}
 use Rattle.command.specs.Entries.{Entry}
 use Rattle.command.specs.Slots.{Lent}
 use Rattle.client.specs.declared.Ledger.{Ledger}
-use Rattle.client.specs.declared.Queued.{Queued}
+use Rattle.client.specs.declared.QueuedSnapshot.{QueuedSnapshot}
 use Rattle.client.specs.declared.Snapshots.{Snapshots}
 use Rattle.client.specs.Ledgers.{empty_ledger, with_held}
 use Rattle.client_numbers.specs.declared.Numbers.{Numbers}
@@ -70,7 +70,7 @@ arrived_in w a =
 -- ---- what is played
 
 -- the numbers of worlds where q is queued
-abbrev pub numbers_in : Worlds → Queued → Numbers
+abbrev pub numbers_in : Worlds → Option QueuedSnapshot → Numbers
 numbers_in w q =
     record {
       old = (old_in w).stamp;

@@ -13,7 +13,7 @@ ghost use Rattle.session_play.specs.Play.{WorldsLent, opened_with, unarrived_of,
 ghost use Rattle.session_play.specs.Play.{left_in, right_in, Ends};
 
 use arrivals::{Arrived, Midpoints};
-use client::{Ledger, Published, Queued, Snapshots, ledgers};
+use client::{Ledger, Published, QueuedSnapshot, Snapshots, ledgers};
 use client_numbers::Numbers;
 use client_publish::ending;
 use frames::Advanced;
@@ -103,26 +103,21 @@ pub(crate) fn holding(w: World, l: Ledger) -> World
 }
 
 // The numbers of worlds with a queued snapshot, before anything is played.
-pub fn numbers_of(w: Worlds, queued: Queued) -> Numbers
+pub fn numbers_of(w: Worlds, queued: Option<QueuedSnapshot>) -> Numbers
     ensures { result ≡ numbers_in w queued }
 {
     let o = session_lent::old_world(w);
     let n = session_lent::new_world(w);
-    let old = o.stamp;
-    let new = n.stamp;
-    let p = w.published;
-    let before = p.before;
-    let after = p.after;
     Numbers {
-        old,
-        new,
+        old: o.stamp,
+        new: n.stamp,
         oldinit: o.init,
         newinit: n.init,
         side: w.new,
         queued,
         weight: w.weight,
-        before,
-        after,
+        before: w.published.before,
+        after: w.published.after,
         steps: 0,
     }
 }
@@ -130,7 +125,7 @@ pub fn numbers_of(w: Worlds, queued: Queued) -> Numbers
 // The frames of an update and its skip, after its commands, by the server's time with the lag.
 pub fn advance(
     w: Worlds,
-    queued: Queued,
+    queued: Option<QueuedSnapshot>,
     a: Arrived,
     overshoot: f64,
     delta: f64,

@@ -1,8 +1,7 @@
 -- Report: document 01, "Kept, and written anew", and refusals 20 and 21. Where a session stands.
 -- Definitions only. Assumes nothing.
-use Rattle.std.specs.Prelude.{ℕ, cond, eqb}
+use Rattle.std.specs.Prelude.{ℕ, cond, eqb, None}
 use Rattle.refusals.specs.Refusals.{accepted, report_refusal_by}
-use Rattle.client.specs.declared.DisplayTime.TheVariants.{NotDisplayed}
 use Rattle.client.specs.declared.ReconciliationStatus.TheVariants.{AwaitingSnapshot}
 use Rattle.client.specs.Sides.{old_stamp_of, new_stamp_of}
 use Rattle.client.specs.Status.{status_of}
@@ -16,7 +15,7 @@ use Rattle.session_report.specs.declared.ReportAnswer.{ReportAnswer}
 
 -- a refused report: stage SyncingClock, status AwaitingSnapshot, all else 0 or none
 abbrev pub unreported : ℕ → ReportAnswer
-unreported n = record { refusal = n; stage = SyncingClock; status = AwaitingSnapshot; old = record { 0 = 0 }; new = record { 0 = 0 }; time = NotDisplayed }
+unreported n = record { refusal = n; stage = SyncingClock; status = AwaitingSnapshot; old = record { 0 = 0 }; new = record { 0 = 0 }; time = None }
 
 -- where a session with worlds stands
 abbrev pub reported_of : Session → ReportAnswer

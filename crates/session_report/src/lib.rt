@@ -4,7 +4,7 @@
 ghost use Rattle.std.specs.Prelude.{◌≡◌};
 ghost use Rattle.session_report.specs.Report.{unreported, reported_of, report_of};
 
-use client::{DisplayTime, ReconciliationStatus, sides, status};
+use client::{ReconciliationStatus, sides, status};
 use session_state::{Session, Stage};
 use timestamp::Timestamp;
 
@@ -16,23 +16,20 @@ pub struct ReportAnswer {
     pub status: ReconciliationStatus,
     pub old: Timestamp,
     pub new: Timestamp,
-    pub time: DisplayTime,
+    pub time: Option<f64>,
 }
 
 // A refused report.
 fn refuse_report(refusal: u32) -> ReportAnswer
     ensures { result ≡ unreported refusal }
 {
-    let stage = Stage::SyncingClock;
-    let status = ReconciliationStatus::AwaitingSnapshot;
-    let time = DisplayTime::NotDisplayed;
     ReportAnswer {
         refusal,
-        stage,
-        status,
+        stage: Stage::SyncingClock,
+        status: ReconciliationStatus::AwaitingSnapshot,
         old: Timestamp(0),
         new: Timestamp(0),
-        time,
+        time: None,
     }
 }
 
@@ -41,17 +38,13 @@ fn report_worlds(session: Session) -> ReportAnswer
     ensures { result ≡ reported_of session }
 {
     let worlds = session.worlds;
-    let stage = session.stage;
-    let status = status::infer_current_reconciliation_status(worlds);
-    let published = worlds.published;
-    let time = published.time;
     ReportAnswer {
         refusal: refusals::ACCEPTED,
-        stage,
-        status,
+        stage: session.stage,
+        status: status::infer_current_reconciliation_status(worlds),
         old: sides::last_completed_timestamp(worlds),
         new: sides::new_timestamp(worlds),
-        time,
+        time: worlds.published.time,
     }
 }
 

@@ -5,8 +5,7 @@
 ghost use Rattle.std.specs.Prelude.{◌≡◌};
 ghost use Rattle.session_stage.specs.Stage.{synced_of, stage_after};
 
-use client::DisplayTime;
-use clocksync::{Clock, ServerTime};
+use clocksync::Clock;
 use session_state::{Session, Stage};
 use timestamp::Timestamp;
 
@@ -14,14 +13,12 @@ use timestamp::Timestamp;
 pub fn synced(session: Session, clock: Clock, seconds: f64) -> Session
     ensures { result ≡ synced_of session clock seconds }
 {
-    let settings = session.settings;
-    let time = clock.server_seconds(seconds);
     if clock.is_ready() {
-        let ServerTime::At(server) = time else {
+        let Some(server) = clock.server_seconds(seconds) else {
             return session;
         };
         let stage = Stage::SyncingInitialState;
-        let worlds = client::new(Timestamp::from_seconds(server, settings.timestep));
+        let worlds = client::new(Timestamp::from_seconds(server, session.settings.timestep));
         return session_state::session_with(session, stage, clock, worlds, 0.0);
     }
     let mut s = session;
@@ -30,15 +27,11 @@ pub fn synced(session: Session, clock: Clock, seconds: f64) -> Session
 }
 
 // The stage after an update: Ready once there is something to display.
-pub fn stage_after(stage: Stage, time: DisplayTime) -> Stage
+pub fn stage_after(stage: Stage, time: Option<f64>) -> Stage
     ensures { result ≡ stage_after stage time }
 {
     match stage {
-        Stage::SyncingInitialState => match time {
-            DisplayTime::NotDisplayed => Stage::SyncingInitialState,
-            DisplayTime::DisplayedAt(_) => Stage::Ready,
-        },
-        Stage::SyncingClock => Stage::SyncingClock,
-        Stage::Ready => Stage::Ready,
+        Stage::SyncingInitialState if time.is_some() => Stage::Ready,
+        _ => stage,
     }
 }

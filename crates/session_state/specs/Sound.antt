@@ -1,17 +1,14 @@
 -- A sound session: document 01, "Turned down by the session", the sentence "Sound".
 -- Definitions only. Assumes nothing.
-use Rattle.std.specs.Prelude.{Bool, true, false, cond, ◌&&◌, eqb, ltb, Float}
+use Rattle.std.specs.Prelude.{Bool, true, false, cond, ◌&&◌, eqb, ltb, Float, Option, Some, None, is_none}
 use Rattle.std.specs.Float.Ieee.{eq}
 use Rattle.timestamp.specs.Floats.{zero64, one64, between}
 use Rattle.refusals.specs.Limits.{handle_room}
 use Rattle.settings.specs.Settings.{passes_of}
 use Rattle.clocksync.specs.declared.Clock.{Clock}
-use Rattle.clocksync.specs.declared.Offset.{Offset}
-use Rattle.clocksync.specs.declared.Offset.TheVariants.{NoOffset, Seconds}
+use Rattle.client.specs.declared.QueuedSnapshot.{QueuedSnapshot}
 use Rattle.clocksync.specs.Clock.{sound_clock, ready_of}
 use Rattle.command.specs.Soundness.{sound_buffer}
-use Rattle.client.specs.declared.Queued.{Queued}
-use Rattle.client.specs.declared.Queued.TheVariants.{Nothing, Held}
 use Rattle.client.specs.declared.ClientWorldSimulations.{ClientWorldSimulations}
 use Rattle.client.specs.Sides.{new_side_of, old_side_of, world_of, old_stamp_of, new_stamp_of}
 use Rattle.session_state.specs.declared.Stage.{Stage}
@@ -19,9 +16,9 @@ use Rattle.session_state.specs.declared.Stage.TheVariants.{SyncingClock, Syncing
 use Rattle.session_state.specs.declared.Session.{Session}
 
 -- a queued snapshot's handle is within 24 bits
-unfoldable pub queued_sound : Queued → Bool
-queued_sound Nothing = true
-queued_sound (Held t h) = ltb h handle_room
+unfoldable pub queued_sound : Option QueuedSnapshot → Bool
+queued_sound None = true
+queued_sound (Some q) = ltb q.handle handle_room
 
 -- blend weight 0 to 1, and 0 where stamps differ
 unfoldable pub weight_sound : ClientWorldSimulations → Bool
@@ -43,14 +40,9 @@ worlds_sound w = buffers_sound w && (queued_sound w.snapshots.queued && (weight_
 unfoldable pub overshoot_sound : Float → Float → Bool
 overshoot_sound overshoot timestep = between zero64 timestep overshoot
 
--- there is no offset
-abbrev pub no_offset : Offset → Bool
-no_offset NoOffset = true
-no_offset (Seconds x) = false
-
 -- offset and id present once worlds exist, no offset before
 unfoldable pub connected_of : Stage → Clock → Bool
-connected_of SyncingClock c = no_offset c.offset
+connected_of SyncingClock c = is_none c.offset
 connected_of SyncingInitialState c = ready_of c
 connected_of Ready c = ready_of c
 

@@ -7,8 +7,8 @@ ghost use Rattle.command.specs.Soundness.{sound_buffer};
 ghost use Rattle.session_state.specs.Session.{has_worlds, is_ready, starting_of, session_with, scene_of};
 ghost use Rattle.session_state.specs.Sound.{queued_sound, weight_sound, init_sound, buffers_sound, worlds_sound, overshoot_sound, connected_of, sound_of};
 
-use client::{ClientWorldSimulations, Queued, Scene, ledgers, sides};
-use clocksync::{Clock, Offset};
+use client::{ClientWorldSimulations, QueuedSnapshot, Scene, ledgers, sides};
+use clocksync::Clock;
 use command::CommandBuffer;
 use settings::Settings;
 
@@ -53,13 +53,10 @@ pub fn is_ready(stage: Stage) -> bool
 }
 
 // A queued snapshot's handle is within 24 bits.
-pub fn queued_sound(q: Queued) -> bool
-    ensures { result ≡ queued_sound q }
+pub fn queued_sound(queued: Option<QueuedSnapshot>) -> bool
+    ensures { result ≡ queued_sound queued }
 {
-    match q {
-        Queued::Nothing => true,
-        Queued::Held { stamp: _, handle } => handle < refusals::HANDLE_ROOM,
-    }
+    queued.is_none_or(|q| q.handle < refusals::HANDLE_ROOM)
 }
 
 // The blend weight is 0 to 1, and 0 where the stamps differ.
@@ -120,12 +117,10 @@ pub(crate) fn buffers_sound(w: ClientWorldSimulations) -> bool
 pub(crate) fn worlds_sound(w: ClientWorldSimulations) -> bool
     ensures { result ≡ worlds_sound w }
 {
-    let s = w.snapshots;
-    let q = s.queued;
     if !buffers_sound(w) {
         return false;
     }
-    if !queued_sound(q) {
+    if !queued_sound(w.snapshots.queued) {
         return false;
     }
     if !weight_sound(w) {
@@ -148,12 +143,8 @@ pub fn overshoot_sound(overshoot: f64, timestep: f64) -> bool
 pub(crate) fn connected(stage: Stage, c: Clock) -> bool
     ensures { result ≡ connected_of stage c }
 {
-    let offset = c.offset;
     match stage {
-        Stage::SyncingClock => match offset {
-            Offset::NoOffset => true,
-            Offset::Seconds(_) => false,
-        },
+        Stage::SyncingClock => c.offset.is_none(),
         Stage::SyncingInitialState => c.is_ready(),
         Stage::Ready => c.is_ready(),
     }

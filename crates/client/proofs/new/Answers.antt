@@ -5,4 +5,4 @@ use Rattle.client.proofs.new.Goals as goal
 
 pub returns : goal.returns
 unfolding of_bits
-returns c = new_is _ c.new-left.ensures c.new-right.ensures c.new.ensures
+returns c = new_is _ c.new.ensures c.new-2.ensures c.new-3.ensures

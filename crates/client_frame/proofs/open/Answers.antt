@@ -3,12 +3,12 @@ use Rattle.std.proofs.Common.{refl}
 use Rattle.client_frame.proofs.Framing.{queued_none, queued_held, opened_awaiting, opened_blending, opened_healthy, opened_obsolete, opened_overshot}
 use Rattle.client_frame.proofs.open.Goals as goal
 
-pub returns-in-Nothing : goal.returns-in-Nothing
-returns-in-Nothing c = opened_awaiting _ _ _ _ c.in-AwaitingSnapshot.is refl (queued_none _ _ _ _ _ c.in-Nothing.is)
+pub returns-in-None : goal.returns-in-None
+returns-in-None c = opened_awaiting _ _ _ _ c.in-AwaitingSnapshot.is refl (queued_none _ _ _ _ _ c.in-None.is)
 
-pub returns-in-Held : goal.returns-in-Held
-returns-in-Held c =
-    opened_awaiting _ _ _ _ c.in-AwaitingSnapshot.is c.old_side.ensures (queued_held _ _ _ c.in-Held.is c.load_snapshot.ensures)
+pub returns-in-Some : goal.returns-in-Some
+returns-in-Some c =
+    opened_awaiting _ _ _ _ c.in-AwaitingSnapshot.is c.old_side.ensures (queued_held _ _ _ c.in-Some.is c.load_snapshot.ensures)
 
 pub returns-in-Blending : goal.returns-in-Blending
 returns-in-Blending c = opened_blending _ _ _ _ _ _ c.in-Blending.is c.blend_on.ensures
@@ -16,14 +16,14 @@ returns-in-Blending c = opened_blending _ _ _ _ _ _ c.in-Blending.is c.blend_on.
 pub returns-in-Healthy : goal.returns-in-Healthy
 returns-in-Healthy c = opened_healthy _ _ _ _ c.in-Fastforwarding.is _ _ c.in-Healthy.is
 
-pub returns-in-Nothing-q : goal.returns-in-Nothing-q
-returns-in-Nothing-q c =
-    opened_obsolete _ _ _ _ c.in-Fastforwarding.is c.in-Obsolete.is refl (queued_none _ _ _ _ _ c.in-Nothing-q.is)
+pub returns-in-None-q : goal.returns-in-None-q
+returns-in-None-q c =
+    opened_obsolete _ _ _ _ c.in-Fastforwarding.is c.in-Obsolete.is refl (queued_none _ _ _ _ _ c.in-None-q.is)
 
-pub returns-in-Held-q : goal.returns-in-Held-q
-returns-in-Held-q c =
+pub returns-in-Some-q : goal.returns-in-Some-q
+returns-in-Some-q c =
     opened_obsolete _ _ _ _ c.in-Fastforwarding.is c.in-Obsolete.is c.new_side.ensures
-    (queued_held _ _ _ c.in-Held-q.is c.load_snapshot-in-Held-q.ensures)
+    (queued_held _ _ _ c.in-Some-q.is c.load_snapshot-in-Some-q.ensures)
 
 pub returns-in-Overshot : goal.returns-in-Overshot
 returns-in-Overshot c =

@@ -3,4 +3,4 @@ use Rattle.client_numbers.proofs.Coding.{shown_is}
 use Rattle.client_numbers.proofs.shown.Goals as goal
 
 pub returns : goal.returns
-returns c = shown_is _ _ c.state_of-after.ensures
+returns c = shown_is _ _ c.state_of.ensures

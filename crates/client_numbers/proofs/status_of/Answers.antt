@@ -4,23 +4,23 @@ use lib.Ieee.{of_bits}
 use Rattle.client_numbers.proofs.Coding.{status_is}
 use Rattle.client_numbers.proofs.status_of.Goals as goal
 
-pub returns-then-t : goal.returns-then-t
+pub returns-then-n-2 : goal.returns-then-n-2
 unfolding of_bits
-returns-then-t c = status_is _ (eq-eqb _ _ c.if-new-old.true) c.if-t.true refl refl
+returns-then-n-2 c = status_is _ (eq-eqb _ _ c.if-n.true) c.if-n-2.true refl refl
 
-pub returns-then-new-old : goal.returns-then-new-old
+pub returns-then-n : goal.returns-then-n
 unfolding of_bits
-returns-then-new-old c = status_is _ (eq-eqb _ _ c.if-new-old.true) c.if-t.false refl refl
+returns-then-n c = status_is _ (eq-eqb _ _ c.if-n.true) c.if-n-2.false refl refl
 
 pub returns-then-is_overshot : goal.returns-then-is_overshot
-returns-then-is_overshot c = status_is _ (ne_eqb _ _ c.if-new-old.false) refl (sym c.is_overshot.ensures ∙ c.if-is_overshot.true) refl
+returns-then-is_overshot c = status_is _ (ne_eqb _ _ c.if-n.false) refl (sym c.is_overshot.ensures ∙ c.if-is_overshot.true) refl
 
 pub returns-then-is_snapshot_newer : goal.returns-then-is_snapshot_newer
 returns-then-is_snapshot_newer c =
-    status_is _ (ne_eqb _ _ c.if-new-old.false) refl (sym c.is_overshot.ensures ∙ c.if-is_overshot.false)
+    status_is _ (ne_eqb _ _ c.if-n.false) refl (sym c.is_overshot.ensures ∙ c.if-is_overshot.false)
     (sym c.is_snapshot_newer.ensures ∙ c.if-is_snapshot_newer.true)
 
 pub returns : goal.returns
 returns c =
-    status_is _ (ne_eqb _ _ c.if-new-old.false) refl (sym c.is_overshot.ensures ∙ c.if-is_overshot.false)
+    status_is _ (ne_eqb _ _ c.if-n.false) refl (sym c.is_overshot.ensures ∙ c.if-is_overshot.false)
     (sym c.is_snapshot_newer.ensures ∙ c.if-is_snapshot_newer.false)

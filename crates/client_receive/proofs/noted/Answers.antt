@@ -1,9 +1,8 @@
--- `noted` meets its contract. Assumes nothing.
-use Rattle.client_receive.proofs.Arrivals.{noted_none, noted_held}
+-- `noted` meets its contract: the queued snapshot decides. Assumes nothing.
+use Rattle.std.proofs.Common.{rules}
+use Rattle.client_receive.specs.Receive.{noted_of}
 use Rattle.client_receive.proofs.noted.Goals as goal
 
-pub returns-in-Nothing : goal.returns-in-Nothing
-returns-in-Nothing c = noted_none _ c.in-Nothing.is
-
-pub returns-in-Held : goal.returns-in-Held
-returns-in-Held c = noted_held _ c.in-Held.is
+pub returns : goal.returns
+unfolding noted_of
+returns c = search rules

@@ -1,11 +1,11 @@
 -- `sound` meets its contract: the tests one by one, as for a clock by value. Assumes nothing.
-use mathlib.Core.Path.{◌≡◌, sym, ap, ◌∙◌}
+use Rattle.std.proofs.Common.{◌≡◌, ◌∙◌, rules}
 use native.Mathlib.Omega.{arith}
 use Prim.Native.Nat.{◌<◌}
 use Rattle.settings.specs.Settings.{samples_to_store_of}
 use Rattle.timestamp.proofs.Tests.{fails, holds}
 use Rattle.clocksync.specs.declared.Clock.{Clock}
-use Rattle.clocksync.specs.Clock.{offset_ok, sound_clock}
+use Rattle.clocksync.specs.Clock.{offset_ok}
 use Rattle.clocksync.proofs.Verdict.{verdict_full, verdict_many, verdict_samples, verdict_timer, verdict_offset}
 use Rattle.clock_samples.specs.Numbers.{clock_at}
 use Rattle.clock_samples.proofs.sound.Goals as goal
@@ -34,20 +34,10 @@ returns-then-not-timer_sound c =
     verdict_timer c.args.settings clock below c.if-n-gt-MOST_SAMPLES.false (holds c.if-not-all_sound.false c.all_sound.ensures)
     (fails c.if-not-timer_sound.true c.timer_sound.ensures)
 
-pub returns-in-NoOffset : goal.returns-in-NoOffset
-returns-in-NoOffset c =
+pub returns : goal.returns
+returns c =
     let clock : Clock = clock_at c.args.samples.now c.args.c in
     let below : clock.len < samples_to_store_of c.args.settings = omega (arith, c.samples_to_store.ensures, c.if-n-samples_to_store.false) in
-    let last : offset_ok clock.offset ≡ sound_clock c.args.settings clock = verdict_offset c.args.settings clock below c.if-n-gt-MOST_SAMPLES.false (holds
-    c.if-not-all_sound.false c.all_sound.ensures)
-    (holds c.if-not-timer_sound.false c.timer_sound.ensures) in
-    sym (ap offset_ok c.in-NoOffset.is) ∙ last
-
-pub returns-in-Seconds : goal.returns-in-Seconds
-returns-in-Seconds c =
-    let clock : Clock = clock_at c.args.samples.now c.args.c in
-    let below : clock.len < samples_to_store_of c.args.settings = omega (arith, c.samples_to_store.ensures, c.if-n-samples_to_store.false) in
-    let last : offset_ok clock.offset ≡ sound_clock c.args.settings clock = verdict_offset c.args.settings clock below c.if-n-gt-MOST_SAMPLES.false (holds
-    c.if-not-all_sound.false c.all_sound.ensures)
-    (holds c.if-not-timer_sound.false c.timer_sound.ensures) in
-    c.sample_sound.ensures ∙ sym (ap offset_ok c.in-Seconds.is) ∙ last
+    let offset : c.is_none_or.result ≡ offset_ok clock.offset = search rules in
+    offset ∙ verdict_offset c.args.settings clock below c.if-n-gt-MOST_SAMPLES.false (holds c.if-not-all_sound.false c.all_sound.ensures)
+    (holds c.if-not-timer_sound.false c.timer_sound.ensures)

@@ -1,18 +1,12 @@
 -- `connected` meets its contract, by the stage. Assumes nothing.
-use mathlib.Core.Path.{ap, sym, ◌∙◌}
+use Rattle.std.proofs.Common.{ap, sym, ◌∙◌, rules}
 use Rattle.session_state.specs.declared.Stage.{Stage}
-use Rattle.session_state.specs.Sound.{connected_of, no_offset}
+use Rattle.session_state.specs.Sound.{connected_of}
 use Rattle.session_state.proofs.connected.Goals as goal
 
-pub returns-in-NoOffset : goal.returns-in-NoOffset
+pub returns-in-SyncingClock : goal.returns-in-SyncingClock
 unfolding connected_of
-returns-in-NoOffset c =
-    sym (ap (λ (x : Stage). connected_of x c.args.c) c.in-SyncingClock.is ∙ ap no_offset c.in-NoOffset.is)
-
-pub returns-in-Seconds : goal.returns-in-Seconds
-unfolding connected_of
-returns-in-Seconds c =
-    sym (ap (λ (x : Stage). connected_of x c.args.c) c.in-SyncingClock.is ∙ ap no_offset c.in-Seconds.is)
+returns-in-SyncingClock c = search rules
 
 pub returns-in-SyncingInitialState : goal.returns-in-SyncingInitialState
 unfolding connected_of

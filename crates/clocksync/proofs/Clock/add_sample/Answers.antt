@@ -26,5 +26,5 @@ returns c =
     let l : 1 + n ≡ n + 1 = omega arith in
     let rest : take n (drop 1 all) ≡ drop 1 (take (n + 1) all) = sym (drop-take 1 n all) ∙ ap (λ (k : ℕ). drop 1 (take k all)) l in
     added_full a.settings a.self a.x full c.min-n.ensures c.laid-all.ensures
-    c.samples_to_store.ensures c.if-count-samples_to_store.false c.samples_to_discard.ensures c.mean_of-mean.ensures c.synced-offset.ensures
-    (c.laid-rest.ensures ∙ ap laid_out (ap (λ (k : ℕ). take k (drop 1 all)) m ∙ rest))
+    c.samples_to_store.ensures c.if-count-samples_to_store.false c.samples_to_discard.ensures c.mean_of-mean.ensures c.synced.ensures
+    (c.laid.ensures ∙ ap laid_out (ap (λ (k : ℕ). take k (drop 1 all)) m ∙ rest))

@@ -1,5 +1,5 @@
 -- `is_sound` meets its contract: the tests one by one. Assumes nothing.
-use mathlib.Core.Path.{sym, ap, ◌∙◌}
+use Rattle.std.proofs.Common.{◌≡◌, ◌∙◌, rules}
 use native.Mathlib.Omega.{arith}
 use Prim.Native.Nat.{◌<◌}
 use Rattle.settings.specs.Settings.{samples_to_store_of}
@@ -31,17 +31,10 @@ returns-then-not-timer_sound c =
     verdict_timer a.settings a.self below c.if-n-gt-MOST_SAMPLES.false (holds c.if-not-samples_sound.false c.samples_sound.ensures)
     (fails c.if-not-timer_sound.true c.timer_sound.ensures)
 
-pub returns-in-NoOffset : goal.returns-in-NoOffset
-returns-in-NoOffset c =
+pub returns : goal.returns
+returns c =
     let below : c.args.self.len < samples_to_store_of c.args.settings = omega (arith, c.samples_to_store.ensures, c.if-n-samples_to_store.false) in
     let a = c.args in
-    sym (ap offset_ok c.in-NoOffset.is) ∙ verdict_offset a.settings a.self below c.if-n-gt-MOST_SAMPLES.false
-    (holds c.if-not-samples_sound.false c.samples_sound.ensures) (holds c.if-not-timer_sound.false c.timer_sound.ensures)
-
-pub returns-in-Seconds : goal.returns-in-Seconds
-returns-in-Seconds c =
-    let below : c.args.self.len < samples_to_store_of c.args.settings = omega (arith, c.samples_to_store.ensures, c.if-n-samples_to_store.false) in
-    let a = c.args in
-    c.sample_sound.ensures ∙ sym (ap offset_ok c.in-Seconds.is)
-    ∙ verdict_offset a.settings a.self below c.if-n-gt-MOST_SAMPLES.false (holds c.if-not-samples_sound.false c.samples_sound.ensures)
+    let offset : c.is_none_or.result ≡ offset_ok a.self.offset = search rules in
+    offset ∙ verdict_offset a.settings a.self below c.if-n-gt-MOST_SAMPLES.false (holds c.if-not-samples_sound.false c.samples_sound.ensures)
     (holds c.if-not-timer_sound.false c.timer_sound.ensures)

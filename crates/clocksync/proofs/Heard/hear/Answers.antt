@@ -4,4 +4,4 @@ use Rattle.clocksync.proofs.Heard.hear.Goals as goal
 
 pub returns : goal.returns
 unfolding heard_of
-returns c = rw (c.first_id-first.ensures, c.met_other-other.ensures, c.measured_offset.ensures)
+returns c = rw (c.first_id.ensures, c.met_other.ensures, c.measured_offset.ensures)

@@ -14,6 +14,6 @@ pub returns : goal.returns
 returns c = syncs_at _ _ _ _ _ _ _
     c.is_ready.ensures
     c.if-not-is_ready.false
-    c.in-Seconds.is
+    c.in-Some.is
     c.from_seconds-stamp.ensures
     c.start.ensures
