@@ -1,10 +1,9 @@
 -- One command that arrives at three buffers whose slots are lent, over plain values: the numbers beside them, the scene, and what may arrive after it.
 -- Assumes nothing.
-use mathlib.Core.Path.{◌≡◌, refl, sym, ap, subst, ◌∙◌}
+use mathlib.Core.Path.{◌≡◌, refl, sym, ap, subst}
 use mathlib.Core.Bool.{Bool, true}
 use mathlib.Core.List.{List}
-use Prim.Native.Nat.{ℕ, ◌+◌, ◌≤◌}
-use native.Mathlib.Omega.{arith}
+use Prim.Native.Nat.{ℕ, ◌+◌}
 use Rattle.timestamp.specs.declared.Timestamp.{Timestamp}
 use Rattle.command.specs.Entries.{Entry, plain_entry}
 use Rattle.command.specs.declared.Outcome.{Outcome}
@@ -15,36 +14,14 @@ use Rattle.command.proofs.Soundness.{sound_tells}
 use Rattle.slots_insert.specs.Insertions.{Offers, Offered}
 use Rattle.slots_insert.proofs.Offering.{offered_lent, taken_clean, still_clean}
 use Rattle.simulation.specs.World.{world_with, scheduled_of}
-use Rattle.client.specs.declared.Ledger.{Ledger}
 use Rattle.client.specs.declared.Scene.{Scene}
-use Rattle.client.specs.Ledgers.{with_held, takes}
 use Rattle.client_receive.specs.Inner.{any_full}
 use Rattle.client_receive.specs.Receive.{also_full, received_of}
 use Rattle.client_receive.proofs.Arrivals.{received_is}
 use Rattle.arrivals.specs.declared.Arrived.{Arrived}
 use Rattle.arrivals.specs.declared.Midpoints.{Midpoints}
 use Rattle.arrivals.specs.Arrivals.{arrived_at, received_at, Ready, Receives}
-use Rattle.arrivals.specs.Inner.{cleaned_by, holds_more, full_after, arrived_by, Few}
-
--- ---- the numbers
-
--- an insertion puts in one entry at most
-pub taken_few : (o : Outcome) → taken_by o ≤ 1
-taken_few Taken = omega arith
-taken_few OutOfRange = omega arith
-taken_few Full = omega arith
-
--- a ledger that counts what was put in, and how many are held then
-pub holds_more_lem : (l : Ledger) {c : Ledger} {n k : ℕ} → n ≡ k → c ≡ takes l n → with_held c (l.held + n) ≡ holds_more l k
-holds_more_lem l {c} {n} {k} en ec = (λ i. with_held (ec i) (l.held + n)) ∙ (λ i. holds_more l (en i))
-
--- the numbers, by the calls that make them
-pub arrived_by_lem : (a : Arrived) (b l r : Outcome) {p q : Ledger} {n : ℕ} {f x y z : Bool}
-    → p ≡ holds_more a.left (taken_by l) → q ≡ holds_more a.right (taken_by r) → n ≡ taken_by b → f ≡ full_after a.full b l r
-    → x ≡ cleaned_by a.leftclean l → y ≡ cleaned_by a.rightclean r → z ≡ cleaned_by a.baseclean b
-    → ◌≡◌ {A = Arrived} (record { left = p; right = q; base = a.base + n; full = f; leftclean = x; rightclean = y; baseclean = z }) (arrived_by a b l r)
-arrived_by_lem a b l r ep eq en ef ex ey ez =
-    λ i. record { left = ep i; right = eq i; base = a.base + en i; full = ef i; leftclean = ex i; rightclean = ey i; baseclean = ez i }
+use Rattle.arrivals.specs.Inner.{cleaned_by, arrived_by, Few}
 
 -- ---- what is asked
 

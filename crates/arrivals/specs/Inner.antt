@@ -1,6 +1,6 @@
 -- What inner functions of the code ask and give. No contract of a call cites this module.
 -- Definitions only. Assumes nothing.
-use Rattle.std.specs.Prelude.{ℕ, ◌+◌, ◌≤◌, Bool, true, ◌||◌, List, ◌≡◌}
+use Rattle.std.specs.Prelude.{ℕ, ◌+◌, ◌≤◌, Bool, true, ◌||◌, List, ◌≡◌, Ok, Err}
 use Rattle.refusals.specs.Limits.{buffer_room}
 use Rattle.command.specs.Entries.{Entry, entry_of, plain_entry}
 use Rattle.command.specs.declared.Outcome.{Outcome}
@@ -10,8 +10,8 @@ use Rattle.client.specs.declared.Ledger.{Ledger}
 use Rattle.client.specs.declared.Scene.{Scene}
 use Rattle.client.specs.Ledgers.{with_held, takes}
 use Rattle.client_receive.specs.Receive.{full_by}
-use Rattle.inbox.specs.declared.Message.{Message}
-use Rattle.inbox.specs.declared.Message.TheVariants.{Command, Snapshot, Clock, BadTime, WrongWord, CutShort}
+use Rattle.inbox.specs.declared.Message.TheVariants.{Command, Snapshot, Clock}
+use Rattle.inbox.specs.Inbox.{Reading}
 use Rattle.inbox_passes.specs.Passes.{receive_one}
 use Rattle.arrivals.specs.declared.Arrived.{Arrived}
 use Rattle.arrivals.specs.declared.Midpoints.{Midpoints}
@@ -52,16 +52,14 @@ pub record Few (a : Arrived) : Type 0 where
   pub base : a.base ≤ buffer_room
 
 -- a message that is a command makes an entry with no spare bit set
-abbrev pub plain_message : Message → Bool
-plain_message (Command t h) = plain_entry (entry_of t h)
-plain_message (Snapshot t h) = true
-plain_message (Clock i t u) = true
-plain_message BadTime = true
-plain_message WrongWord = true
-plain_message CutShort = true
+abbrev pub plain_message : Reading → Bool
+plain_message (Ok (Command t h)) = plain_entry (entry_of t h)
+plain_message (Ok (Snapshot t h)) = true
+plain_message (Ok (Clock i t u)) = true
+plain_message (Err e) = true
 
 -- a message was received, whatever the scene is beside the buffers and the ledgers; where it is plain, more can be
-pub record ReceivesOne (a : Arrived) (m : Message) (t : Midpoints) (l r b : List Entry) (z : Arrived) (l₁ r₁ b₁ : List Entry) : Type 0 where
+pub record ReceivesOne (a : Arrived) (m : Reading) (t : Midpoints) (l r b : List Entry) (z : Arrived) (l₁ r₁ b₁ : List Entry) : Type 0 where
   pub received : (s : Scene) → received_at s z t l₁ r₁ b₁ ≡ receive_one (received_at s a t l r b) m
   pub slots : AllSlots l₁ r₁ b₁
   pub ready : plain_message m ≡ true → Ready z t l₁ r₁ b₁

@@ -10,7 +10,7 @@ ghost use Rattle.arrivals.specs.Inner.{cleaned_by, holds_more, full_after, arriv
 
 use client::{Ledger, ledgers};
 use command::Outcome;
-use inbox::{Message, reader};
+use inbox::{Message, Reader, Reading};
 use timestamp::Timestamp;
 
 // The worlds' ledgers, where `held` is the count of the world's buffer, and the base's count; whether a buffer that takes a command was
@@ -51,26 +51,17 @@ pub(crate) fn take(l: Ledger, o: Outcome) -> Ledger
     ensures { result ≡ holds_more l (taken_by o) }
 {
     let n = client_receive::taken_by(o);
-    let held = l.held + n;
-    let mut t = ledgers::count_taken(l, n);
-    t.held = held;
-    t
+    Ledger {
+        held: l.held + n,
+        ..ledgers::count_taken(l, n)
+    }
 }
 
 // Whether one of three insertions found its buffer full, or one did before.
 pub(crate) fn any_full(before: bool, b: Outcome, l: Outcome, r: Outcome) -> bool
     ensures { result ≡ full_after before b l r }
 {
-    if before {
-        return true;
-    }
-    if client_receive::is_full(b) {
-        return true;
-    }
-    if client_receive::is_full(l) {
-        return true;
-    }
-    client_receive::is_full(r)
+    before || client_receive::is_full(b) || client_receive::is_full(l) || client_receive::is_full(r)
 }
 
 // The numbers after the insertions into the base, the left and the right buffer.
@@ -113,18 +104,18 @@ pub fn receive_command(
 // A command is received; any other message is passed over.
 pub(crate) fn receive_one(
     a: Arrived,
-    m: Message,
+    message: Reading,
     t: Midpoints,
     left: &mut [u64],
     right: &mut [u64],
     base: &mut [u64],
 ) -> Arrived
     requires { Ready a t left.old right.old base.old }
-    ensures { ReceivesOne a m t left.old right.old base.old result
+    ensures { ReceivesOne a message t left.old right.old base.old result
         left.new right.new base.new }
 {
-    match m {
-        Message::Command { stamp, handle } => {
+    match message {
+        Ok(Message::Command { stamp, handle }) => {
             receive_command(a, command::entry_of(stamp, handle), t, left, right, base)
         }
         _ => a,
@@ -145,12 +136,8 @@ pub fn receive(
         left.new right.new base.new }
 {
     let mut a = start;
-    let mut at: usize = 0;
-    while at < words.len() {
-        let s = reader::message_from(words, at);
-        let m = s.message;
-        a = receive_one(a, m, t, left, right, base);
-        at = s.next;
+    for message in Reader::new(words) {
+        a = receive_one(a, message, t, left, right, base);
     }
     a
 }

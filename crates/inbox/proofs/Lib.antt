@@ -1,7 +1,5 @@
-pub mod Words
-pub mod Times
-pub mod Messages
+pub mod Steps
 pub mod Passes
-pub mod Readers
 pub mod Bounds
-pub mod Others
+pub mod Messages
+pub mod Times

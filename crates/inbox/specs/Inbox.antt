@@ -1,21 +1,27 @@
 -- The words of an inbox as document 01 has them under "Inbox and tape". A word is a natural number below 2 ^ 32. Definitions only. Assumes nothing.
-use Rattle.std.specs.Prelude.{ℕ, zero, suc, ◌+◌, ◌-◌, ◌*◌, ◌/◌, ◌%◌, ◌^◌, Bool, true, false, cond, ◌&&◌, ◌||◌, List, [], ◌∷◌, length, drop, ltb, eqb, Float}
+use Rattle.std.specs.Prelude.{ℕ, zero, suc, ◌+◌, ◌-◌, ◌*◌, ◌/◌, ◌%◌, ◌^◌, Bool, cond, ◌&&◌, List, [], ◌∷◌, length, drop, ltb, eqb, Float, Result, Ok, Err}
+use Rattle.std.specs.List.{list_any}
 use Rattle.std.specs.Float.{binary64}
 use Rattle.std.specs.Float.Ieee.{of_bits}
 use Rattle.timestamp.specs.Floats.{time_ok}
 use Rattle.refusals.specs.Limits.{handle_room}
+use Rattle.refusals.specs.declared.Refusal.{Refusal}
+use Rattle.refusals.specs.declared.Refusal.TheVariants.{Word, Cut, ClockTime}
 use Rattle.timestamp.specs.declared.Timestamp.{Timestamp}
-use Rattle.inbox.specs.declared.Word.{Word}
-use Rattle.inbox.specs.declared.Word.TheVariants.{Value, Wrong, Missing}
 use Rattle.inbox.specs.declared.Head.{Head}
-use Rattle.inbox.specs.declared.Head.TheVariants.{ForCommand, ForSnapshot, ForClock, NoHead}
-use Rattle.inbox.specs.declared.Bits.{Bits}
-use Rattle.inbox.specs.declared.Bits.TheVariants.{Are, BitsWrong, BitsCut}
-use Rattle.inbox.specs.declared.Time.{Time}
-use Rattle.inbox.specs.declared.Time.TheVariants.{At, OutOfRange}
+use Rattle.inbox.specs.declared.Head.TheVariants.{ForCommand, ForSnapshot, ForClock}
 use Rattle.inbox.specs.declared.Message.{Message}
-use Rattle.inbox.specs.declared.Message.TheVariants.{Command, Snapshot, Clock, BadTime, WrongWord, CutShort}
+use Rattle.inbox.specs.declared.Message.TheVariants.{Command, Snapshot, Clock}
 use Rattle.inbox.specs.declared.Step.{Step}
+
+-- what words say: a message, or why they say none
+abbrev pub Reading : Type 0
+Reading = Result Message Refusal
+
+-- goes on with a value; a refusal decides
+abbrev pub and_then : {A B : Type 0} → Result A Refusal → (A → Result B Refusal) → Result B Refusal
+and_then (Ok x) f = f x
+and_then (Err e) f = Err e
 
 -- ---- one word
 
@@ -36,16 +42,16 @@ abbrev pub stamp_from : ℕ → Timestamp
 stamp_from n = record { 0 = n }
 
 -- what a list of words starts with, where a word of the kind k is due: its value, a wrong word, or no word
-abbrev pub due_word_of : ℕ → ℕ → List ℕ → Word
-due_word_of k room [] = Missing
-due_word_of k room (w ∷ ws) = cond (is_word k room w) (Value (low_bits_of w)) Wrong
+abbrev pub due_word_of : ℕ → ℕ → List ℕ → Result ℕ Refusal
+due_word_of k room [] = Err Cut
+due_word_of k room (w ∷ ws) = cond (is_word k room w) (Ok (low_bits_of w)) (Err Word)
 
 -- the first word of a message: 1 command and 2 snapshot, low 16 bits stamp; 3 clock, low 28 bits client id; any other is wrong there
-abbrev pub head_of : ℕ → Head
+abbrev pub head_of : ℕ → Result Head Refusal
 head_of w =
-    cond (is_word 1 (2 ^ 16) w) (ForCommand (stamp_from (low_bits_of w)))
-    (cond (is_word 2 (2 ^ 16) w) (ForSnapshot (stamp_from (low_bits_of w)))
-    (cond (is_word 3 (2 ^ 28) w) (ForClock (low_bits_of w)) NoHead))
+    cond (is_word 1 (2 ^ 16) w) (Ok (ForCommand (stamp_from (low_bits_of w))))
+    (cond (is_word 2 (2 ^ 16) w) (Ok (ForSnapshot (stamp_from (low_bits_of w))))
+    (cond (is_word 3 (2 ^ 28) w) (Ok (ForClock (low_bits_of w))) (Err Word)))
 
 -- ---- a float of three words
 
@@ -53,82 +59,58 @@ head_of w =
 abbrev pub joined_of : ℕ → ℕ → ℕ → ℕ
 joined_of high middle low = (high * 2 ^ 28 + middle) * 2 ^ 28 + low
 
--- goes on with a word's value; a wrong or missing word decides
-abbrev pub then_bits : Word → (ℕ → Bits) → Bits
-then_bits (Value v) k = k v
-then_bits Wrong k = BitsWrong
-then_bits Missing k = BitsCut
-
--- the float that a list of words starts with, by its bits: three words of kind 5
-unfoldable pub float_bits_of : List ℕ → Bits
+-- the float that a list of words starts with, by its bits: three words of kind 5, of which the first that is wrong or missing decides
+unfoldable pub float_bits_of : List ℕ → Result ℕ Refusal
 float_bits_of ws =
-    then_bits (due_word_of 5 (2 ^ 8) ws) (λ high. then_bits (due_word_of 5 (2 ^ 28) (drop 1 ws))
-    (λ middle. then_bits (due_word_of 5 (2 ^ 28) (drop 2 ws)) (λ low. Are (joined_of high middle low))))
-
--- the time, where the test holds
-abbrev pub pick_time : Bool → Float → Time
-pick_time true x = At x
-pick_time false x = OutOfRange
+    and_then (due_word_of 5 (2 ^ 8) ws) (λ high. and_then (due_word_of 5 (2 ^ 28) (drop 1 ws))
+    (λ middle. and_then (due_word_of 5 (2 ^ 28) (drop 2 ws)) (λ low. Ok (joined_of high middle low))))
 
 -- the time that 64 bits say
-unfoldable pub inbox_time_of : ℕ → Time
-inbox_time_of n = pick_time (time_ok (of_bits binary64 n)) (of_bits binary64 n)
+unfoldable pub inbox_time_of : ℕ → Result Float Refusal
+inbox_time_of n = cond (time_ok (of_bits binary64 n)) (Ok (of_bits binary64 n)) (Err ClockTime)
 
--- a clock message of two times
-abbrev pub pick_clock : ℕ → Time → Time → Message
-pick_clock id (At s) (At t) = Clock id s t
-pick_clock id (At s) OutOfRange = BadTime
-pick_clock id OutOfRange t = BadTime
-
--- a clock message of a client id and the bits of its send time and its server time
-unfoldable pub clock_of : ℕ → ℕ → ℕ → Message
-clock_of id send server = pick_clock id (inbox_time_of send) (inbox_time_of server)
+-- a clock message of a client id and the bits of its send time and its server time, of which the first that is out of range decides
+unfoldable pub clock_of : ℕ → ℕ → ℕ → Reading
+clock_of id send server = and_then (inbox_time_of send) (λ s. and_then (inbox_time_of server) (λ t. Ok (Clock id s t)))
 
 -- ---- the first message of a list of words
 
--- a message and how many words it takes
+-- what words say, and how many they are
 pub record Front : Type 0 where
-  pub message : Message
+  pub message : Reading
   pub size : ℕ
 
--- a message m of n words
-abbrev pub front_with : Message → ℕ → Front
+-- a reading m of n words
+abbrev pub front_with : Reading → ℕ → Front
 front_with m n = record { message = m; size = n }
 
--- a message of two words, by its second; a wrong or missing word takes all the words there are, as nothing after it has a place
-abbrev pub then_handle : Word → ℕ → (ℕ → Message) → Front
-then_handle (Value h) all f = front_with (f h) 2
-then_handle Wrong all f = front_with WrongWord all
-then_handle Missing all f = front_with CutShort all
+-- the first message by its first word: a handle of 24 bits in a word of kind 4 after a command's or a snapshot's, two floats after a clock's. The first
+-- word that is wrong or missing decides
+abbrev pub by_head : Head → List ℕ → Result Front Refusal
+by_head (ForCommand s) ws = and_then (due_word_of 4 handle_room (drop 1 ws)) (λ h. Ok (front_with (Ok (Command s h)) 2))
+by_head (ForSnapshot s) ws = and_then (due_word_of 4 handle_room (drop 1 ws)) (λ h. Ok (front_with (Ok (Snapshot s h)) 2))
+by_head (ForClock id) ws = and_then (float_bits_of (drop 1 ws))
+    (λ send. and_then (float_bits_of (drop 4 ws)) (λ server. Ok (front_with (clock_of id send server) 7)))
 
--- goes on with a float's bits; a wrong or missing word takes all the words there are
-abbrev pub then_time : Bits → ℕ → (ℕ → Front) → Front
-then_time (Are b) all f = f b
-then_time BitsWrong all f = front_with WrongWord all
-then_time BitsCut all f = front_with CutShort all
-
--- the first message by its first word: a handle of 24 bits in a word of kind 4 after a command's or a snapshot's, two floats after a clock's
-abbrev pub by_head : Head → List ℕ → Front
-by_head (ForCommand s) ws = then_handle (due_word_of 4 handle_room (drop 1 ws)) (length ws) (λ h. Command s h)
-by_head (ForSnapshot s) ws = then_handle (due_word_of 4 handle_room (drop 1 ws)) (length ws) (λ h. Snapshot s h)
-by_head (ForClock id) ws = then_time (float_bits_of (drop 1 ws)) (length ws)
-    (λ send. then_time (float_bits_of (drop 4 ws)) (length ws) (λ server. front_with (clock_of id send server) 7))
-by_head NoHead ws = front_with WrongWord (length ws)
+-- a wrong or missing word takes all the words there are, n of them, as nothing after it has a place
+abbrev pub or_all : Result Front Refusal → ℕ → Front
+or_all (Ok f) n = f
+or_all (Err e) n = front_with (Err e) n
 
 -- the first message of the words w ∷ ws
 unfoldable pub front_of : ℕ → List ℕ → Front
-front_of w ws = by_head (head_of w) (w ∷ ws)
+front_of w ws = or_all (and_then (head_of w) (λ d. by_head d (w ∷ ws))) (length (w ∷ ws))
 
 -- ---- all messages of a list of words
 
 -- the messages of a list of words whose first k words belong to the message before
-unfoldable pub messages_after : ℕ → List ℕ → List Message
+unfoldable pub messages_after : ℕ → List ℕ → List Reading
 messages_after k [] = []
 messages_after zero (w ∷ ws) = (front_of w ws).message ∷ messages_after ((front_of w ws).size - 1) ws
 messages_after (suc k) (w ∷ ws) = messages_after k ws
 
 -- the messages of an inbox, in their order; a wrong word or the end inside a message is the last of them
-abbrev pub messages_of : List ℕ → List Message
+abbrev pub messages_of : List ℕ → List Reading
 messages_of ws = messages_after 0 ws
 
 -- ---- the message at a place
@@ -139,7 +121,7 @@ step_by at f = record { message = f.message; next = at + f.size }
 
 -- the step from the place at, by the words from there on; at the end, where no message is read, nothing is left
 abbrev pub step_in : ℕ → List ℕ → Step
-step_in at [] = record { message = CutShort; next = at }
+step_in at [] = record { message = Err Cut; next = at }
 step_in at (w ∷ ws) = step_by at (front_of w ws)
 
 -- the message at a place of an inbox, and the place after it
@@ -147,6 +129,5 @@ unfoldable pub read_at : List ℕ → ℕ → Step
 read_at ws at = step_in at (drop at ws)
 
 -- whether some message of a list passes a test
-abbrev pub some : (Message → Bool) → List Message → Bool
-some p [] = false
-some p (m ∷ ms) = p m || some p ms
+abbrev pub some : (Reading → Bool) → List Reading → Bool
+some p ms = list_any p ms

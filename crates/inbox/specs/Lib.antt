@@ -1,3 +1,4 @@
 pub mod Inbox
+pub mod Inner
 pub mod Reader
 pub mod Passes

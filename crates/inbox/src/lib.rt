@@ -2,238 +2,197 @@
 // `message_at` reads the message at a place, and a `Reader` goes from message to message; what an inbox is refused for is in inbox_refusal.
 #![tactic(auto)]
 
-ghost use Rattle.std.specs.Prelude.{◌≡◌, ◌+◌, ◌≤◌, ◌<◌, length, drop};
+ghost use Rattle.std.specs.Prelude.{◌≡◌, ◌+◌, ◌^◌, ◌≤◌, ◌<◌, length, drop};
+ghost use Rattle.timestamp.specs.Floats.{time_ok};
 ghost use Rattle.inbox.specs.Inbox.{due_word_of, head_of, joined_of, float_bits_of, inbox_time_of, clock_of, read_at};
+ghost use Rattle.inbox.specs.Inner.{step_of};
 
+use refusals::Refusal;
 use timestamp::Timestamp;
 
 pub mod reader;
 
-// What the words at a place say: a message, or the way in which they say none.
+pub use reader::Reader;
+
+// A message of an inbox.
 #[derive(Clone, Copy)]
 pub enum Message {
     Command { stamp: Timestamp, handle: u32 },
     Snapshot { stamp: Timestamp, handle: u32 },
     Clock { id: u32, send: f64, server: f64 },
-    // A clock message with a time that is not finite or beyond 2^32.
-    BadTime,
-    // A word of wrong kind, place or spare bits.
-    WrongWord,
-    // The words end inside the message.
-    CutShort,
 }
 
-// A message and the place after it: the end of the words where no message can follow.
+// What the words at a place say: a message, or why they say none. It is `Word` for a word of wrong kind, place or spare bits, `Cut` where the words end
+// inside the message, and `ClockTime` for a clock message with a time that is not finite or beyond 2^32.
+pub type Reading = Result<Message, Refusal>;
+
+// What the words at a place say, and the place after it: the end of the words where no message can follow.
 #[derive(Clone, Copy)]
 pub struct Step {
-    pub message: Message,
+    pub message: Reading,
     pub next: usize,
-}
-
-// What stands where a word of one kind is due.
-#[derive(Clone, Copy)]
-pub enum Word {
-    Value(u32),
-    Wrong,
-    Missing,
 }
 
 // The first word of a message.
 #[derive(Clone, Copy)]
-pub enum Head {
+enum Head {
     ForCommand(Timestamp),
     ForSnapshot(Timestamp),
     ForClock(u32),
-    NoHead,
 }
 
-// What the three words of a float say.
-#[derive(Clone, Copy)]
-pub enum Bits {
-    Are(u64),
-    BitsWrong,
-    BitsCut,
-}
+// The kind of a word is in its top 4 bits, and its value, below this, in the low 28.
+const VALUE_ROOM: u32 = 1 << 28;
+// The value of a word that has a stamp is below this: it has 16 bits.
+const STAMP_ROOM: u32 = 1 << 16;
+// The value of the first of a float's three words is below this: it has 8 bits.
+const HIGH_ROOM: u32 = 1 << 8;
 
-// A clock's time, or that its pattern is none.
-#[derive(Clone, Copy)]
-pub enum Time {
-    At(f64),
-    OutOfRange,
-}
+// The kind of a command's first word.
+const COMMAND: u32 = 1;
+// The kind of a snapshot's first word.
+const SNAPSHOT: u32 = 2;
+// The kind of a clock message's first word.
+const CLOCK: u32 = 3;
+// The kind of the word that has a handle.
+const HANDLE: u32 = 4;
+// The kind of the three words that have a float.
+const FLOAT: u32 = 5;
 
-// The message at a place, and the place after it.
+// A command and a snapshot have so many words.
+const HANDLE_WORDS: usize = 2;
+// A clock message has so many words.
+const CLOCK_WORDS: usize = 7;
+// The place in a clock message of its send time.
+const SEND_AT: usize = 1;
+// The place in a clock message of the server's time.
+const SERVER_AT: usize = 4;
+
+// The bit of a float that has its sign.
+const SIGN_BIT: u64 = 1 << 63;
+// The pattern of the infinity. Those above it, but for the sign, are of no float.
+const INFINITY: u64 = 0x7ff0_0000_0000_0000;
+
+// The message at a place, and the place after it: the end of the words after one that is wrong or missing.
+#[tactic(auto, using(crate::proofs::Steps::read_ok, crate::proofs::Steps::read_err))]
 pub(crate) fn message_at(words: &[u32], at: usize) -> Step
     requires { at < length words.now }
     ensures { result ≡ read_at words.now at }
 {
-    let all = words.len();
-    match head_of(words[at]) {
-        Head::ForCommand(stamp) => match word_at(words, at + 1, 4, refusals::HANDLE_ROOM) {
-            Word::Value(handle) => Step {
-                message: Message::Command {
-                    stamp: stamp,
-                    handle: handle,
-                },
-                next: at + 2,
-            },
-            Word::Wrong => Step {
-                message: Message::WrongWord,
-                next: all,
-            },
-            Word::Missing => Step {
-                message: Message::CutShort,
-                next: all,
-            },
+    match step_at(words, at) {
+        Ok(step) => step,
+        Err(refusal) => Step {
+            message: Err(refusal),
+            next: words.len(),
         },
-        Head::ForSnapshot(stamp) => match word_at(words, at + 1, 4, refusals::HANDLE_ROOM) {
-            Word::Value(handle) => Step {
-                message: Message::Snapshot {
-                    stamp: stamp,
-                    handle: handle,
-                },
-                next: at + 2,
-            },
-            Word::Wrong => Step {
-                message: Message::WrongWord,
-                next: all,
-            },
-            Word::Missing => Step {
-                message: Message::CutShort,
-                next: all,
-            },
-        },
-        Head::ForClock(id) => match bits_at(words, at + 1) {
-            Bits::Are(send) => match bits_at(words, at + 4) {
-                Bits::Are(server) => Step {
-                    message: clock_of(id, send, server),
-                    next: at + 7,
-                },
-                Bits::BitsWrong => Step {
-                    message: Message::WrongWord,
-                    next: all,
-                },
-                Bits::BitsCut => Step {
-                    message: Message::CutShort,
-                    next: all,
-                },
-            },
-            Bits::BitsWrong => Step {
-                message: Message::WrongWord,
-                next: all,
-            },
-            Bits::BitsCut => Step {
-                message: Message::CutShort,
-                next: all,
-            },
-        },
-        Head::NoHead => Step {
-            message: Message::WrongWord,
-            next: all,
-        },
+    }
+}
+
+// The message at a place, and the place after it, or the refusal of a wrong or missing word, after which no message has a place.
+#[tactic(auto, using(crate::proofs::Steps::clock_by))]
+fn step_at(words: &[u32], at: usize) -> Result<Step, Refusal>
+    requires { at < length words.now }
+    ensures { result ≡ step_of words.now at }
+{
+    match head_of(words[at])? {
+        Head::ForCommand(stamp) => {
+            let handle = word_at(words, at + 1, HANDLE, refusals::HANDLE_ROOM)?;
+            Ok(Step {
+                message: Ok(Message::Command { stamp, handle }),
+                next: at + HANDLE_WORDS,
+            })
+        }
+        Head::ForSnapshot(stamp) => {
+            let handle = word_at(words, at + 1, HANDLE, refusals::HANDLE_ROOM)?;
+            Ok(Step {
+                message: Ok(Message::Snapshot { stamp, handle }),
+                next: at + HANDLE_WORDS,
+            })
+        }
+        Head::ForClock(id) => {
+            let send = bits_at(words, at + SEND_AT)?;
+            let server = bits_at(words, at + SERVER_AT)?;
+            Ok(Step {
+                message: clock_of(id, send, server),
+                next: at + CLOCK_WORDS,
+            })
+        }
     }
 }
 
 // What the first word of a message says.
-fn head_of(w: u32) -> Head
-    ensures { result ≡ head_of w }
+fn head_of(word: u32) -> Result<Head, Refusal>
+    ensures { result ≡ head_of word }
 {
-    let kind = w / 268435456;
-    let rest = w % 268435456;
-    if kind == 3 {
-        return Head::ForClock(rest);
+    let value = word % VALUE_ROOM;
+    match word / VALUE_ROOM {
+        COMMAND if value < STAMP_ROOM => Ok(Head::ForCommand(Timestamp(value as u16))),
+        SNAPSHOT if value < STAMP_ROOM => Ok(Head::ForSnapshot(Timestamp(value as u16))),
+        CLOCK => Ok(Head::ForClock(value)),
+        _ => Err(Refusal::Word),
     }
-    if rest >= 65536 {
-        return Head::NoHead;
-    }
-    if kind == 1 {
-        return Head::ForCommand(Timestamp(rest as u16));
-    }
-    if kind == 2 {
-        return Head::ForSnapshot(Timestamp(rest as u16));
-    }
-    Head::NoHead
 }
 
-// The value of the word at a place, if it is of the kind and its value below room.
-fn word_at(words: &[u32], at: usize, kind: u32, room: u32) -> Word
+// The value of the word at a place, which has to be of the kind and its value below room.
+fn word_at(words: &[u32], at: usize, kind: u32, room: u32) -> Result<u32, Refusal>
     ensures { result ≡ due_word_of kind room (drop at words.now) }
 {
-    if words.len() <= at {
-        return Word::Missing;
-    }
-    let w = words[at];
-    if w / 268435456 != kind {
-        return Word::Wrong;
-    }
-    let rest = w % 268435456;
-    if rest < room {
-        Word::Value(rest)
-    } else {
-        Word::Wrong
-    }
+    let word = *words.get(at).ok_or(Refusal::Cut)?;
+    let value = word % VALUE_ROOM;
+    refusals::require(word / VALUE_ROOM == kind && value < room, Refusal::Word)?;
+    Ok(value)
 }
 
 // The bits of a float that the three words at a place say.
-fn bits_at(words: &[u32], at: usize) -> Bits
-    requires { at + 2 ≤ 9223372036854775808 }
+#[tactic(auto, using(crate::proofs::Steps::bits_by))]
+fn bits_at(words: &[u32], at: usize) -> Result<u64, Refusal>
+    requires { at + 2 ≤ 2 ^ 63 }
     ensures { result ≡ float_bits_of (drop at words.now) }
 {
-    match word_at(words, at, 5, 256) {
-        Word::Value(high) => match word_at(words, at + 1, 5, 268435456) {
-            Word::Value(middle) => match word_at(words, at + 2, 5, 268435456) {
-                Word::Value(low) => Bits::Are(join(high, middle, low)),
-                Word::Wrong => Bits::BitsWrong,
-                Word::Missing => Bits::BitsCut,
-            },
-            Word::Wrong => Bits::BitsWrong,
-            Word::Missing => Bits::BitsCut,
-        },
-        Word::Wrong => Bits::BitsWrong,
-        Word::Missing => Bits::BitsCut,
-    }
+    let high = word_at(words, at, FLOAT, HIGH_ROOM)?;
+    let middle = word_at(words, at + 1, FLOAT, VALUE_ROOM)?;
+    let low = word_at(words, at + 2, FLOAT, VALUE_ROOM)?;
+    Ok(join(high, middle, low))
 }
 
 // The 64 bits of a float: 8, 28 and 28 of them, high first.
 fn join(high: u32, middle: u32, low: u32) -> u64
-    requires fact_1 { high < 256 }
-    requires fact_2 { middle < 268435456 }
-    requires fact_3 { low < 268435456 }
+    requires high_fits { high < HIGH_ROOM }
+    requires middle_fits { middle < VALUE_ROOM }
+    requires low_fits { low < VALUE_ROOM }
     ensures { result ≡ joined_of high middle low }
 {
-    ((high as u64) * 268435456 + (middle as u64)) * 268435456 + (low as u64)
+    let room = VALUE_ROOM as u64;
+    (high as u64 * room + middle as u64) * room + low as u64
 }
 
-// A clock message, if both of its times are in range.
-fn clock_of(id: u32, send: u64, server: u64) -> Message
+// A clock message, both of whose times have to be in range.
+#[tactic(auto, unfolding(crate::specs::Inbox::clock_of))]
+fn clock_of(id: u32, send: u64, server: u64) -> Reading
     ensures { result ≡ clock_of id send server }
 {
-    match time_of(send) {
-        Time::At(s) => match time_of(server) {
-            Time::At(t) => Message::Clock {
-                id: id,
-                send: s,
-                server: t,
-            },
-            Time::OutOfRange => Message::BadTime,
-        },
-        Time::OutOfRange => Message::BadTime,
-    }
+    let send = time_of(send)?;
+    let server = time_of(server)?;
+    Ok(Message::Clock { id, send, server })
 }
 
-// The float of a pattern, if it is finite and within 2^32.
-fn time_of(bits: u64) -> Time
+// The float of a pattern, which has to be finite and within 2^32.
+#[tactic(auto, using(crate::proofs::Times::no_time, timestamp::proofs::Patterns::no_nan), unfolding(crate::specs::Inbox::inbox_time_of))]
+fn time_of(bits: u64) -> Result<f64, Refusal>
     ensures { result ≡ inbox_time_of bits }
 {
     // no float is made of a NaN's pattern: but for the sign, one is above the infinity's
-    let size = bits % 0x8000_0000_0000_0000;
-    if size > 0x7ff0_0000_0000_0000 {
-        return Time::OutOfRange;
+    if bits % SIGN_BIT > INFINITY {
+        return Err(Refusal::ClockTime);
     }
-    let x = f64::from_bits(bits);
-    if x >= -refusals::LONGEST_TIME && x <= refusals::LONGEST_TIME {
-        Time::At(x)
-    } else {
-        Time::OutOfRange
-    }
+    let time = f64::from_bits(bits);
+    refusals::require(is_time(time), Refusal::ClockTime)?;
+    Ok(time)
+}
+
+// Whether a float is within 2^32 on both sides of 0.
+fn is_time(x: f64) -> bool
+    ensures { result ≡ time_ok x }
+{
+    x >= -refusals::LONGEST_TIME && x <= refusals::LONGEST_TIME
 }

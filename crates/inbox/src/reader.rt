@@ -1,51 +1,43 @@
-// A reader of an inbox: it keeps the caller's words and a position in them, and goes from message to message. Each function takes it
-// apart; what a message is, `message_at` says of the words and a place.
-ghost use Rattle.std.specs.Prelude.{◌≡◌, ◌<◌, length};
-ghost use Rattle.inbox.specs.Inbox.{read_at};
-ghost use Rattle.inbox.specs.Reader.{reader_at, more_of, next_of, moved_to};
+// A reader of an inbox: it keeps the caller's words and a position in them, and goes from message to message. What a message is, `message_at` says of the
+// words and a place.
+ghost use Rattle.std.specs.Prelude.{◌≡◌};
+ghost use Rattle.std.specs.Iterator.{YieldsFirst, item_count};
+ghost use Rattle.inbox.specs.Inbox.{messages_of};
+ghost use Rattle.inbox.specs.Reader.{reader_at, left_in};
 
-use super::{Step, message_at};
+use super::{Reading, message_at};
 
 // The caller's words and a position in them.
-#[derive(Clone, Copy)]
+#[derive(Drop)]
 pub struct Reader<'a> {
-    pub words: &'a [u32],
-    pub at: usize,
+    words: &'a [u32],
+    at: usize,
 }
 
-// A reader at the first word.
-pub fn new<'a>(words: &'a [u32]) -> Reader<'a>
-    ensures { result ≡ reader_at words.entry 0 }
-{
-    Reader { words, at: 0 }
+impl<'a> Reader<'a> {
+    // A reader at the first word.
+    pub fn new(words: &'a [u32]) -> Reader<'a>
+        ensures { result ≡ reader_at words.entry 0 }
+    {
+        Reader { words, at: 0 }
+    }
 }
 
-// Whether words are left.
-pub fn more<'a>(r: Reader<'a>) -> bool
-    ensures { result ≡ more_of r.entry }
-{
-    r.at < r.words.len()
-}
+// The messages from the position on, in their order.
+impl<'a> Iterator for Reader<'a> {
+    type Item = Reading;
 
-// The message at the position, and the place after it.
-pub fn next<'a>(r: Reader<'a>) -> Step
-    requires { r.at < length r.words.now }
-    ensures { result ≡ next_of r.entry }
-{
-    message_at(r.words, r.at)
-}
+    ghost next_gives = { YieldsFirst left_in };
 
-// The reader of the same words at another position.
-pub fn moved<'a>(r: Reader<'a>, at: usize) -> Reader<'a>
-    ensures { result ≡ moved_to r.entry at }
-{
-    Reader { words: r.words, at }
-}
+    ghost remaining = { item_count left_in };
 
-// The message at a place of the words, and the place after it. Its parameters are plain, so that a loop over it needs no walk by hand.
-pub fn message_from(words: &[u32], at: usize) -> Step
-    requires { at < length words.now }
-    ensures { result ≡ read_at words.now at }
-{
-    next(Reader { words, at })
+    #[tactic(auto, using(crate::proofs::Messages::messages_step, crate::proofs::Messages::messages_end))]
+    fn next(&mut self) -> Option<Reading> {
+        if self.words.len() <= self.at {
+            return None;
+        }
+        let step = message_at(self.words, self.at);
+        self.at = step.next;
+        Some(step.message)
+    }
 }

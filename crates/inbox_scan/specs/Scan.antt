@@ -1,39 +1,26 @@
 -- What an inbox holds: document 01, "Inbox and tape" and "Turned down by the input". Definitions only. Assumes nothing.
-use Rattle.std.specs.Prelude.{◌≡◌, Bool, true, false, cond, List, ℕ, ltb, Float, length}
+use Rattle.std.specs.Prelude.{◌≡◌, Bool, true, false, cond, List, ℕ, ltb, Float, length, Ok, Err}
 use Rattle.refusals.specs.Limits.{most_words}
 use Rattle.timestamp.specs.declared.Timestamp.{Timestamp}
-use Rattle.inbox.specs.declared.Message.{Message}
-use Rattle.inbox.specs.declared.Message.TheVariants.{Command, Snapshot, Clock, BadTime, WrongWord, CutShort}
-use Rattle.inbox.specs.Inbox.{messages_of, some}
+use Rattle.inbox.specs.declared.Message.TheVariants.{Command, Snapshot, Clock}
+use Rattle.inbox.specs.Inbox.{Reading, messages_of, some}
 use Rattle.inbox.specs.Passes.{over}
 use Rattle.inbox_refusal.specs.Refusal.{refusal_of}
-use Rattle.inbox_passes.specs.Passes.{has_for_worlds, heard_in}
+use Rattle.inbox_passes.specs.Passes.{has_for_worlds, heard_in, keep_one}
 use Rattle.clocksync.specs.declared.Heard.{Heard}
 use Rattle.client.specs.declared.Snapshots.{Snapshots}
-use Rattle.client_receive.specs.Receive.{snapshots_of}
 use Rattle.inbox_scan.specs.declared.Scan.{Scan}
 
 -- a message is a command
-abbrev pub is_command : Message → Bool
-is_command (Command s h) = true
-is_command (Snapshot s h) = false
-is_command (Clock i s t) = false
-is_command BadTime = false
-is_command WrongWord = false
-is_command CutShort = false
+abbrev pub is_command : Reading → Bool
+is_command (Ok (Command s h)) = true
+is_command (Ok (Snapshot s h)) = false
+is_command (Ok (Clock i s t)) = false
+is_command (Err e) = false
 
 -- an inbox has a command
 unfoldable pub has_command : List ℕ → Bool
 has_command words = some is_command (messages_of words)
-
--- a snapshot is received by a client of the stamp `old`
-abbrev pub keep_one : Timestamp → Snapshots → Message → Snapshots
-keep_one old s (Command t h) = s
-keep_one old s (Snapshot t h) = snapshots_of s old t h
-keep_one old s (Clock i t u) = s
-keep_one old s BadTime = s
-keep_one old s WrongWord = s
-keep_one old s CutShort = s
 
 -- the snapshots that those of an inbox leave, received by a client of the stamp `old`
 unfoldable pub kept_in : Timestamp → List ℕ → Snapshots → Snapshots
@@ -45,7 +32,7 @@ unless_long words was all = cond (ltb most_words (length words)) was all
 
 -- what is given of an inbox. Each field looks at messages of its own kind, and no message changes the stamp `old`: so one reading gives what 01's passes give
 pub record Scans (words : List ℕ) (seconds : Float) (known : Heard) (was : Snapshots) (old : Timestamp) (r : Scan) : Type 0 where
-  pub refusal : r.refusal ≡ refusal_of words
+  pub verdict : r.verdict ≡ refusal_of words
   pub worldly : r.worldly ≡ unless_long words false (has_for_worlds words)
   pub commands : r.commands ≡ unless_long words false (has_command words)
   pub heard : r.heard ≡ unless_long words known (heard_in seconds words known)

@@ -1,14 +1,12 @@
--- `receive` meets its contract: what is left to take from a place on gives what the whole gives. Assumes nothing.
-use Rattle.inbox.proofs.Messages.{left_falls}
-use Rattle.arrivals.proofs.Receiving.{receive_step, receive_end}
+-- `receive` meets its contract: what the messages that are left make of the state gives what the whole gives. Assumes nothing.
+use Rattle.std.proofs.Common.{ap, ◌∙◌}
+use Rattle.inbox.specs.Reader.{left_in}
+use Rattle.arrivals.proofs.Receiving.{receive_start, receive_step}
 use Rattle.arrivals.proofs.receive.Goals as goal
 
-pub loop-at-smaller : goal.loop-at-smaller
-loop-at-smaller c = left_falls c.args.words.now c.loop-at.at c.message_from-s.result c.loop-at-test.true c.message_from-s.ensures
+pub loop-message-init : goal.loop-message-init
+loop-message-init c =
+    receive_start c.args.words.now (ap left_in (c.into_iter-message-iterator.ensures.into_iter_gives ∙ c.new-message-items.ensures)) c.requires
 
-pub loop-at-preserved : goal.loop-at-preserved
-loop-at-preserved c =
-    receive_step c.loop-at.invariant c.message_from-s.result c.loop-at-test.true c.message_from-s.ensures c.receive_one-a.ensures
-
-pub returns : goal.returns
-returns c = receive_end c.loop-at.invariant c.loop-at-test.false
+pub loop-message-preserved : goal.loop-message-preserved
+loop-message-preserved c = receive_step c.loop-message.invariant c.in-Some.ensures.steps c.receive_one-a.ensures

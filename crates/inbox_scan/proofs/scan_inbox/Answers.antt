@@ -1,5 +1,7 @@
 -- `scan_inbox` meets its contract, by the count of the words. Assumes nothing.
-use Rattle.std.proofs.Common.{arith}
+use Rattle.std.proofs.Common.{rules, arith}
+use Rattle.inbox.proofs.Passes.{passed}
+use Rattle.inbox_scan.specs.Inner.{scan_one}
 use Rattle.inbox_scan.proofs.Scanning.{scans_long, scans_read}
 use Rattle.inbox_scan.proofs.scan_inbox.Goals as goal
 
@@ -7,4 +9,7 @@ pub returns-then-words-gt-MOST_WORDS : goal.returns-then-words-gt-MOST_WORDS
 returns-then-words-gt-MOST_WORDS c = scans_long c.args.words.now c.args.seconds c.args.heard c.args.snapshots c.args.old (omega arith)
 
 pub returns : goal.returns
-returns c = scans_read c.args.words.now c.args.seconds c.args.heard c.args.snapshots c.args.old (omega arith) c.scan_from.ensures
+returns c =
+    let a = c.args in
+    scans_read a.words.now a.seconds a.heard a.snapshots a.old (omega arith)
+    (passed _ (scan_one a.seconds a.old) _ _ c.new.ensures c.fold.ensures.ran (λ s m t f k. search rules))
