@@ -1,13 +1,15 @@
 -- The ranges of a span and a rate as inequalities, and the answer by whether they are kept. Assumes nothing.
-use mathlib.Core.Path.{◌≡◌, refl, ap}
+use mathlib.Core.Path.{◌≡◌, refl}
 use mathlib.Core.Bool.{Bool, true, false, cond, ◌&&◌}
 use Prim.Native.Nat.{ℕ, ◌^◌, ◌≤◌}
 use native.Mathlib.Omega.{arith}
 use lib.Dec.{leb}
 use borrow.Author.Tests.{leb-true, le-leb}
 use Rattle.timestamp.proofs.Tests.{apart, both}
-use Rattle.refusals.specs.Refusals.{accepted}
-use Rattle.film_rate.specs.Spans.{rate_part_passes, span_passes, counted_of, uncounted, span_frames_of}
+use Rattle.std.specs.Prelude.{Ok, Err}
+use Rattle.refusals.specs.declared.Refusal.TheVariants.{Span}
+use Rattle.film_rate.specs.declared.SpanFrames.{SpanFrames}
+use Rattle.film_rate.specs.Spans.{rate_part_passes, span_passes, counted_of, span_frames_of}
 use Rattle.film_rate.specs.Division.{InRange}
 
 -- ---- what passes, and what is in range
@@ -44,19 +46,23 @@ module _ (span p q : ℕ) where
 
   -- ---- the answer
 
-  pub counted_answer : span_passes span p q ≡ true → span_frames_of span p q ≡ counted_of span p q
+  pub counted_answer : span_passes span p q ≡ true → span_frames_of span p q ≡ Ok (counted_of span p q)
   unfolding span_frames_of
-  counted_answer h = ap (λ (t : Bool). cond t (counted_of span p q) uncounted) h
+  counted_answer h = rw h
 
-  pub refused_answer : span_passes span p q ≡ false → span_frames_of span p q ≡ uncounted
+  pub refused_answer : span_passes span p q ≡ false → span_frames_of span p q ≡ Err Span
   unfolding span_frames_of
-  refused_answer h = ap (λ (t : Bool). cond t (counted_of span p q) uncounted) h
+  refused_answer h = rw h
 
   -- what is accepted passes
-  pub accepted_passes : (span_frames_of span p q).refusal ≡ accepted → span_passes span p q ≡ true
+  pub accepted_passes : {a : SpanFrames} → span_frames_of span p q ≡ Ok a → span_passes span p q ≡ true
   unfolding span_frames_of
-  accepted_passes = go (span_passes span p q)
+  accepted_passes {a} = go (span_passes span p q)
     where
-      go : (t : Bool) → (cond t (counted_of span p q) uncounted).refusal ≡ accepted → t ≡ true
+      go : (t : Bool) → cond t (Ok (counted_of span p q)) (Err Span) ≡ Ok a → t ≡ true
       go true h = refl
-      go false h = absurd (omega arith)
+      go false h = cc
+
+  -- and its frames are counted
+  pub accepted_is : {a : SpanFrames} → span_frames_of span p q ≡ Ok a → a ≡ counted_of span p q
+  accepted_is h = let e = counted_answer (accepted_passes h) in cc

@@ -1,9 +1,11 @@
 -- What document 02's request 1 says of the frames of a span, sentence by sentence, as statements about their definition.
 -- proofs/Division proves each under the same name in small letters. Definitions only. Assumes nothing.
 use Prim.{⊥}
-use Rattle.std.specs.Prelude.{◌≡◌, ℕ, ◌+◌, ◌*◌, ◌^◌, ◌<◌, ◌≤◌}
-use Rattle.refusals.specs.Refusals.{accepted}
-use Rattle.film_rate.specs.Spans.{span_frames_of}
+use Rattle.std.specs.Prelude.{◌≡◌, ℕ, ◌+◌, ◌*◌, ◌^◌, ◌<◌, ◌≤◌, Ok, Err}
+use Rattle.refusals.specs.Refusals.{number_of}
+use Rattle.refusals.specs.declared.Refusal.TheVariants.{Span}
+use Rattle.film_rate.specs.declared.SpanFrames.{SpanFrames}
+use Rattle.film_rate.specs.Spans.{counted_of, span_frames_of}
 
 -- a span of 0 to 2 ^ 40 microseconds and a rate p over q, each 1 to 65,535
 pub record InRange (span p q : ℕ) : Type 0 where
@@ -20,22 +22,17 @@ pub record Divides (span p q frames r : ℕ) : Type 0 where
 
 -- the frames and the remainder of an accepted span meet the equation and the bound
 unfoldable pub SpanDivides : Type 0
-SpanDivides =
-    (span p q : ℕ) → (span_frames_of span p q).refusal ≡ accepted →
-    Divides span p q (span_frames_of span p q).frames (span_frames_of span p q).remainder
+SpanDivides = (span p q : ℕ) (a : SpanFrames) → span_frames_of span p q ≡ Ok a → Divides span p q a.frames a.remainder
 
 -- and no other pair of numbers does
 unfoldable pub SpanOnly : Type 0
 SpanOnly =
-    (span p q frames r : ℕ) → (span_frames_of span p q).refusal ≡ accepted → Divides span p q frames r →
-    (frames ≡ (span_frames_of span p q).frames) × (r ≡ (span_frames_of span p q).remainder)
+    (span p q frames r : ℕ) (a : SpanFrames) → span_frames_of span p q ≡ Ok a → Divides span p q frames r → (frames ≡ a.frames) × (r ≡ a.remainder)
 
--- what is out of range is refused with 31; frames and remainder are 0 then
+-- what is out of range is refused, under 31
 unfoldable pub SpanRefused : Type 0
-SpanRefused =
-    (span p q : ℕ) → (InRange span p q → ⊥) →
-    ((span_frames_of span p q).refusal ≡ 31) × ((span_frames_of span p q).frames ≡ 0) × ((span_frames_of span p q).remainder ≡ 0)
+SpanRefused = (span p q : ℕ) → (InRange span p q → ⊥) → (span_frames_of span p q ≡ Err Span) × (number_of Span ≡ 31)
 
 -- it is the only check: what is in range is accepted
 unfoldable pub SpanAccepted : Type 0
-SpanAccepted = (span p q : ℕ) → InRange span p q → (span_frames_of span p q).refusal ≡ accepted
+SpanAccepted = (span p q : ℕ) → InRange span p q → span_frames_of span p q ≡ Ok (counted_of span p q)

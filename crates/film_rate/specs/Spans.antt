@@ -1,7 +1,8 @@
 -- The whole frames of a span of time at a rate of p over q frames a second, and what is left over: document 02, request 1. Quotient and remainder of naturals;
 -- nothing is rounded. Definitions only. Assumes nothing.
-use Rattle.std.specs.Prelude.{ℕ, ◌*◌, ◌/◌, ◌%◌, Bool, cond, ◌&&◌, leb}
-use Rattle.refusals.specs.Refusals.{accepted, span_refusal}
+use Rattle.std.specs.Prelude.{ℕ, ◌*◌, ◌/◌, ◌%◌, Bool, cond, ◌&&◌, leb, Result, Ok, Err}
+use Rattle.refusals.specs.declared.Refusal.{Refusal}
+use Rattle.refusals.specs.declared.Refusal.TheVariants.{Span}
 use Rattle.refusals.specs.Limits.{longest_span, most_rate_part}
 use Rattle.film_rate.specs.declared.SpanFrames.{SpanFrames}
 
@@ -27,12 +28,8 @@ frame_parts q = q * second
 
 -- a span in range: the whole frames that its parts make up, and the parts that are left over
 abbrev pub counted_of : (span p q : ℕ) → SpanFrames
-counted_of span p q = record { refusal = accepted; frames = span * p / frame_parts q; remainder = span * p % frame_parts q }
+counted_of span p q = record { frames = span * p / frame_parts q; remainder = span * p % frame_parts q }
 
--- a span or a rate out of range
-abbrev pub uncounted : SpanFrames
-uncounted = record { refusal = span_refusal; frames = 0; remainder = 0 }
-
--- the frames of a span; the ranges are the only check
-unfoldable pub span_frames_of : (span p q : ℕ) → SpanFrames
-span_frames_of span p q = cond (span_passes span p q) (counted_of span p q) uncounted
+-- the frames of a span; refused where the span or the rate is out of range, which is the only check
+unfoldable pub span_frames_of : (span p q : ℕ) → Result SpanFrames Refusal
+span_frames_of span p q = cond (span_passes span p q) (Ok (counted_of span p q)) (Err Span)

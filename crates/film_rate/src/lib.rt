@@ -3,15 +3,16 @@
 #![tactic(auto)]
 
 ghost use Rattle.std.specs.Prelude.{◌≡◌, true};
-ghost use Rattle.film_rate.specs.Spans.{rate_part_passes, span_passes, counted_of, uncounted, span_frames_of};
+ghost use Rattle.film_rate.specs.Spans.{rate_part_passes, span_passes, counted_of, span_frames_of};
+
+use refusals::Refusal;
 
 // The microseconds of a second.
 const SECOND: u64 = 1000000;
 
-// The answer of `frames_of_span`.
+// The frames of a span.
 #[derive(Clone, Copy)]
 pub struct SpanFrames {
-    pub refusal: u32,
     // whole frames
     pub frames: u64,
     // what is left over, in parts: p of them are a microsecond, and q * 1,000,000 a frame
@@ -41,32 +42,17 @@ fn counted(span: u64, p: u32, q: u32) -> SpanFrames
 {
     let parts = span * p as u64;
     let frame = q as u64 * SECOND;
-    let frames = parts / frame;
-    let remainder = parts % frame;
     SpanFrames {
-        refusal: refusals::ACCEPTED,
-        frames,
-        remainder,
-    }
-}
-
-// What is answered for a span or a rate out of range.
-fn refused() -> SpanFrames
-    ensures { result ≡ uncounted }
-{
-    SpanFrames {
-        refusal: refusals::SPAN,
-        frames: 0,
-        remainder: 0,
+        frames: parts / frame,
+        remainder: parts % frame,
     }
 }
 
 // The whole frames of a span of microseconds at p over q frames a second, and the remainder; refused where one of them is out of its range.
-pub fn frames_of_span(span: u64, p: u32, q: u32) -> SpanFrames
+#[tactic(auto, unfolding(crate::specs::Spans::span_frames_of))]
+pub fn frames_of_span(span: u64, p: u32, q: u32) -> Result<SpanFrames, Refusal>
     ensures { result ≡ span_frames_of span p q }
 {
-    if span_passes(span, p, q) {
-        return counted(span, p, q);
-    }
-    refused()
+    refusals::require(span_passes(span, p, q), Refusal::Span)?;
+    Ok(counted(span, p, q))
 }

@@ -1,13 +1,14 @@
 -- What the hosts' call for a mean answers: document 01, the last section, "Forms the Rust has and Rattle lacks", with refusals 1 and 8 of "Turned down by the
 -- input". Definitions only. Assumes nothing.
 use Rattle.std.specs.Prelude.{ℕ, zero, suc, ◌+◌, ◌*◌, ◌/◌, ◌%◌, ◌^◌, ◌≡◌, cond, ◌&&◌, List, [], ◌∷◌, ◌++◌, eqb, length, get_or, replicate, Float}
+use Rattle.std.specs.Prelude.{Result, Ok, Err}
 use Rattle.std.specs.Float.{binary64}
 use Rattle.std.specs.Float.Ieee.{of_bits, to_bits}
-use Rattle.refusals.specs.Refusals.{accepted, settings_refusal, samples_refusal}
+use Rattle.refusals.specs.declared.Refusal.{Refusal}
+use Rattle.refusals.specs.declared.Refusal.TheVariants.{Settings, Samples}
+use Rattle.refusals.specs.Refusals.{number_of}
 use Rattle.settings.specs.Settings.{samples_pass, store_of, discard_of}
 use Rattle.mean.specs.Mean.{mean_of, samples_ok}
-use Rattle.host.specs.declared.MeanAnswer.{MeanAnswer}
-use Rattle.host.specs.declared.MeanAnswer.TheVariants.{Mean, SettingsRefused, SamplesRefused}
 
 -- ---- samples as bytes, 8 each, low byte first
 
@@ -42,29 +43,27 @@ bytes_of n =
 -- ---- the answer
 
 -- the mean of samples, d of them dropped at each extreme; refused where one is not finite or beyond 2 ^ 33
-abbrev pub judged_mean : ℕ → List Float → MeanAnswer
-judged_mean d xs = cond (samples_ok xs) (Mean (mean_of d xs)) SamplesRefused
+abbrev pub judged_mean : ℕ → List Float → Result Float Refusal
+judged_mean d xs = cond (samples_ok xs) (Ok (mean_of d xs)) (Err Samples)
 
 -- refused for the samples: bytes that are not 8 times the samples to store, an answer buffer (of `room` bytes) that is not of 8, or a sample; else their mean
-unfoldable pub mean_of_stored : ℕ → ℕ → List ℕ → ℕ → MeanAnswer
-mean_of_stored store discard s room = cond (eqb (length s) (8 * store) && eqb room 8) (judged_mean discard (floats_of s store)) SamplesRefused
+unfoldable pub mean_of_stored : ℕ → ℕ → List ℕ → ℕ → Result Float Refusal
+mean_of_stored store discard s room = cond (eqb (length s) (8 * store) && eqb room 8) (judged_mean discard (floats_of s store)) (Err Samples)
 
 -- refused for the settings where needed or rate is out of range; else what the samples give
-unfoldable pub mean_answer_of : ℕ → Float → List ℕ → ℕ → MeanAnswer
+unfoldable pub mean_answer_of : ℕ → Float → List ℕ → ℕ → Result Float Refusal
 mean_answer_of needed rate s room =
-    cond (samples_pass needed rate) (mean_of_stored (store_of needed rate) (discard_of needed rate) s room) SettingsRefused
+    cond (samples_pass needed rate) (mean_of_stored (store_of needed rate) (discard_of needed rate) s room) (Err Settings)
 
 -- document 01's number for each answer
-abbrev pub mean_number_of : MeanAnswer → ℕ
-mean_number_of (Mean x) = accepted
-mean_number_of SettingsRefused = settings_refusal
-mean_number_of SamplesRefused = samples_refusal
+abbrev pub mean_number_of : Result Float Refusal → ℕ
+mean_number_of (Ok x) = 0
+mean_number_of (Err e) = number_of e
 
 -- the answer buffer for each answer: the mean's 8 bytes, or as many zeros as it has bytes
-abbrev pub buffer_of : ℕ → MeanAnswer → List ℕ
-buffer_of room (Mean x) = bytes_of (to_bits binary64 x)
-buffer_of room SettingsRefused = replicate room 0
-buffer_of room SamplesRefused = replicate room 0
+abbrev pub buffer_of : ℕ → Result Float Refusal → List ℕ
+buffer_of room (Ok x) = bytes_of (to_bits binary64 x)
+buffer_of room (Err e) = replicate room 0
 
 -- the call returns the answer's number and leaves the answer's bytes in the buffer, of which there were `room` before
 pub record AnswersMean (needed : ℕ) (rate : Float) (s : List ℕ) (room r : ℕ) (buffer : List ℕ) : Type 0 where

@@ -12,19 +12,9 @@ ghost use Rattle.host.specs.Host.{frame_stamp_of};
 ghost use Rattle.host.specs.Mean.{word_at, floats_of, bytes_of, judged_mean, mean_answer_of, AnswersMean};
 ghost use Rattle.host.specs.Spans.{host_span_of};
 
+use refusals::{Refusal, require};
 use std::cmp::Ordering;
 use timestamp::Timestamp;
-
-// What a call for a mean finds.
-#[derive(Clone, Copy)]
-pub enum MeanAnswer {
-    // the mean of the samples
-    Mean(f64),
-    // samples needed or rate out of range
-    SettingsRefused,
-    // bytes that are not the samples to store, or no room of 8 bytes for the answer
-    SamplesRefused,
-}
 
 // The frames of a span as C lays them out. The spare word is 0 and fills the record, so that no byte of it is left undetermined.
 #[repr(C)]
@@ -64,12 +54,19 @@ pub fn kadwunge_frame_stamp(seconds: f64, timestep: f64) -> i32
 pub fn kadwunge_frames_of_span(span: u64, p: u32, q: u32) -> HostSpanFrames
     ensures { result ≡ host_span_of (span_frames_of span p q) }
 {
-    let a = film_rate::frames_of_span(span, p, q);
-    HostSpanFrames {
-        frames: a.frames,
-        remainder: a.remainder,
-        refusal: a.refusal,
-        spare: 0,
+    match film_rate::frames_of_span(span, p, q) {
+        Ok(a) => HostSpanFrames {
+            frames: a.frames,
+            remainder: a.remainder,
+            refusal: 0,
+            spare: 0,
+        },
+        Err(refusal) => HostSpanFrames {
+            frames: 0,
+            remainder: 0,
+            refusal: refusal.number(),
+            spare: 0,
+        },
     }
 }
 
@@ -79,48 +76,36 @@ pub fn kadwunge_mean_of_samples(needed: u32, rate: f64, samples: &[u8], answer: 
     ensures { AnswersMean needed rate samples.now (length answer.old) result answer.new }
 {
     match mean_of_bytes(needed, rate, samples, answer.len()) {
-        MeanAnswer::Mean(x) => {
-            put(answer, tape::bits_of(x));
-            refusals::ACCEPTED
+        Ok(mean) => {
+            put(answer, tape::bits_of(mean));
+            0
         }
-        MeanAnswer::SettingsRefused => {
+        Err(refusal) => {
             clear(answer);
-            refusals::SETTINGS
-        }
-        MeanAnswer::SamplesRefused => {
-            clear(answer);
-            refusals::SAMPLES
+            refusal.number()
         }
     }
 }
 
 // The mean of samples as bytes, where the answer has room for `room` bytes.
-fn mean_of_bytes(needed: u32, rate: f64, samples: &[u8], room: usize) -> MeanAnswer
+#[tactic(auto, unfolding(crate::specs::Mean::mean_of_stored, crate::specs::Mean::mean_answer_of))]
+fn mean_of_bytes(needed: u32, rate: f64, samples: &[u8], room: usize) -> Result<f64, Refusal>
     ensures { result ≡ mean_answer_of needed rate samples.now room }
 {
-    if !settings::samples_pass(needed, rate) {
-        return MeanAnswer::SettingsRefused;
-    }
+    require(settings::samples_pass(needed, rate), Refusal::Settings)?;
     let n = settings::store_count(needed, rate);
-    if samples.len() != 8 * n {
-        return MeanAnswer::SamplesRefused;
-    }
-    if room != 8 {
-        return MeanAnswer::SamplesRefused;
-    }
+    require(samples.len() == 8 * n && room == 8, Refusal::Samples)?;
     mean_of_first(samples, n, settings::discard_count(needed, rate))
 }
 
 // The mean of the first n samples of bytes, where each is finite and within 2^33.
-fn mean_of_first(samples: &[u8], n: usize, discard: usize) -> MeanAnswer
+fn mean_of_first(samples: &[u8], n: usize, discard: usize) -> Result<f64, Refusal>
     requires { (n ≤ sample_room) × (8 * n ≤ length samples.now) }
     ensures { result ≡ judged_mean discard (floats_of samples.now n) }
 {
     let floats = floats_of(samples, n);
-    if !mean::samples_sound(floats, n) {
-        return MeanAnswer::SamplesRefused;
-    }
-    MeanAnswer::Mean(mean::mean_of(floats, n, discard))
+    require(mean::samples_sound(floats, n), Refusal::Samples)?;
+    Ok(mean::mean_of(floats, n, discard))
 }
 
 // The first n floats of bytes, at the front of an array.

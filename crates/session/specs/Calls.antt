@@ -3,7 +3,7 @@
 use Rattle.std.specs.Prelude.{ℕ, Bool, true, false, ◌&&◌, List, leb, length, Float, unwrap_or}
 use Rattle.std.specs.Float.{binary64}
 use Rattle.std.specs.Float.Ieee.{add}
-use Rattle.refusals.specs.Refusals.{accepted, open_refusal_by, once_refusal_by, syncing_refusal_by, arrival_refusal_by, end_refusal_by}
+use Rattle.refusals.specs.Refusals.{Verdict, accepted, open_verdict_by, once_verdict_by, syncing_verdict_by, arrival_verdict_by, end_verdict_by}
 use Rattle.settings.specs.declared.Settings.{Settings}
 use Rattle.settings.specs.Settings.{passes_of}
 use Rattle.timestamp.specs.Floats.{between, tween_of, hour64, minus_hour64, time_ok}
@@ -33,7 +33,7 @@ start_of c = starting_of c new_of (new_worlds_of (record { 0 = 0 }))
 
 -- open: where it is refused, the session is the one that it would have started
 unfoldable pub open_of : Settings → OpenAnswer
-open_of c = record { refusal = open_refusal_by (passes_of c); session = start_of c }
+open_of c = record { refusal = open_verdict_by (passes_of c); session = start_of c }
 
 -- ---- update
 
@@ -41,9 +41,9 @@ open_of c = record { refusal = open_refusal_by (passes_of c); session = start_of
 unfoldable pub times_ok : Float → Float → Bool
 times_ok delta seconds = between minus_hour64 hour64 delta && time_ok seconds
 
--- the refusal of an update by its input, or by an unsound session
-unfoldable pub refused_at_once : Session → Float → Float → List ℕ → ℕ
-refused_at_once s delta seconds inbox = once_refusal_by (times_ok delta seconds) (refusal_of inbox) (sound_of s)
+-- the verdict on an update by its input, and by whether the session is sound
+unfoldable pub verdict_at_once : Session → Float → Float → List ℕ → Verdict
+verdict_at_once s delta seconds inbox = once_verdict_by (times_ok delta seconds) (refusal_of inbox) (sound_of s)
 
 -- whether a clock message of the inbox has another client id
 abbrev pub heard_other : Session → Float → List ℕ → Bool
@@ -65,12 +65,12 @@ clock_moved_of s delta seconds inbox len = unplayed_of accepted (synced_of s (cl
 -- an update in the first stage
 unfoldable pub clock_update_of : Session → Float → Float → List ℕ → ℕ → Reply
 clock_update_of s delta seconds inbox len =
-    unless_refused (syncing_refusal_by (has_for_worlds inbox) (heard_other s seconds inbox)) s len (clock_moved_of s delta seconds inbox len)
+    unless_refused (syncing_verdict_by (has_for_worlds inbox) (heard_other s seconds inbox)) s len (clock_moved_of s delta seconds inbox len)
 
 -- what a run comes to
 unfoldable pub concluded_of : Session → Clock → Bool → Run → ℕ → Reply
 concluded_of s c request r len =
-    unless_refused (end_refusal_by r.stop (weight_ok (tween_of r.overshoot s.settings.timestep)) (leb (length r.played.words) len)) s len
+    unless_refused (end_verdict_by r.stop (weight_ok (tween_of r.overshoot s.settings.timestep)) (leb (length r.played.words) len)) s len
     (accepted_of s c request r len)
 
 -- the server's time by a clock with the lag, by which an update is played; a clock without an offset gives the client's own time
@@ -97,7 +97,7 @@ played_of s c delta seconds inbox = updated_of s.settings (scene_after s inbox) 
 unfoldable pub worlds_update_of : Session → Float → Float → List ℕ → ℕ → Reply
 worlds_update_of s delta seconds inbox len =
     let c = clock_after s delta seconds inbox in
-    unless_refused (arrival_refusal_by (heard_other s seconds inbox) (received_in inbox (unreceived s)).full) s len
+    unless_refused (arrival_verdict_by (heard_other s seconds inbox) (received_in inbox (unreceived s)).full) s len
     (concluded_of s c (request_of s delta) (played_of s c delta seconds inbox) len)
 
 -- an update that is not refused at once, by whether worlds exist
@@ -107,4 +107,4 @@ update_by false s delta seconds inbox len = clock_update_of s delta seconds inbo
 
 -- update, with a tape of so many words
 unfoldable pub update_of : Session → Float → Float → List ℕ → ℕ → Reply
-update_of s delta seconds inbox len = unless_refused (refused_at_once s delta seconds inbox) s len (update_by (has_worlds s.stage) s delta seconds inbox len)
+update_of s delta seconds inbox len = unless_refused (verdict_at_once s delta seconds inbox) s len (update_by (has_worlds s.stage) s delta seconds inbox len)

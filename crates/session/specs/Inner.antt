@@ -1,7 +1,7 @@
 -- What inner functions of the code give, of a run as they hold it, its words being on the tape already. No contract of a call cites this module:
 -- `worlds_stopped` and `worlds_accepted` of proofs/Answering tie it to Calls. Definitions only. Assumes nothing.
 use Rattle.std.specs.Prelude.{ℕ, List, leb, Float}
-use Rattle.refusals.specs.Refusals.{end_refusal_by}
+use Rattle.refusals.specs.Refusals.{Verdict, end_verdict_by}
 use Rattle.clocksync.specs.declared.Clock.{Clock}
 use Rattle.client.specs.declared.Received.{Received}
 use Rattle.client_publish.specs.Ending.{weight_ok}
@@ -15,6 +15,6 @@ use Rattle.session.specs.Calls.{scene_with, lagged_of}
 abbrev pub unended_with : Session → Received → Clock → Float → Float → List ℕ → Run
 unended_with s r c delta seconds inbox = unended_of s.settings (scene_with r inbox) s.overshoot delta (lagged_of s c seconds)
 
--- the refusal of an update whose frames have ended
-abbrev pub end_refusal_of : Session → Advanced → ℕ → ℕ
-end_refusal_of s a len = end_refusal_by a.stop (weight_ok (tween_of a.overshoot s.settings.timestep)) (leb a.at len)
+-- the verdict on an update whose frames have ended
+abbrev pub end_verdict_of : Session → Advanced → ℕ → Verdict
+end_verdict_of s a len = end_verdict_by a.stop (weight_ok (tween_of a.overshoot s.settings.timestep)) (leb a.at len)

@@ -1,16 +1,17 @@
 // The calls: open and update, and beside them issue and report, which have crates of their own. Each hands
-// what its tests found to `refusals`, which knows the numbers and their order.
+// what its tests found to `refusals`, which knows their order.
 ghost use Rattle.std.specs.Prelude.{◌≡◌, ◌≤◌, length, unwrap_or};
 ghost use Rattle.clocksync.specs.Clock.{server_seconds_of};
 ghost use Rattle.fixed_timestepper.specs.TimeKeeper.{Advances};
 ghost use Rattle.refusals.specs.Limits.{most_steps};
 ghost use Rattle.session_answers.specs.Answers.{Updates};
-ghost use Rattle.session.specs.Inner.{end_refusal_of, unended_with};
-ghost use Rattle.session.specs.Calls.{open_of, times_ok, refused_at_once, clock_update_of, update_of};
+ghost use Rattle.session.specs.Inner.{end_refusal_of, unended_with, end_verdict_of};
+ghost use Rattle.session.specs.Calls.{open_of, times_ok, refused_at_once, clock_update_of, update_of, verdict_at_once, server_time_by};
 
 use client::Received;
 use clocksync::Clock;
 use fixed_timestepper::Advanced;
+use refusals::Verdict;
 use session_answers::{OpenAnswer, UpdateAnswer};
 pub use session_issue::issue;
 pub use session_report::report;
@@ -29,22 +30,19 @@ pub fn open(settings: Settings) -> OpenAnswer
 }
 
 // Whether delta and seconds are in their ranges; false for a NaN.
-pub(crate) fn times_ok(delta: f64, seconds: f64) -> bool
+pub fn times_ok(delta: f64, seconds: f64) -> bool
     ensures { result ≡ times_ok delta seconds }
 {
-    if !settings::within(-refusals::HOUR, refusals::HOUR, delta) {
-        return false;
-    }
-    settings::within(-refusals::LONGEST_TIME, refusals::LONGEST_TIME, seconds)
+    settings::within(-refusals::HOUR, refusals::HOUR, delta)
+        && settings::within(-refusals::LONGEST_TIME, refusals::LONGEST_TIME, seconds)
 }
 
-// The refusal of an update by its input and the session's soundness, or 0.
-pub(crate) fn refused_at_once(session: Session, delta: f64, seconds: f64, inbox: &[u32]) -> u32
-    ensures { result ≡ refused_at_once session delta seconds inbox.now }
+// The verdict on an update by its input and the session's soundness.
+pub(crate) fn verdict_at_once(session: Session, delta: f64, seconds: f64, inbox: &[u32]) -> Verdict
+    ensures { result ≡ verdict_at_once session delta seconds inbox.now }
 {
-    let times = times_ok(delta, seconds);
     refusals::at_once(
-        times,
+        times_ok(delta, seconds),
         inbox_refusal::refusal(inbox),
         session_state::is_sound(session),
     )
@@ -60,17 +58,14 @@ pub(crate) fn update_clock(
 ) -> UpdateAnswer
     ensures { Updates (clock_update_of session delta seconds inbox.now (length tape.old)) result tape.new }
 {
-    let clock = session.clock;
-    let settings = session.settings;
-    let h = inbox_passes::hear_all(inbox, clock.listen(), seconds);
-    let n = refusals::while_syncing(inbox_passes::has_world_message(inbox), h.other);
-    if n != refusals::ACCEPTED {
-        return session_answers::refuse(n, session, tape);
+    let h = inbox_passes::hear_all(inbox, session.clock.listen(), seconds);
+    let verdict = refusals::while_syncing(inbox_passes::has_world_message(inbox), h.other);
+    if let Err(refusal) = verdict {
+        return session_answers::refuse(refusal, session, tape);
     }
-    let t = clock.tick(settings, delta);
-    let ticked = t.clock;
-    let next = session_stage::synced(session, ticked.settle(settings, h), seconds);
-    session_answers::unplayed(refusals::ACCEPTED, next, t.request, tape)
+    let t = session.clock.tick(session.settings, delta);
+    let next = session_stage::synced(session, t.clock.settle(session.settings, h), seconds);
+    session_answers::unplayed(Ok(()), next, t.request, tape)
 }
 
 // The server's time at a time of this client; the client's own time where there is no offset.
@@ -102,15 +97,12 @@ pub(crate) fn play(
     fixed_timestepper::update(scene, session.overshoot, delta, server, settings, tape)
 }
 
-// The refusal of an update whose frames have ended, or 0; the tape has room for `room` words.
-pub(crate) fn refused_at_end(session: Session, a: Advanced, room: usize) -> u32
-    ensures { result ≡ end_refusal_of session a room }
+// The verdict on an update whose frames have ended; the tape has room for `room` words.
+pub(crate) fn verdict_at_end(session: Session, a: Advanced, room: usize) -> Verdict
+    ensures { result ≡ end_verdict_of session a room }
 {
-    let settings = session.settings;
-    let weight = client_publish::ending::tween_weight(a.overshoot, settings.timestep);
-    let stop = a.stop;
-    let at = a.at;
-    refusals::at_end(stop, client_publish::ending::is_weight(weight), at <= room)
+    let weight = client_publish::ending::tween_weight(a.overshoot, session.settings.timestep);
+    refusals::at_end(a.stop, client_publish::ending::is_weight(weight), a.at <= room)
 }
 
 // One update: time moves on by delta seconds to `seconds`, the inbox is read, and the words of what happens are put on the tape. While the
@@ -124,17 +116,13 @@ pub fn update(
 ) -> UpdateAnswer
     ensures { Updates (update_of session delta seconds inbox.now (length tape.old)) result tape.new }
 {
-    let n = refused_at_once(session, delta, seconds, inbox);
-    if n != refusals::ACCEPTED {
-        return session_answers::refuse(n, session, tape);
+    if let Err(refusal) = verdict_at_once(session, delta, seconds, inbox) {
+        return session_answers::refuse(refusal, session, tape);
     }
-    let stage = session.stage;
-    if !session_state::has_worlds(stage) {
+    if !session_state::has_worlds(session.stage) {
         return update_clock(session, delta, seconds, inbox, tape);
     }
-    let clock = session.clock;
-    let settings = session.settings;
-    let h = inbox_passes::hear_all(inbox, clock.listen(), seconds);
+    let h = inbox_passes::hear_all(inbox, session.clock.listen(), seconds);
     let r = inbox_passes::receive_commands(
         inbox,
         Received {
@@ -142,17 +130,14 @@ pub fn update(
             full: false,
         },
     );
-    let m = refusals::by_arrivals(h.other, r.full);
-    if m != refusals::ACCEPTED {
-        return session_answers::refuse(m, session, tape);
+    if let Err(refusal) = refusals::by_arrivals(h.other, r.full) {
+        return session_answers::refuse(refusal, session, tape);
     }
-    let t = clock.tick(settings, delta);
-    let ticked = t.clock;
-    let settled = ticked.settle(settings, h);
+    let t = session.clock.tick(session.settings, delta);
+    let settled = t.clock.settle(session.settings, h);
     let a = play(session, r, settled, delta, seconds, inbox, tape);
-    let k = refused_at_end(session, a, tape.len());
-    if k != refusals::ACCEPTED {
-        return session_answers::refuse(k, session, tape);
+    if let Err(refusal) = verdict_at_end(session, a, tape.len()) {
+        return session_answers::refuse(refusal, session, tape);
     }
     session_answers::accept(session, settled, t.request, a, tape)
 }

@@ -4,6 +4,9 @@ use mathlib.Core.Bool.{Bool, false}
 use mathlib.Core.List.{List}
 use Prim.Native.Nat.{ℕ}
 use lib.ListN.{length}
+use Rattle.std.specs.Prelude.{Err}
+use Rattle.refusals.specs.declared.Refusal.{Refusal}
+use Rattle.refusals.specs.Refusals.{Verdict, accepted}
 use Rattle.clocksync.specs.declared.Clock.{Clock}
 use Rattle.tape.specs.Tape.{cleared}
 use Rattle.tape.proofs.Writing.{cleared_all}
@@ -23,21 +26,21 @@ use Rattle.session_answers.specs.Inner.{accepted_by}
 
 -- ---- an update that played nothing
 
-pub unplayed_is : (n : ℕ) (s : Session) (request : Bool) (was : List ℕ) {l r : Ledger} {last : List ℕ} → last ≡ cleared was 0 → l ≡ empty_ledger
+pub unplayed_is : (v : Verdict) (s : Session) (request : Bool) (was : List ℕ) {l r : Ledger} {last : List ℕ} → last ≡ cleared was 0 → l ≡ empty_ledger
     → r ≡ empty_ledger
-    → Updates (unplayed_of n s request (length was))
-    (record { refusal = n; session = s; frames = 0; steps = 0; request = request; left = l; right = r; words = 0 }) last
-unplayed_is n s request was e hl hr =
+    → Updates (unplayed_of v s request (length was))
+    (record { refusal = v; session = s; frames = 0; steps = 0; request = request; left = l; right = r; words = 0 }) last
+unplayed_is v s request was e hl hr =
     record {
-      answer = λ i. record { refusal = n; session = s; frames = 0; steps = 0; request = request; left = hl i; right = hr i; words = 0 };
+      answer = λ i. record { refusal = v; session = s; frames = 0; steps = 0; request = request; left = hl i; right = hr i; words = 0 };
       tape = e ∙ cleared_all was;
     }
 
 -- it was refused
-pub refuse_is : (n : ℕ) (s : Session) (len : ℕ) {r : UpdateAnswer} {last : List ℕ} → Updates (unplayed_of n s false len) r last
-    → Updates (refused_with n s len) r last
+pub refuse_is : (e : Refusal) (s : Session) (len : ℕ) {r : UpdateAnswer} {last : List ℕ} → Updates (unplayed_of (Err e) s false len) r last
+    → Updates (refused_with e s len) r last
 unfolding refused_with
-refuse_is n s len h = h
+refuse_is e s len h = h
 
 -- ---- an accepted update
 
@@ -47,7 +50,7 @@ pub accept_is : (s : Session) (c : Clock) (request : Bool) (a : Advanced) (was :
     → st ≡ stage_after s.stage w.published.time → l ≡ closed_of a.scene.left w.left.commands → r ≡ closed_of a.scene.right w.right.commands
     → Updates (accepted_by s c request a was)
     (record {
-      refusal = 0;
+      refusal = accepted;
       session = session_with s st c w a.overshoot;
       frames = a.frames;
       steps = a.scene.steps;
@@ -60,7 +63,7 @@ unfolding accepted_by
 accept_is s c request a was hz hw hs hL hR =
     record {
       answer = λ i. record {
-        refusal = 0;
+        refusal = accepted;
         session = session_with s ((hs ∙ ap (λ (v : ClientWorldSimulations). stage_after s.stage v.published.time) hw) i) c (hw i) a.overshoot;
         frames = a.frames;
         steps = a.scene.steps;

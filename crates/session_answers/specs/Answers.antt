@@ -1,7 +1,8 @@
 -- What an update answers once it is decided: document 01, "Kept, and written anew", and what a refused update answers.
 -- Definitions only. Assumes nothing.
-use Rattle.std.specs.Prelude.{ℕ, ◌-◌, Bool, false, cond, List, ◌++◌, ◌≡◌, eqb, length, replicate}
-use Rattle.refusals.specs.Refusals.{accepted}
+use Rattle.std.specs.Prelude.{ℕ, ◌-◌, Bool, false, List, ◌++◌, ◌≡◌, length, replicate, Ok, Err}
+use Rattle.refusals.specs.declared.Refusal.{Refusal}
+use Rattle.refusals.specs.Refusals.{Verdict, accepted}
 use Rattle.clocksync.specs.declared.Clock.{Clock}
 use Rattle.client.specs.declared.Ledger.{Ledger}
 use Rattle.client.specs.Ledgers.{empty_ledger, closed_of}
@@ -13,7 +14,7 @@ use Rattle.session_answers.specs.declared.UpdateAnswer.{UpdateAnswer}
 
 -- the answer of an update, and its tape
 pub record Reply : Type 0 where
-  pub refusal : ℕ
+  pub refusal : Verdict
   pub session : Session
   pub frames : ℕ
   pub steps : ℕ
@@ -43,17 +44,18 @@ pub record Updates (a : Reply) (r : UpdateAnswer) (last : List ℕ) : Type 0 whe
   pub tape : last ≡ a.tape
 
 -- the reply of an update that played nothing: the tape (of so many words) is zeroed
-abbrev pub unplayed_of : ℕ → Session → Bool → ℕ → Reply
-unplayed_of n s request len =
-    record { refusal = n; session = s; frames = 0; steps = 0; request = request; left = empty_ledger; right = empty_ledger; words = 0; tape = replicate len 0 }
+abbrev pub unplayed_of : Verdict → Session → Bool → ℕ → Reply
+unplayed_of v s request len =
+    record { refusal = v; session = s; frames = 0; steps = 0; request = request; left = empty_ledger; right = empty_ledger; words = 0; tape = replicate len 0 }
 
 -- a refused update: the session unchanged, the tape zeroed, all else 0 or no
-unfoldable pub refused_with : ℕ → Session → ℕ → Reply
-refused_with n s len = unplayed_of n s false len
+unfoldable pub refused_with : Refusal → Session → ℕ → Reply
+refused_with e s len = unplayed_of (Err e) s false len
 
 -- a reply, unless the update is refused
-abbrev pub unless_refused : ℕ → Session → ℕ → Reply → Reply
-unless_refused n s len a = cond (eqb n accepted) a (refused_with n s len)
+abbrev pub unless_refused : Verdict → Session → ℕ → Reply → Reply
+unless_refused (Ok x) s len a = a
+unless_refused (Err e) s len a = refused_with e s len
 
 -- an update that was played to its end, whose words fit the tape: they are on it, and zeros after them
 unfoldable pub accepted_of : Session → Clock → Bool → Run → ℕ → Reply

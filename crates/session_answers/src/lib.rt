@@ -8,19 +8,20 @@ ghost use Rattle.session_answers.specs.Inner.{accepted_by};
 use client::{Ledger, ledgers};
 use clocksync::Clock;
 use fixed_timestepper::Advanced;
+use refusals::{Refusal, Verdict};
 use session_state::Session;
 
 // The answer of `open`.
 #[derive(Clone, Copy)]
 pub struct OpenAnswer {
-    pub refusal: u32,
+    pub refusal: Verdict,
     pub session: Session,
 }
 
 // The answer of `update`: frames are F, steps are C, and words are those played.
 #[derive(Clone, Copy)]
 pub struct UpdateAnswer {
-    pub refusal: u32,
+    pub refusal: Verdict,
     pub session: Session,
     pub frames: u32,
     pub steps: u32,
@@ -31,7 +32,7 @@ pub struct UpdateAnswer {
 }
 
 // The answer of an update that played nothing: the tape is zeroed.
-pub fn unplayed(refusal: u32, session: Session, request: bool, tape: &mut [u32]) -> UpdateAnswer
+pub fn unplayed(refusal: Verdict, session: Session, request: bool, tape: &mut [u32]) -> UpdateAnswer
     ensures { Updates (unplayed_of refusal session request (length tape.old)) result tape.new }
 {
     tape::clear(tape, 0);
@@ -48,10 +49,10 @@ pub fn unplayed(refusal: u32, session: Session, request: bool, tape: &mut [u32])
 }
 
 // A refused update: the session unchanged, the tape zeroed, everything else 0.
-pub fn refuse(refusal: u32, session: Session, tape: &mut [u32]) -> UpdateAnswer
+pub fn refuse(refusal: Refusal, session: Session, tape: &mut [u32]) -> UpdateAnswer
     ensures { Updates (refused_with refusal session (length tape.old)) result tape.new }
 {
-    unplayed(refusal, session, false, tape)
+    unplayed(Err(refusal), session, false, tape)
 }
 
 // An update that nothing refuses: its end, its session, and zeros on the rest of the tape.
@@ -64,22 +65,14 @@ pub fn accept(
 ) -> UpdateAnswer
     ensures { Updates (accepted_by session clock request a tape.old) result tape.new }
 {
-    let at = a.at;
-    tape::clear(tape, at);
-    let settings = session.settings;
+    tape::clear(tape, a.at);
     let scene = a.scene;
-    let worlds = fixed_timestepper::ended(scene.worlds, a.overshoot, settings);
-    let left = worlds.left;
-    let right = worlds.right;
-    let published = worlds.published;
-    let time = published.time;
-    let before = session.stage;
-    let stage = session_stage::stage_after(before, time);
+    let worlds = fixed_timestepper::ended(scene.worlds, a.overshoot, session.settings);
     UpdateAnswer {
-        refusal: refusals::ACCEPTED,
+        refusal: Ok(()),
         session: Session {
-            settings,
-            stage,
+            settings: session.settings,
+            stage: session_stage::stage_after(session.stage, worlds.published.time),
             clock,
             worlds,
             overshoot: a.overshoot,
@@ -87,8 +80,8 @@ pub fn accept(
         frames: a.frames,
         steps: scene.steps,
         request,
-        left: ledgers::closed(scene.left, left.commands),
-        right: ledgers::closed(scene.right, right.commands),
-        words: at,
+        left: ledgers::closed(scene.left, worlds.left.commands),
+        right: ledgers::closed(scene.right, worlds.right.commands),
+        words: a.at,
     }
 }

@@ -1,8 +1,9 @@
 -- Issue: document 01, "Kept, and written anew", and refusals 7, 20, 23 and 24. A command of this client is for the frame that is played next.
 -- Definitions only. Assumes nothing.
-use Rattle.std.specs.Prelude.{ℕ, cond, eqb, ltb}
+use Rattle.std.specs.Prelude.{ℕ, ltb, Ok, Err}
 use Rattle.refusals.specs.Limits.{handle_room}
-use Rattle.refusals.specs.Refusals.{accepted, issue_refusal_by}
+use Rattle.refusals.specs.declared.Refusal.{Refusal}
+use Rattle.refusals.specs.Refusals.{Verdict, accepted, issue_verdict_by}
 use Rattle.timestamp.specs.Timestamps.{sum_of}
 use Rattle.command.specs.Entries.{Entry, entry_of}
 use Rattle.client.specs.declared.Received.{Received}
@@ -18,8 +19,8 @@ use Rattle.session_issue.specs.declared.IssueAnswer.{IssueAnswer}
 -- ---- its answer
 
 -- a refused issue: the session unchanged, all else 0
-abbrev pub unissued : ℕ → Session → IssueAnswer
-unissued n s = record { refusal = n; session = s; stamp = record { 0 = 0 }; left = empty_ledger; right = empty_ledger }
+abbrev pub unissued : Refusal → Session → IssueAnswer
+unissued e s = record { refusal = Err e; session = s; stamp = record { 0 = 0 }; left = empty_ledger; right = empty_ledger }
 
 -- a command with this stamp, received by the worlds of a session
 abbrev pub issued_of : Session → Timestamp → Received → IssueAnswer
@@ -46,10 +47,15 @@ issued_entry s h = entry_of (issue_stamp s) h
 abbrev pub received_now : Session → ℕ → Received
 received_now s h = received_of (scene_of s) (issued_entry s h)
 
--- the refusal of an issue
-abbrev pub issue_refusal_of : Session → ℕ → ℕ
-issue_refusal_of s h = issue_refusal_by (ltb h handle_room) (sound_of s) (has_worlds s.stage) (received_now s h).full (is_ready s.stage)
+-- the verdict on an issue
+abbrev pub issue_verdict_of : Session → ℕ → Verdict
+issue_verdict_of s h = issue_verdict_by (ltb h handle_room) (sound_of s) (has_worlds s.stage) (received_now s h).full (is_ready s.stage)
+
+-- issue by its verdict: refused, or the command with this stamp received
+abbrev pub issue_by : Verdict → Session → Timestamp → Received → IssueAnswer
+issue_by (Ok x) s t r = issued_of s t r
+issue_by (Err e) s t r = unissued e s
 
 -- issue
 unfoldable pub issue_of : Session → ℕ → IssueAnswer
-issue_of s h = cond (eqb (issue_refusal_of s h) accepted) (issued_of s (issue_stamp s) (received_now s h)) (unissued (issue_refusal_of s h) s)
+issue_of s h = issue_by (issue_verdict_of s h) s (issue_stamp s) (received_now s h)

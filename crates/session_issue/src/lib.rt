@@ -5,13 +5,14 @@ ghost use Rattle.std.specs.Prelude.{◌≡◌};
 ghost use Rattle.session_issue.specs.Issue.{unissued, issued_of, issue_of};
 
 use client::{Ledger, Received, ledgers, sides};
+use refusals::{Refusal, Verdict};
 use session_state::Session;
 use timestamp::Timestamp;
 
 // The answer of `issue`: the stamp of the command.
 #[derive(Clone, Copy)]
 pub struct IssueAnswer {
-    pub refusal: u32,
+    pub refusal: Verdict,
     pub session: Session,
     pub stamp: Timestamp,
     pub left: Ledger,
@@ -19,11 +20,11 @@ pub struct IssueAnswer {
 }
 
 // A refused issue: the session unchanged, everything else 0.
-fn refuse_issue(refusal: u32, session: Session) -> IssueAnswer
+pub fn refuse_issue(refusal: Refusal, session: Session) -> IssueAnswer
     ensures { result ≡ unissued refusal session }
 {
     IssueAnswer {
-        refusal,
+        refusal: Err(refusal),
         session,
         stamp: Timestamp(0),
         left: ledgers::empty_ledger(),
@@ -36,17 +37,15 @@ fn accept_issue(session: Session, stamp: Timestamp, got: Received) -> IssueAnswe
     ensures { result ≡ issued_of session stamp got }
 {
     let after = got.scene;
-    let worlds = after.worlds;
-    let left = worlds.left;
-    let right = worlds.right;
-    let mut s = session;
-    s.worlds = worlds;
     IssueAnswer {
-        refusal: refusals::ACCEPTED,
-        session: s,
+        refusal: Ok(()),
+        session: Session {
+            worlds: after.worlds,
+            ..session
+        },
         stamp,
-        left: ledgers::closed(after.left, left.commands),
-        right: ledgers::closed(after.right, right.commands),
+        left: ledgers::closed(after.left, after.worlds.left.commands),
+        right: ledgers::closed(after.right, after.worlds.right.commands),
     }
 }
 
@@ -54,22 +53,20 @@ fn accept_issue(session: Session, stamp: Timestamp, got: Received) -> IssueAnswe
 pub fn issue(session: Session, handle: u32) -> IssueAnswer
     ensures { result ≡ issue_of session handle }
 {
-    let stage = session.stage;
     let stamp = sides::last_completed_timestamp(session.worlds).add(1);
     let r = client_receive::receive_command(
         session_state::scene_of(session),
         command::entry_of(stamp, handle),
     );
-    let sound = session_state::is_sound(session);
-    let n = refusals::of_issue(
+    let verdict = refusals::of_issue(
         handle < refusals::HANDLE_ROOM,
-        sound,
-        session_state::has_worlds(stage),
+        session_state::is_sound(session),
+        session_state::has_worlds(session.stage),
         r.full,
-        session_state::is_ready(stage),
+        session_state::is_ready(session.stage),
     );
-    if n != refusals::ACCEPTED {
-        return refuse_issue(n, session);
+    match verdict {
+        Ok(()) => accept_issue(session, stamp, r),
+        Err(refusal) => refuse_issue(refusal, session),
     }
-    accept_issue(session, stamp, r)
 }

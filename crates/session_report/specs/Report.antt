@@ -1,7 +1,9 @@
 -- Report: document 01, "Kept, and written anew", and refusals 20 and 21. Where a session stands.
 -- Definitions only. Assumes nothing.
-use Rattle.std.specs.Prelude.{ℕ, cond, eqb, None}
-use Rattle.refusals.specs.Refusals.{accepted, report_refusal_by}
+use Rattle.std.specs.Prelude.{ℕ, cond, eqb, None, Ok, Err}
+use Rattle.refusals.specs.Refusals.{accepted, report_refusal_by, Verdict, report_verdict_by}
+use Rattle.refusals.specs.declared.Refusal.{Refusal}
+use Rattle.client.specs.declared.DisplayTime.TheVariants.{NotDisplayed}
 use Rattle.client.specs.declared.ReconciliationStatus.TheVariants.{AwaitingSnapshot}
 use Rattle.client.specs.Sides.{old_stamp_of, new_stamp_of}
 use Rattle.client.specs.Status.{status_of}
@@ -14,8 +16,8 @@ use Rattle.session_report.specs.declared.ReportAnswer.{ReportAnswer}
 -- ---- its answer
 
 -- a refused report: stage SyncingClock, status AwaitingSnapshot, all else 0 or none
-abbrev pub unreported : ℕ → ReportAnswer
-unreported n = record { refusal = n; stage = SyncingClock; status = AwaitingSnapshot; old = record { 0 = 0 }; new = record { 0 = 0 }; time = None }
+abbrev pub unreported : Refusal → ReportAnswer
+unreported e = record { refusal = Err e; stage = SyncingClock; status = AwaitingSnapshot; old = record { 0 = 0 }; new = record { 0 = 0 }; time = None }
 
 -- where a session with worlds stands
 abbrev pub reported_of : Session → ReportAnswer
@@ -31,10 +33,15 @@ reported_of s =
 
 -- ---- the call
 
--- the refusal of a report
-abbrev pub report_refusal_of : Session → ℕ
-report_refusal_of s = report_refusal_by (sound_of s) (has_worlds s.stage)
+-- the verdict on a report
+abbrev pub report_verdict_of : Session → Verdict
+report_verdict_of s = report_verdict_by (sound_of s) (has_worlds s.stage)
+
+-- report by its verdict: refused, or where the session stands
+abbrev pub report_by : Verdict → Session → ReportAnswer
+report_by (Ok x) s = reported_of s
+report_by (Err e) s = unreported e
 
 -- report
 unfoldable pub report_of : Session → ReportAnswer
-report_of s = cond (eqb (report_refusal_of s) accepted) (reported_of s) (unreported (report_refusal_of s))
+report_of s = report_by (report_verdict_of s) s

@@ -4,14 +4,15 @@
 ghost use Rattle.std.specs.Prelude.{◌≡◌};
 ghost use Rattle.session_report.specs.Report.{unreported, reported_of, report_of};
 
-use client::{ReconciliationStatus, sides, status};
+use client::{ReconciliationStatus, sides, status, DisplayTime};
+use refusals::{Refusal, Verdict};
 use session_state::{Session, Stage};
 use timestamp::Timestamp;
 
 // The answer of `report`.
 #[derive(Clone, Copy)]
 pub struct ReportAnswer {
-    pub refusal: u32,
+    pub refusal: Verdict,
     pub stage: Stage,
     pub status: ReconciliationStatus,
     pub old: Timestamp,
@@ -20,11 +21,11 @@ pub struct ReportAnswer {
 }
 
 // A refused report.
-fn refuse_report(refusal: u32) -> ReportAnswer
+pub fn refuse_report(refusal: Refusal) -> ReportAnswer
     ensures { result ≡ unreported refusal }
 {
     ReportAnswer {
-        refusal,
+        refusal: Err(refusal),
         stage: Stage::SyncingClock,
         status: ReconciliationStatus::AwaitingSnapshot,
         old: Timestamp(0),
@@ -39,7 +40,7 @@ fn report_worlds(session: Session) -> ReportAnswer
 {
     let worlds = session.worlds;
     ReportAnswer {
-        refusal: refusals::ACCEPTED,
+        refusal: Ok(()),
         stage: session.stage,
         status: status::infer_current_reconciliation_status(worlds),
         old: sides::last_completed_timestamp(worlds),
@@ -52,13 +53,12 @@ fn report_worlds(session: Session) -> ReportAnswer
 pub fn report(session: Session) -> ReportAnswer
     ensures { result ≡ report_of session }
 {
-    let stage = session.stage;
-    let n = refusals::of_report(
+    let verdict = refusals::of_report(
         session_state::is_sound(session),
-        session_state::has_worlds(stage),
+        session_state::has_worlds(session.stage),
     );
-    if n != refusals::ACCEPTED {
-        return refuse_report(n);
+    match verdict {
+        Ok(()) => report_worlds(session),
+        Err(refusal) => refuse_report(refusal),
     }
-    report_worlds(session)
 }

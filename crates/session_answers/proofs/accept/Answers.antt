@@ -6,4 +6,4 @@ pub returns : goal.returns
 returns c =
     let a = c.args in
     accept_is a.session a.clock a.request a.a _ c.clear.ensures c.ended-worlds.ensures
-    c.stage_after-stage.ensures c.closed.ensures c.closed-2.ensures
+    c.stage_after.ensures c.closed.ensures c.closed-2.ensures

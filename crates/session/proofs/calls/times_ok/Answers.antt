@@ -1,13 +1,13 @@
 -- `times_ok` meets its contract: both ranges. Assumes nothing.
 use lib.Ieee.{of_bits, neg}
 use Rattle.session.specs.Calls.{times_ok}
-use Rattle.timestamp.proofs.Tests.{row-rules}
+use Rattle.timestamp.proofs.Tests.{row_fails, row_holds}
 use Rattle.session.proofs.calls.times_ok.Goals as goal
 
-pub returns-then-not-within : goal.returns-then-not-within
+pub returns-then-within : goal.returns-then-within
 unfolding times_ok of_bits neg
-returns-then-not-within c = search row-rules
+returns-then-within c = row_holds c.within.ensures c.if-within.true c.within-then-within.ensures
 
-pub returns : goal.returns
+pub returns-else-within : goal.returns-else-within
 unfolding times_ok of_bits neg
-returns c = search row-rules
+returns-else-within c = rw (c.if-within.false) (row_fails _ c.within.ensures c.if-within.false)
