@@ -5,8 +5,8 @@ ghost use Rattle.clocksync.specs.Clock.{server_seconds_of};
 ghost use Rattle.fixed_timestepper.specs.TimeKeeper.{Advances};
 ghost use Rattle.refusals.specs.Limits.{most_steps};
 ghost use Rattle.session_answers.specs.Answers.{Updates};
-ghost use Rattle.session.specs.Inner.{end_refusal_of, unended_with, end_verdict_of};
-ghost use Rattle.session.specs.Calls.{open_of, times_ok, refused_at_once, clock_update_of, update_of, verdict_at_once, server_time_by};
+ghost use Rattle.session.specs.Inner.{unended_with, end_verdict_of};
+ghost use Rattle.session.specs.Calls.{open_of, times_ok, clock_update_of, update_of, verdict_at_once};
 
 use client::Received;
 use clocksync::Clock;
