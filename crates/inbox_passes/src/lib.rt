@@ -13,7 +13,7 @@ use timestamp::Timestamp;
 pub fn has_world_message(words: &[u32]) -> bool
     ensures { result ≡ has_for_worlds words.now }
 {
-    Reader::new(words).any(|message| is_for_worlds(message))
+    Reader::new(words).any(is_for_worlds)
 }
 
 // Whether a message is a command or a snapshot.
@@ -49,7 +49,7 @@ fn hear_one(heard: Heard, message: Reading, seconds: f64) -> Heard
 pub fn receive_commands(words: &[u32], start: Received) -> Received
     ensures { result ≡ received_in words.now start }
 {
-    Reader::new(words).fold(start, |received, message| receive_one(received, message))
+    Reader::new(words).fold(start, receive_one)
 }
 
 // A command is received; any other message is passed over. Once a buffer was full it stays said.

@@ -1,5 +1,6 @@
 -- The refusal of an inbox, message by message: a pass that keeps the lowest number finds it. Assumes nothing.
-use Rattle.std.proofs.Common.{◌≡◌, ℕ, ◌<◌, ◌≤◌, Bool, true, false, cond, List, [], ◌∷◌, length, refl, sym, ap, ◌∙◌, arith, ltb, ltb-true, ltb-false, lt-ltb, le-ltb, Ok, Err}
+use Rattle.std.proofs.Common.{◌≡◌, ℕ, ◌<◌, ◌≤◌, Bool, true, false, cond, List, [], ◌∷◌, length, refl, sym, ap, ◌∙◌, Ok, Err}
+use Rattle.std.proofs.Common.{arith, ltb, ltb-true, ltb-false, lt-ltb, le-ltb}
 use mathlib.Core.Logic.{inl, inr}
 use Rattle.refusals.specs.declared.Refusal.{Refusal}
 use Rattle.refusals.specs.declared.Refusal.TheVariants.{Length, Word, Cut, ClockTime}
@@ -17,21 +18,21 @@ lowest_none : (a : Verdict) → lowest_of a accepted ≡ a
 lowest_none (Ok tt) = refl
 lowest_none (Err e) = refl
 
--- the answer by the three tests, of which the first and the third follow from one another
-tests : (e f g : Refusal) (ef fg eg : Bool) → ltb (number_of f) (number_of e) ≡ ef → ltb (number_of g) (number_of f) ≡ fg
+-- of three refusals, by the tests of each two of them
+by_tests : (e f g : Refusal) (ef fg eg : Bool) → ltb (number_of f) (number_of e) ≡ ef → ltb (number_of g) (number_of f) ≡ fg
     → ltb (number_of g) (number_of e) ≡ eg → lowest_of (lowest_of (Err e) (Err f)) (Err g) ≡ lowest_of (Err e) (lowest_of (Err f) (Err g))
-tests e f g true true true p q r = simp (p, q, r)
-tests e f g true true false p q r = absurd (omega (arith, ltb-true, ltb-false))
-tests e f g true false eg p q r = simp (p, q)
-tests e f g false true eg p q r = simp (p, q)
-tests e f g false false true p q r = absurd (omega (arith, ltb-true, ltb-false))
-tests e f g false false false p q r = simp (p, q, r)
+by_tests e f g true true true p q r = simp (p, q, r)
+by_tests e f g true true false p q r = absurd (omega (arith, ltb-true, ltb-false))
+by_tests e f g true false eg p q r = simp (p, q)
+by_tests e f g false true eg p q r = simp (p, q)
+by_tests e f g false false true p q r = absurd (omega (arith, ltb-true, ltb-false))
+by_tests e f g false false false p q r = simp (p, q, r)
 
 lowest_three : (a b c : Verdict) → lowest_of (lowest_of a b) c ≡ lowest_of a (lowest_of b c)
 lowest_three (Ok x) b c = refl
 lowest_three (Err e) (Ok x) c = refl
 lowest_three (Err e) (Err f) (Ok x) = lowest_none (lowest_of (Err e) (Err f))
-lowest_three (Err e) (Err f) (Err g) = tests e f g _ _ _ refl refl refl
+lowest_three (Err e) (Err f) (Err g) = by_tests e f g _ _ _ refl refl refl
 
 -- ---- the refusal of a list of messages is the lowest of the first's and that of the others
 
