@@ -1,15 +1,17 @@
 -- What an issue comes to, over plain values: each way that it ends, from what its parts answered. Assumes nothing.
-use Prim.{⊥}
 use mathlib.Core.Path.{◌≡◌, refl, ap, sym, subst, ◌∙◌}
-use mathlib.Core.Bool.{Bool, true, false, cond}
+use mathlib.Core.Bool.{Bool, true, false}
 use mathlib.Core.List.{List}
 use Prim.Native.Nat.{ℕ, ◌<◌}
 use native.Mathlib.Omega.{arith}
 use lib.Dec.{ltb}
-use borrow.Author.Tests.{eq-eqb, ne_eqb, ltb-true}
+use borrow.Author.Tests.{ltb-true}
 use Rattle.timestamp.proofs.Tests.{apart}
 use Rattle.refusals.specs.Limits.{handle_room}
-use Rattle.refusals.specs.Refusals.{issue_refusal_by}
+use Rattle.std.specs.Prelude.{Err}
+use Rattle.refusals.specs.declared.Refusal.{Refusal}
+use Rattle.refusals.specs.Refusals.{Verdict, accepted, issue_verdict_by}
+use Rattle.refusals.proofs.Accepted.{issue_accepted as issue_tests}
 use Rattle.timestamp.specs.declared.Timestamp.{Timestamp}
 use Rattle.timestamp.specs.Timestamps.{sum_of}
 use Rattle.settings.specs.Settings.{passes_of}
@@ -34,7 +36,7 @@ use Rattle.session_lent.proofs.Reading.{old_stamp_in}
 use Rattle.session_play.specs.Play.{WorldsLent, unarrived_of, midpoints_of, arrived_in}
 use Rattle.session_play.proofs.Scenes.{unarrived_is, worlds_ready, closed_is}
 use Rattle.session_issue.specs.declared.IssueAnswer.{IssueAnswer}
-use Rattle.session_issue.specs.Issue.{unissued, issued_of, issue_stamp, issued_entry, received_now, issue_refusal_of, issue_of}
+use Rattle.session_issue.specs.Issue.{unissued, issued_of, issue_stamp, issued_entry, received_now, issue_verdict_of, issue_by, issue_of}
 use Rattle.session_in_place.specs.IssueLent.{state_with, issued_with}
 
 -- the numbers with what arrived, by the call that makes them
@@ -45,34 +47,29 @@ state_by s a hw = λ i. record { stage = s.stage; clock = s.clock; worlds = hw i
 -- ---- the order of refusals
 
 -- a refusal that no buffer and no stage has part in is that of the call
-first_by : (h p w f y : Bool) {n : ℕ} → n ≡ issue_refusal_by h p w false true → (n ≡ 0 → ⊥) → n ≡ issue_refusal_by h p w f y
-first_by true true true f y e k = absurd (k e)
-first_by true true false f y e k = e
-first_by true false w f y e k = e
-first_by false p w f y e k = e
+first_by : (h p w f y : Bool) {e : Refusal} → issue_verdict_by h p w false true ≡ Err e → issue_verdict_by h p w f y ≡ Err e
+first_by true true true f y k = cc
+first_by true true false f y k = k
+first_by true false w f y k = k
+first_by false p w f y k = k
 
 -- without one, the handle is within its bits, the session sound, and worlds exist
-past_first : (h p w : Bool) → issue_refusal_by h p w false true ≡ 0 → (h ≡ true) × (p ≡ true) × (w ≡ true)
-past_first true true true e = (refl, refl, refl)
-past_first true true false e = absurd (omega arith)
-past_first true false w e = absurd (omega arith)
-past_first false p w e = absurd (omega arith)
+past_first : (h p w : Bool) → issue_verdict_by h p w false true ≡ accepted → (h ≡ true) × (p ≡ true) × (w ≡ true)
+past_first h p w = issue_tests h p w false true
 
-module _ (s : Session) (h : ℕ) {b p w : Bool} {n : ℕ} (hb : b ≡ ltb h handle_room) (hp : p ≡ sound_of s) (hw : w ≡ has_worlds s.stage)
-    (hn : n ≡ issue_refusal_by b p w false true) where
+module _ (s : Session) (h : ℕ) {b p w : Bool} {n : Verdict} (hb : b ≡ ltb h handle_room) (hp : p ≡ sound_of s) (hw : w ≡ has_worlds s.stage)
+    (hn : n ≡ issue_verdict_by b p w false true) where
   -- refused without a look at the buffers
-  pub issue_refused : {r : IssueAnswer} → (n ≡ 0 → ⊥) → r ≡ unissued n s → r ≡ issue_of s h
+  pub issue_refused : {q : Refusal} {r : IssueAnswer} → n ≡ Err q → r ≡ unissued q s → r ≡ issue_of s h
   unfolding issue_of
-  issue_refused k e =
-      let z : n ≡ issue_refusal_of s h = first_by (ltb h handle_room) (sound_of s) (has_worlds s.stage) (received_now s h).full (is_ready s.stage)
-      (hn ∙ (λ i. issue_refusal_by (hb i) (hp i) (hw i) false true)) k in
-      e ∙ (λ i. unissued (z i) s)
-      ∙ (λ i. cond (sym (ne_eqb (issue_refusal_of s h) 0 (λ y. k (z ∙ y))) i) (issued_of s (issue_stamp s) (received_now s h)) (unissued (issue_refusal_of
-      s h) s))
+  issue_refused {q} k e =
+      let z : issue_verdict_of s h ≡ Err q = first_by (ltb h handle_room) (sound_of s) (has_worlds s.stage) (received_now s h).full (is_ready s.stage)
+      (sym (hn ∙ (λ i. issue_verdict_by (hb i) (hp i) (hw i) false true)) ∙ k) in
+      e ∙ ap (λ (v : Verdict). issue_by v s (issue_stamp s) (received_now s h)) (sym z)
 
-  module _ (e : n ≡ 0) where
+  module _ (e : n ≡ accepted) where
     past : (ltb h handle_room ≡ true) × (sound_of s ≡ true) × (has_worlds s.stage ≡ true)
-    past = past_first (ltb h handle_room) (sound_of s) (has_worlds s.stage) (sym (hn ∙ (λ i. issue_refusal_by (hb i) (hp i) (hw i) false true)) ∙ e)
+    past = past_first (ltb h handle_room) (sound_of s) (has_worlds s.stage) (sym (hn ∙ (λ i. issue_verdict_by (hb i) (hp i) (hw i) false true)) ∙ e)
 
     -- the buffers can be lent
     lent_of : AllSlots s.worlds.left.commands.entries s.worlds.right.commands.entries s.worlds.base.entries
@@ -102,11 +99,11 @@ module _ (s : Session) (h : ℕ) {b p w : Bool} {n : ℕ} (hb : b ≡ ltb h hand
         (subst (λ (q : Arrived). Ready q (midpoints_of (worlds_in s.worlds)) s.worlds.left.commands.entries s.worlds.right.commands.entries
         s.worlds.base.entries) (sym x) (worlds_ready (lent_of full)))
 
-    module _ {v : State} {o : World} {stamp : Timestamp} {x : Entry} {a : Arrived} {t : Midpoints} {z : Arrived} {l r c : List Entry} {y : Bool} {m : ℕ}
+    module _ {v : State} {o : World} {stamp : Timestamp} {x : Entry} {a : Arrived} {t : Midpoints} {z : Arrived} {l r c : List Entry} {y : Bool} {m : Verdict}
         (hv : v ≡ state_in s) (ho : o ≡ old_in v.worlds) (hst : stamp.0 ≡ sum_of o.stamp.0 1) (hx : x ≡ entry_of stamp h)
         (ha : a ≡ unarrived_of v.worlds) (ht : t ≡ midpoints_of v.worlds)
         (hr : Receives a x t s.worlds.left.commands.entries s.worlds.right.commands.entries s.worlds.base.entries z l r c)
-        (hy : y ≡ is_ready s.stage) (hm : m ≡ issue_refusal_by true true true z.full y) where
+        (hy : y ≡ is_ready s.stage) (hm : m ≡ issue_verdict_by true true true z.full y) where
       -- its numbers
       abbrev numbers : Worlds
       numbers = worlds_in s.worlds
@@ -136,21 +133,19 @@ module _ (s : Session) (h : ℕ) {b p w : Bool} {n : ℕ} (hb : b ≡ ltb h hand
           ∙ (λ i. also_full false (received_of (unarrived_is numbers s.worlds.left.commands.entries s.worlds.right.commands.entries
           s.worlds.base.entries i) (entry_is i)))
 
-      refusal_is : m ≡ issue_refusal_of s h
-      refusal_is = hm ∙ (λ i. issue_refusal_by (sym past.0 i) (sym past.1 i) (sym past.2 i) (got_is i).full (hy i))
+      verdict_is : m ≡ issue_verdict_of s h
+      verdict_is = hm ∙ (λ i. issue_verdict_by (sym past.0 i) (sym past.1 i) (sym past.2 i) (got_is i).full (hy i))
 
       -- refused by a full buffer or the stage
-      pub issue_late : {q : IssueAnswer} → (m ≡ 0 → ⊥) → q ≡ unissued m s → q ≡ issue_of s h
+      pub issue_late : {g : Refusal} {q : IssueAnswer} → m ≡ Err g → q ≡ unissued g s → q ≡ issue_of s h
       unfolding issue_of
-      issue_late k e =
-          e ∙ (λ i. unissued (refusal_is i) s) ∙ (λ i. cond (sym (ne_eqb (issue_refusal_of s h) 0 (λ j. k (refusal_is ∙ j))) i)
-          (issued_of s (issue_stamp s) (received_now s h)) (unissued (issue_refusal_of s h) s))
+      issue_late k e = e ∙ ap (λ (u : Verdict). issue_by u s (issue_stamp s) (received_now s h)) (sym k ∙ verdict_is)
 
       -- what is left can be lent again
       after : stamp.0 < 65536 → Ready z (midpoints_of numbers) l r c
       after small = received.ready (ap plain_entry hx ∙ entry_plain stamp h small (ltb-true h handle_room past.0))
 
-      pub issue_accepted : {u : State} {w₁ : Session} {q : IssueAnswer} → stamp.0 < 65536 → m ≡ 0 → u ≡ state_with v z
+      pub issue_accepted : {u : State} {w₁ : Session} {q : IssueAnswer} → stamp.0 < 65536 → m ≡ accepted → u ≡ state_with v z
           → w₁ ≡ session_at s.settings u s.clock.samples l r c → q ≡ issued_with w₁ stamp z → q ≡ issue_of s h
       unfolding issue_of arrived_at
       issue_accepted {u} {w₁} small k hu hw₁ hq =
@@ -158,12 +153,10 @@ module _ (s : Session) (h : ℕ) {b p w : Bool} {n : ℕ} (hb : b ≡ ltb h hand
           hw₁ ∙ (λ i. session_at s.settings ((hu ∙ (λ j. state_with (hv j) z)) i) s.clock.samples l r c) in
           hq
           ∙ (λ i. record {
-            refusal = 0;
+            refusal = accepted;
             session = session i;
             stamp = stamp_is i;
             left = closed_is z.left s.worlds.left.commands.timestamp (after small).left.lent i;
             right = closed_is z.right s.worlds.right.commands.timestamp (after small).right.lent i;
           })
-          ∙ (λ i. issued_of s (issue_stamp s) (got_is i))
-          ∙ (λ i. cond (sym (eq-eqb (issue_refusal_of s h) 0 (sym refusal_is ∙ k)) i) (issued_of s (issue_stamp s) (received_now s h))
-          (unissued (issue_refusal_of s h) s))
+          ∙ (λ i. issue_by ((sym k ∙ verdict_is) i) s (issue_stamp s) (got_is i))

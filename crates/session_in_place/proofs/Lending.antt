@@ -1,20 +1,22 @@
 -- An update over lent arrays, over plain values: each way that it ends, from what its parts answered. Assumes nothing.
-use Prim.{⊥}
 use mathlib.Core.Path.{◌≡◌, refl, ap, sym, subst, ◌∙◌}
-use mathlib.Core.Bool.{Bool, true, false, cond}
+use mathlib.Core.Bool.{Bool, true, false, cond, false≢true}
+use Rattle.std.specs.Prelude.{Ok, Err, is_err}
 use mathlib.Core.List.{List}
 use Prim.Native.Nat.{ℕ, ◌≤◌}
 use native.Mathlib.Omega.{arith}
 use lib.Dec.{eqb, leb, ltb}
 use lib.ListN.{length}
 use lib.Ieee.{Float, binary64, add}
-use borrow.Author.Tests.{eq-eqb, ne_eqb, ltb-true}
+use borrow.Author.Tests.{ltb-true}
 use Rattle.timestamp.proofs.Tests.{apart}
 use Rattle.timestamp.specs.Floats.{tween_of}
 use Rattle.timestamp.specs.declared.Timestamp.{Timestamp}
 use Rattle.refusals.specs.Limits.{sample_room, most_words, most_steps}
-use Rattle.refusals.specs.Refusals.{accepted, syncing_refusal_by, arrival_refusal_by, once_refusal_by, end_refusal_by}
-use Rattle.refusals.proofs.Accepted.{once_accepted}
+use Rattle.refusals.specs.declared.Refusal.{Refusal}
+use Rattle.refusals.specs.declared.Refusal.TheVariants.{Length}
+use Rattle.refusals.specs.Refusals.{Verdict, accepted, syncing_verdict_by, arrival_verdict_by, once_verdict_by, end_verdict_by}
+use Rattle.refusals.proofs.Accepted.{turned_down, once_accepted}
 use Rattle.settings.specs.declared.Settings.{Settings}
 use Rattle.settings.specs.Settings.{passes_of}
 use Rattle.command.specs.Entries.{Entry}
@@ -63,7 +65,7 @@ use Rattle.session_in_place.specs.declared.LentAnswer.{LentAnswer}
 use Rattle.session_answers.specs.Answers.{Reply, unplayed_of, refused_with, Updates}
 use Rattle.session_answers.specs.Inner.{accepted_by}
 use Rattle.session_in_place.specs.AnswersLent.{answer_with, Leaves, Accepts}
-use Rattle.session.specs.Calls.{times_ok, refused_at_once, clock_update_of, worlds_update_of, update_by, update_of, server_time_by}
+use Rattle.session.specs.Calls.{times_ok, verdict_at_once, clock_update_of, worlds_update_of, update_by, update_of, server_time_by}
 use Rattle.session.specs.Inner.{unended_with}
 use Rattle.session_in_place.specs.Lent.{ArraysLent, session_after, UpdatesLent, listening, Scanned, Settles, SyncsLent, Concludes}
 use Rattle.session.proofs.Answering.{once_is, once_few, clock_refused, clock_moved, played_by}
@@ -73,15 +75,14 @@ use Rattle.session.proofs.Answering.{worlds_refused, worlds_stopped, worlds_acce
 
 module _ (reply : Reply) (c : Settings) (s : State) (ss : List Float) (was : Session) {a : LentAnswer} {last : List ℕ} where
   -- refused: whatever the slots are
-  pub refused_lent : (len : ℕ) {n : ℕ} {l r b : List Entry} → ArraysLent ss l r b → (n ≡ accepted → ⊥) → Leaves (λ x. refused_with n x len) s a last
+  pub refused_lent : (len : ℕ) (e : Refusal) {l r b : List Entry} → ArraysLent ss l r b → Leaves (λ x. refused_with e x len) s a last
       → Updates reply (answer_with a was) last → UpdatesLent reply c s ss was a ss l r b last
   unfolding refused_with
-  refused_lent len {n} {l} {r} {b} full e h u =
-      let k : a.refusal ≡ n = ap (λ (x : UpdateAnswer). x.refusal) (h.replies was).answer in
+  refused_lent len e {l} {r} {b} full h u =
+      let k : a.refusal ≡ Err e = ap (λ (x : UpdateAnswer). x.refusal) (h.replies was).answer in
       record {
         arrays = full;
-        updates = subst (λ (x : Session). Updates reply (answer_with a x) last)
-            (λ i. cond (sym (ne_eqb a.refusal 0 (λ z. e (sym k ∙ z))) i) (session_at c a.state ss l r b) was) u;
+        updates = subst (λ (x : Session). Updates reply (answer_with a x) last) (λ i. session_after (sym k i) was (session_at c a.state ss l r b)) u;
         state = λ z. h.state;
         samples = λ z. refl;
       }
@@ -92,8 +93,7 @@ module _ (reply : Reply) (c : Settings) (s : State) (ss : List Float) (was : Ses
   accepted_lent {ss₁} {l} {r} {b} full e u =
       record {
         arrays = full;
-        updates = subst (λ (x : Session). Updates reply (answer_with a x) last)
-            (λ i. cond (sym (eq-eqb a.refusal 0 e) i) (session_at c a.state ss₁ l r b) was) u;
+        updates = subst (λ (x : Session). Updates reply (answer_with a x) last) (λ i. session_after (sym e i) was (session_at c a.state ss₁ l r b)) u;
         state = λ z. absurd (z e);
         samples = λ z. absurd (z e);
       }
@@ -101,17 +101,17 @@ module _ (reply : Reply) (c : Settings) (s : State) (ss : List Float) (was : Ses
 -- ---- the inbox
 
 -- an inbox that is not refused is not too long
-not_long : (words : List ℕ) → refusal_of words ≡ 0 → ltb most_words (length words) ≡ false
+not_long : (words : List ℕ) → refusal_of words ≡ accepted → ltb most_words (length words) ≡ false
 not_long words h = go (ltb most_words (length words)) refl
   where
     go : (x : Bool) → ltb most_words (length words) ≡ x → x ≡ false
-    go true e = let z : ◌≡◌ {A = ℕ} 3 0 = refusal_long words (ltb-true most_words (length words) e) ∙ h in absurd (omega arith)
+    go true e = turned_down Length (refusal_long words (ltb-true most_words (length words) e) ∙ h)
     go false e = refl
 
 pub scanned : (s : State) (seconds : Float) (words : List ℕ) {r : Scan}
-    → Scans words seconds (listening s.clock.id) s.worlds.snapshots (old_in s.worlds).stamp r → r.refusal ≡ 0 → Scanned s seconds words r
+    → Scans words seconds (listening s.clock.id) s.worlds.snapshots (old_in s.worlds).stamp r → r.verdict ≡ accepted → Scanned s seconds words r
 scanned s seconds words h e =
-    let k = not_long words (sym h.refusal ∙ e) in
+    let k = not_long words (sym h.verdict ∙ e) in
     record {
       worldly = h.worldly ∙ (λ i. cond (k i) false (has_for_worlds words));
       commands = h.commands ∙ (λ i. cond (k i) false (has_command words));
@@ -134,10 +134,10 @@ settles c was n h {o} {k} {r} {last} ho hp hr =
     record { room = hp.room; clock = (λ i. clock_at last (hr i)) ∙ (λ i. clock_at last (settled_numbers n (ho i) k h.id)) ∙ hp.clock }
 
 -- the refusal at the end, by the calls that make it
-pub end_by : (c : Settings) (a : Advanced) (room : ℕ) {x : Float} {w f : Bool} {n : ℕ} → x ≡ tween_of a.overshoot c.timestep → w ≡ weight_ok x
-    → f ≡ leb a.books.at room → n ≡ end_refusal_by a.stop w f
-    → n ≡ end_refusal_by a.stop (weight_ok (tween_of a.overshoot c.timestep)) (leb a.books.at room)
-end_by c a room hx hw hf h = h ∙ (λ i. end_refusal_by a.stop ((hw ∙ ap weight_ok hx) i) (hf i))
+pub end_by : (c : Settings) (a : Advanced) (room : ℕ) {x : Float} {w f : Bool} {n : Verdict} → x ≡ tween_of a.overshoot c.timestep → w ≡ weight_ok x
+    → f ≡ leb a.books.at room → n ≡ end_verdict_by a.stop w f
+    → n ≡ end_verdict_by a.stop (weight_ok (tween_of a.overshoot c.timestep)) (leb a.books.at room)
+end_by c a room hx hw hf h = h ∙ (λ i. end_verdict_by a.stop ((hw ∙ ap weight_ok hx) i) (hf i))
 
 -- an inbox scanned by the stamp of the old world
 pub scans_as : (words : List ℕ) (seconds : Float) (known : Heard) (was : Snapshots) {o w : World} {r : Scan} → o ≡ w → Scans words seconds known was
@@ -162,26 +162,26 @@ concludes c s scan t a {ss} {ss₁} {b} {b₁} {was} {last} {w} {k} {z} he hs ha
 -- ---- while the clock syncs
 
 module _ (c : Settings) (s : State) (delta seconds : Float) (scan : Scan)
-    (len : ℕ) {ss : List Float} {l r b : List Entry} {n : ℕ} {a : LentAnswer} {last : List ℕ}
-    (full : ArraysLent ss l r b) (hn : n ≡ syncing_refusal_by scan.worldly scan.heard.other) where
-  pub sync_refused : (n ≡ 0 → ⊥) → Leaves (λ x. refused_with n x len) s a last → SyncsLent c s delta seconds scan len ss l r b a ss l r b last
+    (len : ℕ) {ss : List Float} {l r b : List Entry} {n : Verdict} {a : LentAnswer} {last : List ℕ}
+    (full : ArraysLent ss l r b) (hn : n ≡ syncing_verdict_by scan.worldly scan.heard.other) where
+  pub sync_refused : {q : Refusal} → n ≡ Err q → Leaves (λ x. refused_with q x len) s a last → SyncsLent c s delta seconds scan len ss l r b a ss l r b last
   sync_refused e h =
       record {
         arrays = full;
-        syncs = λ words q. refused_lent _ c s ss (session_at c s ss l r b) len full e h
+        syncs = λ words q. refused_lent _ c s ss (session_at c s ss l r b) len _ full h
             (clock_refused (session_at c s ss l r b) delta seconds words refl q.heard q.worldly hn len e (h.replies (session_at c s ss l r b)));
       }
 
-  module _ (e : n ≡ 0) {t : TickedNumbers} (ht : (xs : List Float) → ticked_at xs t ≡ ticked_of (clock_at xs s.clock) c.period delta)
+  module _ (e : n ≡ accepted) {t : TickedNumbers} (ht : (xs : List Float) → ticked_at xs t ≡ ticked_of (clock_at xs s.clock) c.period delta)
       {k : ClockNumbers} {ss₁ : List Float} (hk : Settles c ss t.clock scan.heard k ss₁) {q : State} {l₁ r₁ b₁ : List Entry}
-      (hq : Syncs c s k seconds l r b q l₁ r₁ b₁) (h : Leaves (λ x. unplayed_of 0 x t.request len) q a last) where
+      (hq : Syncs c s k seconds l r b q l₁ r₁ b₁) (h : Leaves (λ x. unplayed_of accepted x t.request len) q a last) where
     sync_moved_of : (words : List ℕ) → Scanned s seconds words scan
         → UpdatesLent (clock_update_of (session_at c s ss l r b) delta seconds words len) c s ss (session_at c s ss l r b) a ss₁ l₁ r₁ b₁ last
     sync_moved_of words z =
         let next : Session = session_at c q ss₁ l₁ r₁ b₁ in
-        let u : Updates (unplayed_of 0 next t.request len) (answer_with a next) last = h.replies next in
-        let v : Updates (unplayed_of 0 next t.request len) (answer_with a (session_at c a.state ss₁ l₁ r₁ b₁)) last =
-        subst (λ (x : State). Updates (unplayed_of 0 next t.request len) (answer_with a (session_at c x ss₁ l₁ r₁ b₁)) last) (sym h.state) u in
+        let u : Updates (unplayed_of accepted next t.request len) (answer_with a next) last = h.replies next in
+        let v : Updates (unplayed_of accepted next t.request len) (answer_with a (session_at c a.state ss₁ l₁ r₁ b₁)) last =
+        subst (λ (x : State). Updates (unplayed_of accepted next t.request len) (answer_with a (session_at c x ss₁ l₁ r₁ b₁)) last) (sym h.state) u in
         accepted_lent _ c s ss (session_at c s ss l r b) (record { samples = hk.room; slots = hq.slots })
         (ap (λ (x : UpdateAnswer). x.refusal) (h.replies next).answer)
         (clock_moved (session_at c s ss l r b) delta seconds words refl z.heard z.worldly hn len e (ht ss) hk.clock (hq.session ss ss₁) v)
@@ -202,9 +202,9 @@ old_stays w z = go (eqb w.new 0)
     go false = refl
 
 module _ (c : Settings) (s : State) (delta seconds : Float) (words : List ℕ) (scan : Scan) (ss : List Float) {l r b : List Entry} {z : Arrived}
-    {l₁ r₁ b₁ : List Entry} {n : ℕ} (hs : Scanned s seconds words scan)
+    {l₁ r₁ b₁ : List Entry} {n : Verdict} (hs : Scanned s seconds words scan)
     (hr : ReceivesAll words (unarrived_of s.worlds) (midpoints_of s.worlds) l r b z l₁ r₁ b₁)
-    (hn : n ≡ arrival_refusal_by scan.heard.other z.full) where
+    (hn : n ≡ arrival_verdict_by scan.heard.other z.full) where
   -- the session that was handed in
   abbrev whole : Session
   whole = session_at c s ss l r b
@@ -217,13 +217,13 @@ module _ (c : Settings) (s : State) (delta seconds : Float) (words : List ℕ) (
   got_is = hr.received (scene_of whole) ∙ (λ i. received_in words (record { scene = unarrived_is s.worlds l r b i; full = false }))
 
   -- refused by what arrived
-  pub play_refused : (len : ℕ) {a : LentAnswer} {last : List ℕ} → length ss ≡ sample_room → (n ≡ 0 → ⊥) → Leaves (λ x. refused_with n x len) s a last
+  pub play_refused : (len : ℕ) {q : Refusal} {a : LentAnswer} {last : List ℕ} → length ss ≡ sample_room → n ≡ Err q → Leaves (λ x. refused_with q x len) s a last
       → UpdatesLent (worlds_update_of whole delta seconds words len) c s ss whole a ss l₁ r₁ b₁ last
   play_refused len room e h =
-      refused_lent _ c s ss whole len (record { samples = room; slots = hr.slots }) e h
+      refused_lent _ c s ss whole len _ (record { samples = room; slots = hr.slots }) h
       (worlds_refused whole delta seconds words refl hs.heard refl got_is hn len e (h.replies whole))
 
-  module _ (e : n ≡ 0) {t : TickedNumbers} (ht : (xs : List Float) → ticked_at xs t ≡ ticked_of (clock_at xs s.clock) c.period delta) {o : Offset}
+  module _ (e : n ≡ accepted) {t : TickedNumbers} (ht : (xs : List Float) → ticked_at xs t ≡ ticked_of (clock_at xs s.clock) c.period delta) {o : Offset}
       (ho : o ≡ (settled_of c (clock_at ss t.clock) scan.heard).offset) {x : Float} (hx : x ≡ server_time_by (server_seconds_of o seconds) seconds)
       {was mid : List ℕ} {v : Advanced} {l₂ r₂ b₂ : List Entry}
       (hv : RunsAt (λ y. unended_of c y s.overshoot delta (add binary64 x c.lag)) (numbers_in s.worlds scan.snapshots.queued) (books_of z)
@@ -253,12 +253,13 @@ module _ (c : Settings) (s : State) (delta seconds : Float) (words : List ℕ) (
     slots_full : AllSlots l₂ r₂ b₂
     slots_full = record { left = hv.lent.left.slots; right = hv.lent.right.slots; base = hv.lent.base.slots }
 
-    module _ {m : ℕ} (hm : m ≡ end_refusal_by v.stop (weight_ok (tween_of v.overshoot c.timestep)) (leb v.books.at (length mid))) where
+    module _ {m : Verdict} (hm : m ≡ end_verdict_by v.stop (weight_ok (tween_of v.overshoot c.timestep)) (leb v.books.at (length mid))) where
       -- refused at its end
-      pub play_stopped : {a : LentAnswer} {last : List ℕ} → length ss ≡ sample_room → (m ≡ 0 → ⊥) → Leaves (λ y. refused_with m y (length mid)) s a last
+      pub play_stopped : {q : Refusal} {a : LentAnswer} {last : List ℕ} → length ss ≡ sample_room → m ≡ Err q
+          → Leaves (λ y. refused_with q y (length mid)) s a last
           → UpdatesLent (worlds_update_of whole delta seconds words (length was)) c s ss whole a ss l₂ r₂ b₂ last
       play_stopped room k h =
-          refused_lent _ c s ss whole (length mid) (record { samples = room; slots = slots_full }) k h
+          refused_lent _ c s ss whole (length mid) _ (record { samples = room; slots = slots_full }) h
           (worlds_stopped whole delta seconds words refl hs.heard refl got_is hn e (ht ss) refl played hm refl k (h.replies whole))
 
       module _ {a : LentAnswer} {ss₁ : List Float} {b₃ : List Entry} {last : List ℕ} (hc : Concludes c s scan t v ss b₂ mid a ss₁ b₃ last) where
@@ -286,7 +287,7 @@ module _ (c : Settings) (s : State) (delta seconds : Float) (words : List ℕ) (
               tape = hc.accepts.tape;
             }
 
-        pub play_accepted : m ≡ 0 → UpdatesLent (worlds_update_of whole delta seconds words (length was)) c s ss whole a ss₁ l₂ r₂ b₃ last
+        pub play_accepted : m ≡ accepted → UpdatesLent (worlds_update_of whole delta seconds words (length was)) c s ss whole a ss₁ l₂ r₂ b₃ last
         play_accepted k =
             accepted_lent _ c s ss whole
             (record { samples = hc.settles.room; slots = record { left = hv.lent.left.slots; right = hv.lent.right.slots; base = hc.ends.slots } })
@@ -295,25 +296,25 @@ module _ (c : Settings) (s : State) (delta seconds : Float) (words : List ℕ) (
 
 -- ---- one update
 
-module _ (c : Settings) (s : State) (delta seconds : Float) (words : List ℕ) (ss : List Float) (l r b : List Entry) {t q : Bool} {m n : ℕ}
-    (ht : t ≡ times_ok delta seconds) (hm : m ≡ refusal_of words) (hq : q ≡ sound_of (session_at c s ss l r b)) (hn : n ≡ once_refusal_by t m q) where
+module _ (c : Settings) (s : State) (delta seconds : Float) (words : List ℕ) (ss : List Float) (l r b : List Entry) {t q : Bool} {m n : Verdict}
+    (ht : t ≡ times_ok delta seconds) (hm : m ≡ refusal_of words) (hq : q ≡ sound_of (session_at c s ss l r b)) (hn : n ≡ once_verdict_by t m q) where
   -- the refusal before anything is played
-  once : n ≡ refused_at_once (session_at c s ss l r b) delta seconds words
+  once : n ≡ verdict_at_once (session_at c s ss l r b) delta seconds words
   once = once_is (session_at c s ss l r b) delta seconds words ht hm hq hn
 
   -- without one, the inbox is read to its end
-  pub once_read : n ≡ 0 → m ≡ 0
+  pub once_read : n ≡ accepted → m ≡ accepted
   once_read e = (once_accepted t m q (sym hn ∙ e)).1
 
   -- and the session is sound
-  once_sound : n ≡ 0 → sound_of (session_at c s ss l r b) ≡ true
+  once_sound : n ≡ accepted → sound_of (session_at c s ss l r b) ≡ true
   once_sound e = sym hq ∙ (once_accepted t m q (sym hn ∙ e)).2
 
-  pub once_steps : n ≡ 0 → c.m ≤ most_steps
+  pub once_steps : n ≡ accepted → c.m ≤ most_steps
   once_steps e = once_few (session_at c s ss l r b) delta seconds words once e
 
   -- so its buffers are
-  pub once_lent : AllSlots l r b → n ≡ 0 → WorldsLent s.worlds l r b
+  pub once_lent : AllSlots l r b → n ≡ accepted → WorldsLent s.worlds l r b
   unfolding sound_of worlds_sound buffers_sound
   once_lent full e =
       let whole = session_at c s ss l r b in
@@ -331,14 +332,14 @@ module _ (c : Settings) (s : State) (delta seconds : Float) (words : List ℕ) (
       }
 
   -- refused
-  pub lent_refused : (len : ℕ) {a : LentAnswer} {last : List ℕ} → ArraysLent ss l r b → (n ≡ 0 → ⊥) → Leaves (λ x. refused_with n x len) s a last
+  pub lent_refused : (len : ℕ) {e : Refusal} {a : LentAnswer} {last : List ℕ} → ArraysLent ss l r b → n ≡ Err e → Leaves (λ x. refused_with e x len) s a last
       → UpdatesLent (update_of (session_at c s ss l r b) delta seconds words len) c s ss (session_at c s ss l r b) a ss l r b last
   lent_refused len full e h =
-      refused_lent _ c s ss (session_at c s ss l r b) len full e h
+      refused_lent _ c s ss (session_at c s ss l r b) len _ full h
       (update_refused (session_at c s ss l r b) delta seconds words len once e (h.replies (session_at c s ss l r b)))
 
   -- by whether worlds exist
-  pub lent_by : (len : ℕ) (x : Bool) {w : Bool} {a : LentAnswer} {ss₁ : List Float} {l₁ r₁ b₁ : List Entry} {last : List ℕ} → n ≡ 0
+  pub lent_by : (len : ℕ) (x : Bool) {w : Bool} {a : LentAnswer} {ss₁ : List Float} {l₁ r₁ b₁ : List Entry} {last : List ℕ} → n ≡ accepted
       → w ≡ has_worlds s.stage → w ≡ x
       → UpdatesLent (update_by x (session_at c s ss l r b) delta seconds words len) c s ss (session_at c s ss l r b) a ss₁ l₁ r₁ b₁ last
       → UpdatesLent (update_of (session_at c s ss l r b) delta seconds words len) c s ss (session_at c s ss l r b) a ss₁ l₁ r₁ b₁ last
@@ -365,14 +366,21 @@ module _ (x : Session) (delta seconds : Float) (words : List ℕ) (len : ℕ) {t
       subst (λ (y : State). Updates (update_of (back_of x y) delta seconds words len)
       (answer_with a (session_after a.refusal (back_of x y) (session_at x.settings a.state ss l r b))) last) ht h.updates
 
-  pub value_refused : (a.refusal ≡ 0 → ⊥) → {q : UpdateAnswer} → q ≡ answer_with a x → Updates (update_of x delta seconds words len) q last
+  pub value_refused : is_err a.refusal ≡ true → {q : UpdateAnswer} → q ≡ answer_with a x → Updates (update_of x delta seconds words len) q last
   value_refused e {q} hq =
-      subst (λ (y : UpdateAnswer). Updates (update_of x delta seconds words len) y last)
-      ((λ i. answer_with a (cond (ne_eqb a.refusal 0 e i) (session_at x.settings a.state ss l r b) x)) ∙ sym hq) by_value_of
+      subst (λ (y : UpdateAnswer). Updates (update_of x delta seconds words len) y last) (kept a.refusal e ∙ sym hq) by_value_of
+    where
+      kept : (v : Verdict) → is_err v ≡ true → answer_with a (session_after v x (session_at x.settings a.state ss l r b)) ≡ answer_with a x
+      kept (Ok y) k = absurd (false≢true k)
+      kept (Err y) k = refl
 
-  pub value_accepted : a.refusal ≡ 0 → {y : Session} → y ≡ session_at x.settings a.state ss l r b → {q : UpdateAnswer} → q ≡ answer_with a y
+  pub value_accepted : is_err a.refusal ≡ false → {y : Session} → y ≡ session_at x.settings a.state ss l r b → {q : UpdateAnswer} → q ≡ answer_with a y
       → Updates (update_of x delta seconds words len) q last
   value_accepted e {y} hy {q} hq =
       subst (λ (z : UpdateAnswer). Updates (update_of x delta seconds words len) z last)
-      ((λ i. answer_with a (cond (eq-eqb a.refusal 0 e i) (session_at x.settings a.state ss l r b) x))
-      ∙ (λ i. answer_with a (sym hy i)) ∙ sym hq) by_value_of
+      (moved a.refusal e ∙ (λ i. answer_with a (sym hy i)) ∙ sym hq) by_value_of
+    where
+      moved : (v : Verdict) → is_err v ≡ false
+          → answer_with a (session_after v x (session_at x.settings a.state ss l r b)) ≡ answer_with a (session_at x.settings a.state ss l r b)
+      moved (Ok z) k = refl
+      moved (Err z) k = absurd (false≢true (sym k))

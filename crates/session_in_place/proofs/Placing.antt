@@ -1,16 +1,18 @@
 -- An update in place, over plain values: the lengths of the arrays, and the slots that a refusal puts back. Assumes nothing.
 use Prim.{⊥}
 use mathlib.Core.Path.{◌≡◌, refl, ap, sym, subst, ◌∙◌}
-use mathlib.Core.Bool.{Bool, true, false, cond, not}
+use mathlib.Core.Bool.{Bool, true, false}
 use mathlib.Core.List.{List}
 use Prim.Native.Nat.{ℕ}
 use native.Mathlib.Omega.{arith}
 use lib.Dec.{eqb}
 use lib.ListN.{length}
 use lib.Ieee.{Float}
-use borrow.Author.Tests.{eq-eqb, ne_eqb, eqb-true, eqb-false}
+use borrow.Author.Tests.{eqb-true}
 use Rattle.timestamp.proofs.Tests.{apart}
-use Rattle.refusals.specs.Refusals.{once_refusal_by}
+use Rattle.std.specs.Prelude.{Ok, Err, is_err}
+use Rattle.refusals.specs.Refusals.{Verdict, accepted, once_verdict_by}
+use Rattle.refusals.proofs.Accepted.{turned_down}
 use Rattle.settings.specs.declared.Settings.{Settings}
 use Rattle.command.specs.Entries.{Entry}
 use Rattle.slots.specs.After.{Copied}
@@ -19,26 +21,13 @@ use Rattle.session_state.specs.declared.Session.{Session}
 use Rattle.session_lent.specs.declared.State.{State}
 use Rattle.session_lent.specs.Lent.{session_at}
 use Rattle.session_in_place.specs.declared.LentAnswer.{LentAnswer}
-use Rattle.session_answers.specs.Answers.{Reply, refused_with, Updates}
+use Rattle.session_answers.specs.Answers.{Reply, unplayed_of, Updates}
 use Rattle.session_in_place.specs.AnswersLent.{answer_with, Leaves}
 use Rattle.session.specs.Calls.{times_ok, update_of}
-use Rattle.session_in_place.specs.Lent.{ArraysLent, UpdatesLent}
+use Rattle.session_in_place.specs.Lent.{ArraysLent, session_after, UpdatesLent}
 use Rattle.session_in_place.specs.InPlace.{lengths_fit, update_fitting, UpdatesInPlace, PutsBack}
 
 -- ---- the lengths
-
-module _ (n l r b : ℕ) where
-  pub samples_unfit : (n ≡ 64 → ⊥) → false ≡ lengths_fit n l r b
-  samples_unfit e = rw (ne_eqb n 64 e) refl
-
-  pub left_unfit : n ≡ 64 → (l ≡ 64 → ⊥) → false ≡ lengths_fit n l r b
-  left_unfit e k = rw (eq-eqb n 64 e, ne_eqb l 64 k) refl
-
-  pub right_unfit : n ≡ 64 → l ≡ 64 → (r ≡ 64 → ⊥) → false ≡ lengths_fit n l r b
-  right_unfit e f k = rw (eq-eqb n 64 e, eq-eqb l 64 f, ne_eqb r 64 k) refl
-
-  pub base_tells : n ≡ 64 → l ≡ 64 → r ≡ 64 → eqb b 64 ≡ lengths_fit n l r b
-  base_tells e f g = rw (eq-eqb n 64 e, eq-eqb l 64 f, eq-eqb r 64 g) refl
 
 -- arrays that fit
 pub fit_arrays : (ss : List Float) (l r b : List Entry) {x : Bool} → x ≡ lengths_fit (length ss) (length l) (length r) (length b) → x ≡ true
@@ -79,36 +68,36 @@ put_all hl hr hb {q} e =
 module _ (c : Settings) (s : State) (delta seconds : Float) (words : List ℕ) (ss : List Float) (l r b : List Entry) (was : List ℕ) {x : Bool}
     (hx : x ≡ lengths_fit (length ss) (length l) (length r) (length b)) {a : LentAnswer} {last : List ℕ} where
   -- arrays that do not fit
-  pub place_unfit : {t : Bool} {m n : ℕ} → x ≡ false → t ≡ times_ok delta seconds → m ≡ refusal_of words → n ≡ once_refusal_by t m false
-      → Leaves (λ y. refused_with n y (length was)) s a last → UpdatesInPlace c s delta seconds words ss l r b was a ss l r b last
+  pub place_unfit : {t : Bool} {m n : Verdict} → x ≡ false → t ≡ times_ok delta seconds → m ≡ refusal_of words → n ≡ once_verdict_by t m false
+      → Leaves (λ y. unplayed_of n y false (length was)) s a last → UpdatesInPlace c s delta seconds words ss l r b was a ss l r b last
   place_unfit {t} {m} {n} e ht hm hn h =
       let whole = session_at c s ss l r b in
-      let u : Updates (refused_with n whole (length was)) (answer_with a (session_at c a.state ss l r b)) last =
-      subst (λ (q : State). Updates (refused_with n whole (length was)) (answer_with a (session_at c q ss l r b)) last) (sym h.state) (h.replies whole) in
-      let v : refused_with n whole (length was) ≡ update_fitting (lengths_fit (length ss) (length l) (length r) (length b)) whole delta seconds words
+      let u : Updates (unplayed_of n whole false (length was)) (answer_with a (session_at c a.state ss l r b)) last =
+      subst (λ (q : State). Updates (unplayed_of n whole false (length was)) (answer_with a (session_at c q ss l r b)) last) (sym h.state) (h.replies whole) in
+      let v : unplayed_of n whole false (length was) ≡ update_fitting (lengths_fit (length ss) (length l) (length r) (length b)) whole delta seconds words
       (length was) =
-      (λ i. refused_with ((hn ∙ (λ j. once_refusal_by (ht j) (hm j) false)) i) whole (length was))
+      (λ i. unplayed_of ((hn ∙ (λ j. once_verdict_by (ht j) (hm j) false)) i) whole false (length was))
       ∙ (λ i. update_fitting ((sym e ∙ hx) i) whole delta seconds words (length was)) in
       record { updates = subst (λ (q : Reply). Updates q (answer_with a (session_at c a.state ss l r b)) last) v u }
 
   module _ (e : x ≡ true) {ss₁ : List Float} {l₁ r₁ b₁ l₀ r₀ b₀ l₂ r₂ b₂ : List Entry}
       (h : UpdatesLent (update_of (session_at c s ss l r b) delta seconds words (length was)) c s ss (session_at c s ss l r b) a ss₁ l₁ r₁ b₁ last)
-      (hl : Copied l l₀) (hr : Copied r r₀) (hb : Copied b b₀) (p : PutsBack (not (eqb a.refusal 0)) l₁ r₁ b₁ l₀ r₀ b₀ l₂ r₂ b₂) where
+      (hl : Copied l l₀) (hr : Copied r r₀) (hb : Copied b b₀) {k : Bool} (hk : k ≡ is_err a.refusal)
+      (p : PutsBack k l₁ r₁ b₁ l₀ r₀ b₀ l₂ r₂ b₂) where
     -- the session that is there now
-    now_is : (q : Bool) → eqb a.refusal 0 ≡ q
-        → cond q (session_at c a.state ss₁ l₁ r₁ b₁) (session_at c s ss l r b) ≡ session_at c a.state ss₁ l₂ r₂ b₂
-    now_is true k =
-        let z = p.kept (ap not k) in
+    now_is : (v : Verdict) → a.refusal ≡ v → session_after v (session_at c s ss l r b) (session_at c a.state ss₁ l₁ r₁ b₁) ≡ session_at c a.state ss₁ l₂ r₂ b₂
+    now_is (Ok y) v =
+        let z = p.kept (hk ∙ ap is_err v) in
         λ i. session_at c a.state ss₁ (sym z.0 i) (sym z.1 i) (sym z.2 i)
-    now_is false k =
-        let z = p.back (ap not k) in
-        let n = eqb-false a.refusal 0 k in
+    now_is (Err q) v =
+        let z = p.back (hk ∙ ap is_err v) in
+        let n : a.refusal ≡ accepted → ⊥ = λ y. turned_down q (sym v ∙ y) in
         λ i. session_at c (sym (h.state n) i) (sym (h.samples n) i) (sym (z.0 ∙ hl.same) i) (sym (z.1 ∙ hr.same) i) (sym (z.2 ∙ hb.same) i)
 
     pub place_fit : UpdatesInPlace c s delta seconds words ss l r b was a ss₁ l₂ r₂ b₂ last
     place_fit =
         let u = subst (λ (q : Session). Updates (update_of (session_at c s ss l r b) delta seconds words (length was)) (answer_with a q) last)
-        (now_is (eqb a.refusal 0) refl) h.updates in
+        (now_is a.refusal refl) h.updates in
         record {
           updates = subst (λ (q : Bool). Updates (update_fitting q (session_at c s ss l r b) delta seconds words (length was))
               (answer_with a (session_at c a.state ss₁ l₂ r₂ b₂)) last) (sym e ∙ hx) u;

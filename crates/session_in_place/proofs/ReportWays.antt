@@ -1,11 +1,7 @@
 -- What a report comes to, over plain values. Assumes nothing.
-use Prim.{⊥}
 use mathlib.Core.Path.{◌≡◌, ap, sym, ◌∙◌}
-use mathlib.Core.Bool.{Bool, cond}
-use Prim.Native.Nat.{ℕ}
 use lib.Dec.{eqb}
-use borrow.Author.Tests.{eq-eqb, ne_eqb}
-use Rattle.refusals.specs.Refusals.{report_refusal_by}
+use Rattle.refusals.specs.Refusals.{accepted}
 use lib.Ieee.{lt}
 use Rattle.timestamp.specs.Floats.{one64}
 use Rattle.client.specs.declared.ReconciliationStatus.{ReconciliationStatus}
@@ -18,30 +14,13 @@ use Rattle.session_lent.specs.Lent.{worlds_in}
 use Rattle.session_lent.proofs.Reading.{old_stamp_in, new_stamp_in}
 use Rattle.session_play.specs.Play.{numbers_in}
 use Rattle.session_state.specs.declared.Session.{Session}
-use Rattle.session_state.specs.Session.{has_worlds}
-use Rattle.session_state.specs.Sound.{sound_of}
 use Rattle.session_report.specs.declared.ReportAnswer.{ReportAnswer}
-use Rattle.session_report.specs.Report.{unreported, reported_of}
-use Rattle.session_report.specs.Report.{report_refusal_of, report_of}
-
-module _ (s : Session) {p w : Bool} {n : ℕ} (hp : p ≡ sound_of s) (hw : w ≡ has_worlds s.stage) (hn : n ≡ report_refusal_by p w) where
-  report_refusal : n ≡ report_refusal_of s
-  report_refusal = hn ∙ (λ i. report_refusal_by (hp i) (hw i))
-
-  pub report_refused : {r : ReportAnswer} → (n ≡ 0 → ⊥) → r ≡ unreported n → r ≡ report_of s
-  unfolding report_of
-  report_refused k h =
-      h ∙ ap unreported report_refusal ∙ (λ i. cond (sym (ne_eqb (report_refusal_of s) 0 (λ z. k (report_refusal ∙ z))) i) (reported_of s)
-      (unreported (report_refusal_of s)))
-
-  pub report_accepted : {r : ReportAnswer} → n ≡ 0 → r ≡ reported_of s → r ≡ report_of s
-  unfolding report_of
-  report_accepted k h = h ∙ (λ i. cond (sym (eq-eqb (report_refusal_of s) 0 (sym report_refusal ∙ k)) i) (reported_of s) (unreported (report_refusal_of s)))
+use Rattle.session_report.specs.Report.{reported_of}
 
 -- where a session stands, by its numbers
 pub reported_by : (s : Session) {w : Worlds} {n : Numbers} {t : ReconciliationStatus} → w ≡ worlds_in s.worlds → n ≡ numbers_in w w.snapshots.queued
     → t ≡ status_in n
-    → ◌≡◌ {A = ReportAnswer} (record { refusal = 0; stage = s.stage; status = t; old = n.old; new = n.new; time = w.published.time }) (reported_of s)
+    → ◌≡◌ {A = ReportAnswer} (record { refusal = accepted; stage = s.stage; status = t; old = n.old; new = n.new; time = w.published.time }) (reported_of s)
 unfolding status_in status_of
 reported_by s {w} {n} {t} hw hn ht =
     let m : n ≡ numbers_in (worlds_in s.worlds) s.worlds.snapshots.queued = hn ∙ (λ i. numbers_in (hw i) (hw i).snapshots.queued) in
@@ -51,7 +30,7 @@ reported_by s {w} {n} {t} hw hn ht =
     let old : n.old ≡ old_stamp_of s.worlds = ap (λ (x : Numbers). x.old) m ∙ sym (old_stamp_in (worlds_in s.worlds) l r b) in
     let new : n.new ≡ new_stamp_of s.worlds = ap (λ (x : Numbers). x.new) m ∙ sym (new_stamp_in (worlds_in s.worlds) l r b) in
     λ i. record {
-      refusal = 0;
+      refusal = accepted;
       stage = s.stage;
       status = (ht
           ∙ (λ j. status_by (eqb (new j).0 (old j).0) (lt (m j).weight one64) (overshot_of (new j) (old j)) (newer_of (m j).queued (new j)) (m j).weight)) i;

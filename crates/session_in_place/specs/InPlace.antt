@@ -2,7 +2,7 @@
 -- Definitions only. Assumes nothing.
 use Rattle.std.specs.Prelude.{ℕ, Bool, true, false, ◌&&◌, List, ◌≡◌, eqb, length, Float}
 use Rattle.refusals.specs.Limits.{sample_room, buffer_room}
-use Rattle.refusals.specs.Refusals.{once_refusal_by}
+use Rattle.refusals.specs.Refusals.{once_verdict_by}
 use Rattle.settings.specs.declared.Settings.{Settings}
 use Rattle.command.specs.Entries.{Entry}
 use Rattle.inbox_refusal.specs.Refusal.{refusal_of}
@@ -10,7 +10,7 @@ use Rattle.session_state.specs.declared.Session.{Session}
 use Rattle.session_lent.specs.declared.State.{State}
 use Rattle.session_lent.specs.Lent.{session_at}
 use Rattle.session_in_place.specs.declared.LentAnswer.{LentAnswer}
-use Rattle.session_answers.specs.Answers.{Reply, refused_with, Updates}
+use Rattle.session_answers.specs.Answers.{Reply, unplayed_of, Updates}
 use Rattle.session_in_place.specs.AnswersLent.{answer_with}
 use Rattle.session.specs.Calls.{times_ok, update_of}
 
@@ -21,7 +21,7 @@ lengths_fit n l r b = eqb n sample_room && (eqb l buffer_room && (eqb r buffer_r
 -- update, by whether the arrays are those of a session: others are refused as a session that is not sound
 abbrev pub update_fitting : Bool → Session → Float → Float → List ℕ → ℕ → Reply
 update_fitting true s delta seconds inbox len = update_of s delta seconds inbox len
-update_fitting false s delta seconds inbox len = refused_with (once_refusal_by (times_ok delta seconds) (refusal_of inbox) false) s len
+update_fitting false s delta seconds inbox len = unplayed_of (once_verdict_by (times_ok delta seconds) (refusal_of inbox) false) s false len
 
 -- an update in place as the code leaves it: its reply, in which the session is that of the numbers and arrays that are there now. So a refusal, whose
 -- session is

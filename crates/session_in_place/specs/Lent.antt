@@ -1,8 +1,8 @@
 -- The call update over arrays that are lent: what it asks of them and what it leaves in them. Definitions only. Assumes nothing.
 use Prim.{⊥}
-use Rattle.std.specs.Prelude.{ℕ, false, cond, List, ◌≡◌, eqb, length, Float}
+use Rattle.std.specs.Prelude.{ℕ, false, List, ◌≡◌, length, Float, Ok, Err}
 use Rattle.refusals.specs.Limits.{sample_room}
-use Rattle.refusals.specs.Refusals.{accepted}
+use Rattle.refusals.specs.Refusals.{Verdict, accepted}
 use Rattle.settings.specs.declared.Settings.{Settings}
 use Rattle.command.specs.Entries.{Entry}
 use Rattle.command.specs.Slots.{AllSlots}
@@ -34,8 +34,9 @@ pub record ArraysLent (ss : List Float) (l r b : List Entry) : Type 0 where
   pub slots : AllSlots l r b
 
 -- the session after an update: that of the numbers and arrays which it leaves, or, refused, the one that was handed in
-abbrev pub session_after : ℕ → Session → Session → Session
-session_after n was next = cond (eqb n accepted) next was
+abbrev pub session_after : Verdict → Session → Session → Session
+session_after (Ok x) was next = next
+session_after (Err e) was next = was
 
 -- an update over lent arrays as the code leaves it: its reply is that of the session `was` that was handed in. Refused, it leaves numbers and samples as they
 -- were, and of the slots nothing is said

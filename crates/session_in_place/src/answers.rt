@@ -7,12 +7,13 @@ use super::LentAnswer;
 use client::ledgers;
 use clock_samples::ClockNumbers;
 use frames::Advanced;
+use refusals::{Refusal, Verdict};
 use session_answers::UpdateAnswer;
 use session_lent::{State, Worlds};
 use session_state::Session;
 
 // The answer of an update that played nothing: the tape is zeroed.
-pub fn unplayed(refusal: u32, state: State, request: bool, tape: &mut [u32]) -> LentAnswer
+pub fn unplayed(refusal: Verdict, state: State, request: bool, tape: &mut [u32]) -> LentAnswer
     ensures { Leaves (λ x. unplayed_of refusal x request (length tape.old)) state result tape.new }
 {
     tape::clear(tape, 0);
@@ -29,10 +30,10 @@ pub fn unplayed(refusal: u32, state: State, request: bool, tape: &mut [u32]) -> 
 }
 
 // A refused update: the session unchanged, the tape zeroed, everything else 0.
-pub fn refuse(refusal: u32, state: State, tape: &mut [u32]) -> LentAnswer
+pub fn refuse(refusal: Refusal, state: State, tape: &mut [u32]) -> LentAnswer
     ensures { Leaves (λ x. refused_with refusal x (length tape.old)) state result tape.new }
 {
-    unplayed(refusal, state, false, tape)
+    unplayed(Err(refusal), state, false, tape)
 }
 
 // An update that nothing refuses, with the worlds that it ends with: its session, and zeros on the rest of the tape.
@@ -46,30 +47,21 @@ pub fn accept(
 ) -> LentAnswer
     ensures { Accepts s clock request worlds a tape.old result tape.new }
 {
-    let b = a.books;
-    let at = b.at;
-    tape::clear(tape, at);
-    let published = worlds.published;
-    let time = published.time;
-    let before = s.stage;
-    let stage = session_stage::stage_after(before, time);
-    let n = a.numbers;
-    let left = b.left;
-    let right = b.right;
+    tape::clear(tape, a.books.at);
     LentAnswer {
-        refusal: refusals::ACCEPTED,
+        refusal: Ok(()),
         state: State {
-            stage,
+            stage: session_stage::stage_after(s.stage, worlds.published.time),
             clock,
             worlds,
             overshoot: a.overshoot,
         },
         frames: a.frames,
-        steps: n.steps,
+        steps: a.numbers.steps,
         request,
-        left,
-        right,
-        words: at,
+        left: a.books.left,
+        right: a.books.right,
+        words: a.books.at,
     }
 }
 
@@ -77,16 +69,14 @@ pub fn accept(
 pub fn with_session(a: LentAnswer, session: Session) -> UpdateAnswer
     ensures { result ≡ answer_with a session }
 {
-    let left = a.left;
-    let right = a.right;
     UpdateAnswer {
         refusal: a.refusal,
         session,
         frames: a.frames,
         steps: a.steps,
         request: a.request,
-        left,
-        right,
+        left: a.left,
+        right: a.right,
         words: a.words,
     }
 }

@@ -18,20 +18,13 @@ pub fn update(
 ) -> UpdateAnswer
     ensures { Updates (update_of session delta seconds inbox.now (length tape.old)) result tape.new }
 {
-    let settings = session.settings;
-    let clock = session.clock;
     let worlds = session.worlds;
-    let x = worlds.left;
-    let y = worlds.right;
-    let p = x.commands;
-    let q = y.commands;
-    let b = worlds.base;
-    let mut samples = clock.samples;
-    let mut left = p.entries;
-    let mut right = q.entries;
-    let mut base = b.entries;
+    let mut samples = session.clock.samples;
+    let mut left = worlds.left.commands.entries;
+    let mut right = worlds.right.commands.entries;
+    let mut base = worlds.base.entries;
     let a = lent::update(
-        settings,
+        session.settings,
         session_lent::state_of(session),
         delta,
         seconds,
@@ -42,9 +35,9 @@ pub fn update(
         &mut base,
         tape,
     );
-    if a.refusal != refusals::ACCEPTED {
+    if a.refusal.is_err() {
         return answers::with_session(a, session);
     }
-    let next = session_lent::session_of(settings, a.state, samples, left, right, base);
+    let next = session_lent::session_of(session.settings, a.state, samples, left, right, base);
     answers::with_session(a, next)
 }

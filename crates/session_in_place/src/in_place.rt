@@ -5,6 +5,7 @@ ghost use Rattle.command.specs.Slots.{AllSlots};
 ghost use Rattle.session_in_place.specs.InPlace.{lengths_fit, UpdatesInPlace, PutsBack};
 
 use super::{LentAnswer, answers, lent};
+use session::calls;
 use session_lent::State;
 use settings::Settings;
 
@@ -12,16 +13,10 @@ use settings::Settings;
 pub(crate) fn lengths_fit(samples: usize, left: usize, right: usize, base: usize) -> bool
     ensures { result ≡ lengths_fit samples left right base }
 {
-    if samples != refusals::SAMPLE_ROOM {
-        return false;
-    }
-    if left != refusals::BUFFER_ROOM {
-        return false;
-    }
-    if right != refusals::BUFFER_ROOM {
-        return false;
-    }
-    base == refusals::BUFFER_ROOM
+    samples == refusals::SAMPLE_ROOM
+        && left == refusals::BUFFER_ROOM
+        && right == refusals::BUFFER_ROOM
+        && base == refusals::BUFFER_ROOM
 }
 
 // Puts slots back where a call was refused.
@@ -62,9 +57,12 @@ pub fn update(
         base.old tape.old result samples.new left.new right.new base.new tape.new }
 {
     if !lengths_fit(samples.len(), left.len(), right.len(), base.len()) {
-        let times = lent::times_ok(delta, seconds);
-        let n = refusals::at_once(times, inbox_refusal::refusal(inbox), false);
-        return answers::refuse(n, s, tape);
+        let verdict = refusals::at_once(
+            calls::times_ok(delta, seconds),
+            inbox_refusal::refusal(inbox),
+            false,
+        );
+        return answers::unplayed(verdict, s, false, tape);
     }
     let mut l = [0; 64];
     let mut r = [0; 64];
@@ -75,14 +73,6 @@ pub fn update(
     let a = lent::update(
         settings, s, delta, seconds, inbox, samples, left, right, base, tape,
     );
-    put_back(
-        a.refusal != refusals::ACCEPTED,
-        left,
-        right,
-        base,
-        &l,
-        &r,
-        &b,
-    );
+    put_back(a.refusal.is_err(), left, right, base, &l, &r, &b);
     a
 }

@@ -2,7 +2,7 @@
 // value. Refused, it leaves the samples as they were; what the slots hold then is no longer the session's.
 ghost use Rattle.std.specs.Prelude.{◌≡◌, ◌≤◌, leb, length};
 ghost use Rattle.refusals.specs.Limits.{sample_room, most_steps};
-ghost use Rattle.refusals.specs.Refusals.{end_refusal_by};
+ghost use Rattle.refusals.specs.Refusals.{end_verdict_by};
 ghost use Rattle.timestamp.specs.Floats.{tween_of};
 ghost use Rattle.command.specs.Slots.{Lent};
 ghost use Rattle.clocksync.specs.Clock.{settled_of, server_seconds_of};
@@ -11,7 +11,7 @@ ghost use Rattle.client_publish.specs.Ending.{weight_ok};
 ghost use Rattle.inbox_scan.specs.Scan.{Scans};
 ghost use Rattle.session_lent.specs.Lent.{session_at, old_in};
 ghost use Rattle.session_play.specs.Play.{WorldsLent};
-ghost use Rattle.session.specs.Calls.{times_ok, server_time_by, worlds_update_of, update_of};
+ghost use Rattle.session.specs.Calls.{server_time_by, worlds_update_of, update_of};
 ghost use Rattle.session_in_place.specs.Lent.{ArraysLent, UpdatesLent, listening, Scanned, Settles, SyncsLent, Concludes};
 
 use super::{LentAnswer, answers, stage};
@@ -20,18 +20,10 @@ use clock_samples::{ClockNumbers, TickedNumbers};
 use clocksync::{Heard, Offset};
 use frames::Advanced;
 use inbox_scan::Scan;
+use refusals::Verdict;
+use session::calls;
 use session_lent::State;
 use settings::Settings;
-
-// Whether delta and seconds are in their ranges; false for a NaN.
-pub(crate) fn times_ok(delta: f64, seconds: f64) -> bool
-    ensures { result ≡ times_ok delta seconds }
-{
-    if !settings::within(-refusals::HOUR, refusals::HOUR, delta) {
-        return false;
-    }
-    settings::within(-refusals::LONGEST_TIME, refusals::LONGEST_TIME, seconds)
-}
 
 // What an inbox holds for a session.
 pub(crate) fn scan_of(s: State, seconds: f64, inbox: &[u32]) -> Scan
@@ -85,16 +77,15 @@ pub(crate) fn sync(
         base.old result samples.new left.new right.new base.new tape.new }
 {
     let heard = scan.heard;
-    let n = refusals::while_syncing(scan.worldly, heard.other);
-    if n != refusals::ACCEPTED {
-        return answers::refuse(n, s, tape);
+    if let Err(refusal) = refusals::while_syncing(scan.worldly, heard.other) {
+        return answers::refuse(refusal, s, tape);
     }
     let t = clock_samples::tick(s.clock, settings, delta);
     let ticked = t.clock;
     let offset = clock_samples::offset_after(samples, ticked, settings, heard);
     let clock = settle(ticked, offset, heard, settings, samples);
     let next = stage::synced(settings, s, clock, seconds, left, right, base);
-    answers::unplayed(refusals::ACCEPTED, next, t.request, tape)
+    answers::unplayed(Ok(()), next, t.request, tape)
 }
 
 // The server's time by an offset; the client's own time where there is none.
@@ -107,15 +98,12 @@ pub(crate) fn server_time(offset: Offset, seconds: f64) -> f64
     }
 }
 
-// The refusal of an update whose frames have ended, or ACCEPTED; the tape has room for `room` words.
-pub(crate) fn refused_at_end(settings: Settings, a: Advanced, room: usize) -> u32
-    ensures { result ≡ end_refusal_by a.stop (weight_ok (tween_of a.overshoot settings.timestep)) (leb a.books.at room) }
+// The verdict on an update whose frames have ended; the tape has room for `room` words.
+pub(crate) fn verdict_at_end(settings: Settings, a: Advanced, room: usize) -> Verdict
+    ensures { result ≡ end_verdict_by a.stop (weight_ok (tween_of a.overshoot settings.timestep)) (leb a.books.at room) }
 {
     let weight = ending::tween_weight(a.overshoot, settings.timestep);
-    let stop = a.stop;
-    let b = a.books;
-    let at = b.at;
-    refusals::at_end(stop, ending::is_weight(weight), at <= room)
+    refusals::at_end(a.stop, ending::is_weight(weight), a.books.at <= room)
 }
 
 // An update that nothing refuses: what it ends with, and its clock's sample.
@@ -167,9 +155,8 @@ pub(crate) fn play(
     let heard = scan.heard;
     let w = s.worlds;
     let got = session_play::receive(inbox, scan.commands, w, left, right, base);
-    let n = refusals::by_arrivals(heard.other, got.full);
-    if n != refusals::ACCEPTED {
-        return answers::refuse(n, s, tape);
+    if let Err(refusal) = refusals::by_arrivals(heard.other, got.full) {
+        return answers::refuse(refusal, s, tape);
     }
     let t = clock_samples::tick(s.clock, settings, delta);
     let offset = clock_samples::offset_after(samples, t.clock, settings, heard);
@@ -189,9 +176,8 @@ pub(crate) fn play(
         base,
         tape,
     );
-    let k = refused_at_end(settings, a, tape.len());
-    if k != refusals::ACCEPTED {
-        return answers::refuse(k, s, tape);
+    if let Err(refusal) = verdict_at_end(settings, a, tape.len()) {
+        return answers::refuse(refusal, s, tape);
     }
     conclude(settings, s, scan, t, offset, a, samples, base, tape)
 }
@@ -216,14 +202,12 @@ pub(crate) fn update(
         right.new base.new tape.new }
 {
     let scan = scan_of(s, seconds, inbox);
-    let times = times_ok(delta, seconds);
+    let times = calls::times_ok(delta, seconds);
     let sound = session_lent::is_sound(settings, s, samples, left, right, base);
-    let n = refusals::at_once(times, scan.refusal, sound);
-    if n != refusals::ACCEPTED {
-        return answers::refuse(n, s, tape);
+    if let Err(refusal) = refusals::at_once(times, scan.verdict, sound) {
+        return answers::refuse(refusal, s, tape);
     }
-    let stage = s.stage;
-    if session_state::has_worlds(stage) {
+    if session_state::has_worlds(s.stage) {
         return play(
             settings, s, delta, seconds, inbox, scan, samples, left, right, base, tape,
         );

@@ -11,12 +11,13 @@ pub mod reporting;
 pub mod stage;
 
 use client::Ledger;
+use refusals::Verdict;
 use session_lent::State;
 
 // The same of an update over lent arrays: the session's numbers are in the place of the session.
 #[derive(Clone, Copy)]
 pub struct LentAnswer {
-    pub refusal: u32,
+    pub refusal: Verdict,
     pub state: State,
     pub frames: u32,
     pub steps: u32,

@@ -1,50 +1,23 @@
 // The call `report`: where a session stands, as the views `SyncingInitialState` and `Ready` of src/client/stage/ of crystalorb show it.
 ghost use Rattle.std.specs.Prelude.{◌≡◌};
-ghost use Rattle.session_report.specs.Report.{unreported, reported_of, report_of};
+ghost use Rattle.session_report.specs.Report.{reported_of, report_of};
 
-use client::{DisplayTime, ReconciliationStatus};
 use session_report::ReportAnswer;
-use session_state::{Session, Stage};
-use timestamp::Timestamp;
-
-// A refused report.
-fn refuse_report(refusal: u32) -> ReportAnswer
-    ensures { result ≡ unreported refusal }
-{
-    let stage = Stage::SyncingClock;
-    let status = ReconciliationStatus::AwaitingSnapshot;
-    let time = DisplayTime::NotDisplayed;
-    ReportAnswer {
-        refusal,
-        stage,
-        status,
-        old: Timestamp(0),
-        new: Timestamp(0),
-        time,
-    }
-}
+use session_state::Session;
 
 // Where a session with worlds stands.
 fn report_worlds(session: Session) -> ReportAnswer
     ensures { result ≡ reported_of session }
 {
     let w = session_lent::worlds_of(session.worlds);
-    let stage = session.stage;
-    let s = w.snapshots;
-    let q = s.queued;
-    let n = session_play::numbers_of(w, q);
-    let status = client_numbers::status_of(n);
-    let published = w.published;
-    let time = published.time;
-    let old = n.old;
-    let new = n.new;
+    let n = session_play::numbers_of(w, w.snapshots.queued);
     ReportAnswer {
-        refusal: refusals::ACCEPTED,
-        stage,
-        status,
-        old,
-        new,
-        time,
+        refusal: Ok(()),
+        stage: session.stage,
+        status: client_numbers::status_of(n),
+        old: n.old,
+        new: n.new,
+        time: w.published.time,
     }
 }
 
@@ -52,13 +25,12 @@ fn report_worlds(session: Session) -> ReportAnswer
 pub fn report(session: Session) -> ReportAnswer
     ensures { result ≡ report_of session }
 {
-    let stage = session.stage;
-    let n = refusals::of_report(
+    let verdict = refusals::of_report(
         session_lent::sound(session),
-        session_state::has_worlds(stage),
+        session_state::has_worlds(session.stage),
     );
-    if n != refusals::ACCEPTED {
-        return refuse_report(n);
+    match verdict {
+        Ok(()) => report_worlds(session),
+        Err(refusal) => session_report::refuse_report(refusal),
     }
-    report_worlds(session)
 }

@@ -6,4 +6,4 @@ pub returns : goal.returns
 returns c = accept_is c.args.s _ _
     c.args.worlds
     c.args.a _
-    c.clear.ensures c.stage_after-stage.ensures
+    c.clear.ensures c.stage_after.ensures

@@ -6,8 +6,8 @@ use Rattle.session_in_place.proofs.Placing.{fit_arrays, place_unfit, place_fit}
 use Rattle.session_in_place.proofs.in_place.update.Goals as goal
 
 pub returns-then-not-lengths_fit : goal.returns-then-not-lengths_fit
-returns-then-not-lengths_fit c = place_unfit _ _ _ _ _ _ _ _ _ _ c.lengths_fit.ensures c.if-not-lengths_fit.true c.times_ok-times.ensures
-    c.refusal.ensures c.at_once-n.ensures c.refuse.ensures
+returns-then-not-lengths_fit c = place_unfit _ _ _ _ _ _ _ _ _ _ c.lengths_fit.ensures c.if-not-lengths_fit.true c.times_ok.ensures
+    c.refusal.ensures c.at_once-verdict.ensures c.unplayed.ensures
 
 pub copy_from-requires : goal.copy_from-requires
 copy_from-requires c = (
@@ -67,4 +67,4 @@ returns c = place_fit _ _ _ _ _ _ _ _ _ _
     c.update-a.ensures
     c.copy_from.ensures
     c.copy_from-2.ensures c.copy_from-3.ensures
-    c.put_back.ensures
+    c.is_err.ensures.value c.put_back.ensures

@@ -9,13 +9,13 @@ receive-got-requires c = (
   c.requires.1,
 )
 
-pub returns-then-n-ne-ACCEPTED : goal.returns-then-n-ne-ACCEPTED
-returns-then-n-ne-ACCEPTED c = play_refused _ _ _ _ _
+pub returns-in-Err : goal.returns-in-Err
+returns-in-Err c = play_refused _ _ _ _ _
     c.args.scan _
     c.requires.3
     c.receive-got.ensures
-    c.by_arrivals-n.ensures _
-    c.requires.0 c.if-n-ne-ACCEPTED.true
+    c.by_arrivals.ensures _
+    c.requires.0 c.in-Err.is
     c.refuse.ensures
 
 pub offset_after-offset-requires : goal.offset_after-offset-requires
@@ -28,29 +28,29 @@ advance-a-requires c = (
   c.requires.2,
 )
 
-pub shape_of-left-then-k-ne-ACCEPTED : goal.shape_of-left-then-k-ne-ACCEPTED
-shape_of-left-then-k-ne-ACCEPTED c = c.advance-a.ensures.lent.left.slots ∙ sym c.requires.1.left.slots
+pub shape_of-left-in-Err-verdict_at_end : goal.shape_of-left-in-Err-verdict_at_end
+shape_of-left-in-Err-verdict_at_end c = c.advance-a.ensures.lent.left.slots ∙ sym c.requires.1.left.slots
 
-pub shape_of-right-then-k-ne-ACCEPTED : goal.shape_of-right-then-k-ne-ACCEPTED
-shape_of-right-then-k-ne-ACCEPTED c = c.advance-a.ensures.lent.right.slots ∙ sym c.requires.1.right.slots
+pub shape_of-right-in-Err-verdict_at_end : goal.shape_of-right-in-Err-verdict_at_end
+shape_of-right-in-Err-verdict_at_end c = c.advance-a.ensures.lent.right.slots ∙ sym c.requires.1.right.slots
 
-pub shape_of-base-then-k-ne-ACCEPTED : goal.shape_of-base-then-k-ne-ACCEPTED
-shape_of-base-then-k-ne-ACCEPTED c = c.advance-a.ensures.lent.base.slots ∙ sym c.requires.1.base.slots
+pub shape_of-base-in-Err-verdict_at_end : goal.shape_of-base-in-Err-verdict_at_end
+shape_of-base-in-Err-verdict_at_end c = c.advance-a.ensures.lent.base.slots ∙ sym c.requires.1.base.slots
 
-pub returns-then-k-ne-ACCEPTED : goal.returns-then-k-ne-ACCEPTED
-returns-then-k-ne-ACCEPTED c = play_stopped _ _ _ _ _
+pub returns-in-Err-verdict_at_end : goal.returns-in-Err-verdict_at_end
+returns-in-Err-verdict_at_end c = play_stopped _ _ _ _ _
     c.args.scan _
     c.requires.3
     c.receive-got.ensures
-    c.by_arrivals-n.ensures
-    c.if-n-ne-ACCEPTED.false
+    c.by_arrivals.ensures
+    c.in_default.is
     c.tick-t.ensures
     c.offset_after-offset.ensures
     c.server_time.ensures
     c.advance-a.ensures
-    c.refused_at_end-k.ensures
-    c.requires.0 c.if-k-ne-ACCEPTED.true
-    c.refuse-then-k-ne-ACCEPTED.ensures
+    c.verdict_at_end.ensures
+    c.requires.0 c.in-Err-verdict_at_end.is
+    c.refuse-in-Err-verdict_at_end.ensures
 
 pub conclude-requires : goal.conclude-requires
 conclude-requires c = (
@@ -76,11 +76,11 @@ returns c = play_accepted _ _ _ _ _
     c.args.scan _
     c.requires.3
     c.receive-got.ensures
-    c.by_arrivals-n.ensures
-    c.if-n-ne-ACCEPTED.false
+    c.by_arrivals.ensures
+    c.in_default.is
     c.tick-t.ensures
     c.offset_after-offset.ensures
     c.server_time.ensures
-    c.advance-a.ensures c.refused_at_end-k.ensures
+    c.advance-a.ensures c.verdict_at_end.ensures
     c.conclude.ensures
-    c.if-k-ne-ACCEPTED.false
+    c.in_default-verdict_at_end.is

@@ -5,4 +5,4 @@ use Rattle.session_in_place.proofs.reporting.report_worlds.Goals as goal
 pub returns : goal.returns
 returns c = reported_by c.args.session
     c.worlds_of-w.ensures c.numbers_of-n.ensures
-    c.status_of-status.ensures
+    c.status_of.ensures

@@ -1,7 +1,7 @@
--- `refused_at_end` meets its contract: by why the frames ended, the weight and the tape. Assumes nothing.
+-- `verdict_at_end` meets its contract: by why the frames ended, the weight and the tape. Assumes nothing.
 use mathlib.Core.Path.{refl}
 use Rattle.session_in_place.proofs.Lending.{end_by}
-use Rattle.session_in_place.proofs.lent.refused_at_end.Goals as goal
+use Rattle.session_in_place.proofs.lent.verdict_at_end.Goals as goal
 
 pub returns : goal.returns
 returns c = end_by c.args.settings c.args.a _
