@@ -4,7 +4,6 @@ use mathlib.Core.Bool.{Bool, true, false, cond, false≢true}
 use Rattle.std.specs.Prelude.{Ok, Err, is_err}
 use mathlib.Core.List.{List}
 use Prim.Native.Nat.{ℕ, ◌≤◌}
-use native.Mathlib.Omega.{arith}
 use lib.Dec.{eqb, leb, ltb}
 use lib.ListN.{length}
 use lib.Ieee.{Float, binary64, add}
