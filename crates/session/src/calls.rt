@@ -102,7 +102,11 @@ pub(crate) fn verdict_at_end(session: Session, a: Advanced, room: usize) -> Verd
     ensures { result ≡ end_verdict_of session a room }
 {
     let weight = client_publish::ending::tween_weight(a.overshoot, session.settings.timestep);
-    refusals::at_end(a.stop, client_publish::ending::is_weight(weight), a.at <= room)
+    refusals::at_end(
+        a.stop,
+        client_publish::ending::is_weight(weight),
+        a.at <= room,
+    )
 }
 
 // One update: time moves on by delta seconds to `seconds`, the inbox is read, and the words of what happens are put on the tape. While the
