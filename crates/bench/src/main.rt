@@ -171,7 +171,7 @@ fn add_report(s: Sums, a: ReportAnswer) -> Sums {
     let status = a.status;
     let time = a.time;
     let old = a.old;
-    let b = add(s, a.refusal as u64);
+    let b = add(s, refusals::number(a.refusal) as u64);
     let c = add(b, status_number(status));
     let d = add(c, old.0 as u64);
     add(d, time_bits(time))
@@ -181,7 +181,7 @@ fn add_report(s: Sums, a: ReportAnswer) -> Sums {
 fn play(script: &Script, length: usize, tape: &mut Tape, start: Sums) -> Sums {
     let opened = calls::open(settings_of(script));
     let mut session = opened.session;
-    let mut sums = add(start, opened.refusal as u64);
+    let mut sums = add(start, refusals::number(opened.refusal) as u64);
     let mut at = CALLS;
     while at < length {
         if at >= 262144 {
@@ -193,13 +193,19 @@ fn play(script: &Script, length: usize, tape: &mut Tape, start: Sums) -> Sums {
             let a = call_update(session, script, at, count, tape);
             let next = a.session;
             session = next;
-            sums = add_update(sums, a.refusal, steps_of(a.frames, a.steps), a.words, tape);
+            sums = add_update(
+                sums,
+                refusals::number(a.refusal),
+                steps_of(a.frames, a.steps),
+                a.words,
+                tape,
+            );
             at = at + 6 + count;
         } else if kind == 2 {
             let a = calls::issue(session, word_at(script, at + 1));
             let next = a.session;
             session = next;
-            sums = add_issue(sums, a.refusal, a.stamp);
+            sums = add_issue(sums, refusals::number(a.refusal), a.stamp);
             at = at + 2;
         } else if kind == 3 {
             sums = add_report(sums, calls::report(session));

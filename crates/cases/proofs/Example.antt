@@ -30,10 +30,10 @@ use Rattle.fixed_timestepper.specs.TimeKeeper.{advanced_of}
 use Rattle.fixed_timestepper.specs.TimeKeeper.{updated_of}
 use Rattle.session_state.specs.Sound.{queued_sound, weight_sound, init_sound, buffers_sound, worlds_sound, overshoot_sound, connected_of, sound_of}
 use Rattle.inbox_passes.specs.Passes.{has_for_worlds, heard_in, received_in, noted_in}
-use Rattle.refusals.specs.Refusals.{once_refusal_by}
+use Rattle.refusals.specs.Refusals.{once_verdict_by}
 use Rattle.session_answers.specs.Answers.{Reply, Updates, answer_of, refused_with, accepted_of}
 use Rattle.session_stage.specs.Stage.{synced_of}
-use Rattle.session.specs.Calls.{start_of, open_of, times_ok, refused_at_once, clock_update_of, concluded_of, played_of, worlds_update_of, update_of}
+use Rattle.session.specs.Calls.{start_of, open_of, times_ok, verdict_at_once, clock_update_of, concluded_of, played_of, worlds_update_of, update_of}
 use Rattle.session_issue.specs.Issue.{issue_of}
 use Rattle.demand.specs.Calls.{Chain}
 use Rattle.demand.specs.Demand.{Demand3}
@@ -58,8 +58,8 @@ unfolding entry_of stamp_in handle_in plain_entry
     published_blended readied_with loaded_at loaded_of loaded_queued blended_on opened_of stepped_side caught_up_of stepped_new caught_of simulated_of shown_of
     stops_of snapshot_of frame_opened frame_of frame_stops weight_ok time_of displayed_of revised_of post_update_of logical_of drift_of uncapped_of
     compensated_of
-    framed run_of skips_of maybe_skipped advanced_of updated_of concluded_of once_refusal_by unended_of queued_sound weight_sound init_sound buffers_sound
-    worlds_sound overshoot_sound connected_of sound_of has_for_worlds heard_in received_in noted_in start_of open_of times_ok refused_at_once synced_of
+    framed run_of skips_of maybe_skipped advanced_of updated_of concluded_of once_verdict_by unended_of queued_sound weight_sound init_sound buffers_sound
+    worlds_sound overshoot_sound connected_of sound_of has_for_worlds heard_in received_in noted_in start_of open_of times_ok verdict_at_once synced_of
     clock_update_of
     accepted_of played_of worlds_update_of update_of issue_of snapshot_words settings_with clock_at opened heard_once heard_twice heard_thrice frame_one at_four
     at_five at_six

@@ -29,8 +29,8 @@ use Rattle.fixed_timestepper.specs.TimeKeeper.{advanced_of}
 use Rattle.fixed_timestepper.specs.TimeKeeper.{updated_of}
 use Rattle.session_state.specs.Sound.{queued_sound, weight_sound, init_sound, buffers_sound, worlds_sound, overshoot_sound, connected_of, sound_of}
 use Rattle.inbox_passes.specs.Passes.{has_for_worlds, heard_in, received_in, noted_in}
-use Rattle.refusals.specs.Refusals.{once_refusal_by}
-use Rattle.session.specs.Calls.{concluded_of, start_of, open_of, times_ok, refused_at_once, clock_update_of, played_of, worlds_update_of, update_of}
+use Rattle.refusals.specs.Refusals.{once_verdict_by}
+use Rattle.session.specs.Calls.{concluded_of, start_of, open_of, times_ok, verdict_at_once, clock_update_of, played_of, worlds_update_of, update_of}
 use Rattle.session_report.specs.Report.{report_of}
 use Rattle.session_stage.specs.Stage.{synced_of}
 use Rattle.session_answers.specs.Answers.{accepted_of}
@@ -56,8 +56,8 @@ unfolding entry_of stamp_in handle_in plain_entry
     frame_opened
     frame_of frame_stops weight_ok time_of displayed_of revised_of post_update_of logical_of drift_of uncapped_of compensated_of framed run_of skips_of
     maybe_skipped
-    advanced_of unended_of updated_of once_refusal_by concluded_of queued_sound weight_sound init_sound buffers_sound worlds_sound overshoot_sound connected_of
-    sound_of has_for_worlds heard_in received_in noted_in start_of open_of times_ok refused_at_once synced_of clock_update_of accepted_of played_of
+    advanced_of unended_of updated_of once_verdict_by concluded_of queued_sound weight_sound init_sound buffers_sound worlds_sound overshoot_sound connected_of
+    sound_of has_for_worlds heard_in received_in noted_in start_of open_of times_ok verdict_at_once synced_of clock_update_of accepted_of played_of
     worlds_update_of
     update_of report_of events_of settings_with clock_at opened heard_once heard_twice heard_thrice at_four at_five at_six frame_one frame_two frame_three
     frame_four

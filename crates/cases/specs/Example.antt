@@ -2,6 +2,7 @@
 -- Definitions only. Assumes nothing.
 use Rattle.std.specs.Prelude.{true, List, [], ◌∷◌, ◌≡◌, ℕ, replicate}
 use Rattle.std.specs.Float.{nan}
+use Rattle.refusals.specs.Refusals.{number_in}
 use Rattle.session_state.specs.declared.Session.{Session}
 use Rattle.session_state.specs.Sound.{sound_of}
 use Rattle.session_answers.specs.Answers.{Reply, answer_of}
@@ -14,11 +15,11 @@ use Rattle.cases.specs.Table.{seconds_of, heard_thrice, frame_one, at_four, at_f
 
 -- ---- calls
 
--- the refusals of calls
+-- the numbers of the verdicts on calls
 abbrev pub refusals : List Call → List ℕ
 refusals [] = []
-refusals (Update d t box was r last ∷ cs) = r.refusal ∷ refusals cs
-refusals (Issue h r ∷ cs) = r.refusal ∷ refusals cs
+refusals (Update d t box was r last ∷ cs) = number_in r.refusal ∷ refusals cs
+refusals (Issue h r ∷ cs) = number_in r.refusal ∷ refusals cs
 
 -- an update of delta 1 at n seconds with this inbox, and its reply
 abbrev pub played : ℕ → List ℕ → Reply → Call

@@ -3,6 +3,7 @@
 use Rattle.std.specs.Prelude.{ℕ, ◌+◌, ◌/◌, ◌%◌, ◌^◌, ◌≡◌, true, false, List, [], ◌∷◌, ◌++◌, pos, negsuc, replicate, Float, Option, Some, None}
 use Rattle.std.specs.Float.{fin, binary64}
 use Rattle.std.specs.Float.Ieee.{of_int, to_bits}
+use Rattle.refusals.specs.Refusals.{accepted}
 use Rattle.timestamp.specs.Floats.{zero64, one64}
 use Rattle.std.specs.declared.cmp.Ordering.TheVariants.{Less}
 use Rattle.timestamp.specs.Timestamps.{bits_of, order_of, in_range}
@@ -153,14 +154,14 @@ behinds_after (a ∷ rest) = behind_of a.session.worlds ∷ behinds_after rest
 
 -- an update was accepted, with F, C and this tape
 pub record Shows (r : Reply) (f c : ℕ) (words : List ℕ) : Type 0 where
-  pub refusal : r.refusal ≡ 0
+  pub refusal : r.refusal ≡ accepted
   pub frames : r.frames ≡ f
   pub steps : r.steps ≡ c
   pub tape : r.tape ≡ words
 
 -- the report of a session in this stage that awaits a snapshot, with both stamps at n and this display time
 abbrev pub report_at : Stage → ℕ → Option Float → ReportAnswer
-report_at stage n t = record { refusal = 0; stage = stage; status = AwaitingSnapshot; old = record { 0 = n }; new = record { 0 = n }; time = t }
+report_at stage n t = record { refusal = accepted; stage = stage; status = AwaitingSnapshot; old = record { 0 = n }; new = record { 0 = n }; time = t }
 
 -- ---- the table
 
@@ -195,7 +196,7 @@ pub record Marked : Type 0 where
   -- and so in the sessions that the four updates return
   pub left_behind : behinds_after (frame_one ∷ frame_two ∷ frame_three ∷ frame_four ∷ []) ≡ 5 ∷ 3 ∷ 1 ∷ 0 ∷ []
   -- the run: it is opened, and the clock message at 1 s is of these words
-  pub run_opened : ((open_of (settings_with 2)).refusal ≡ 0) × (clock_at 1 ≡ 0x30000007 ∷ 0x5000003f ∷ 0x5f000000 ∷ 0x50000000 ∷ 0x5000003f ∷ 0x5f000000 ∷
+  pub run_opened : ((open_of (settings_with 2)).refusal ≡ accepted) × (clock_at 1 ≡ 0x30000007 ∷ 0x5000003f ∷ 0x5f000000 ∷ 0x50000000 ∷ 0x5000003f ∷ 0x5f000000 ∷
       0x50000000 ∷ [])
   -- the updates at 1, 2 and 3 s are accepted and play nothing
   pub run_syncs : Shows (heard_once 2 1) 0 0 (replicate 8 0) × Shows (heard_twice 2 1) 0 0 (replicate 8 0) × Shows (heard_thrice 2 1) 0 0 (replicate 8 0)

@@ -1,11 +1,10 @@
 -- The law of one call, of an update, refused or accepted. Assumes nothing.
-use Prim.{⊥}
-use mathlib.Core.Bool.{Bool, cond}
+use mathlib.Core.Bool.{Bool}
 use mathlib.Core.List.{List, [], ◌++◌}
 use mathlib.Core.Path.{◌≡◌, refl, ap, sym, subst, ◌∙◌}
 use Prim.Native.Nat.{ℕ, ◌-◌, ◌≤◌}
 use native.Mathlib.Omega.{arith}
-use borrow.Author.Tests.{ne_eqb}
+use Rattle.refusals.specs.declared.Refusal.{Refusal}
 use lib.ListN.{length, replicate}
 use lib.Ieee.{Float}
 use Rattle.refusals.specs.declared.Stop.TheVariants.{Done}
@@ -33,16 +32,15 @@ abbrev UpdateLaw : Session → Float → Float → List ℕ → ℕ → Reply �
 UpdateLaw s delta seconds inbox len a = OneCall s (replied a len) (events_of s delta seconds inbox a.refusal)
 
 module _ (s : Session) (delta seconds : Float) (inbox : List ℕ) (len : ℕ) (h : Standing s) where
-  -- what happened by the refusal of a reply tells the reply
+  -- what happened by the verdict of a reply tells the reply
   abbrev Updated : Reply → Type 0
   Updated a = Happens s (replied a len) (events_of s delta seconds inbox a.refusal)
 
-  updated_refused : (n : ℕ) → (n ≡ 0 → ⊥) → Updated (refused_with n s len)
+  updated_refused : (e : Refusal) → Updated (refused_with e s len)
   unfolding refused_with events_of
-  updated_refused n k =
-      let e : len - 0 ≡ len = omega arith in
-      subst (Happens s (replied (refused_with n s len) len)) (ap (λ (b : Bool). cond b (played_in s delta seconds inbox) []) (sym (ne_eqb n 0 k)))
-      (record { traced = none_traced s s (keeps_self s) h; rules = tt; tape = ap (λ k. replicate k 0) (sym e) })
+  updated_refused e =
+      let z : len - 0 ≡ len = omega arith in
+      record { traced = none_traced s s (keeps_self s) h; rules = tt; tape = ap (λ k. replicate k 0) (sym z) }
 
   -- the run of its frames
   ran_in : (run_in s delta seconds inbox).stop ≡ Done → Ran s.settings (scene_after s inbox) (played_in s delta seconds inbox) (run_in s delta seconds inbox)

@@ -44,7 +44,7 @@ outcome_of (Update d t box was r last) =
     record { session = r.session; frames = r.frames; caught = r.steps; left = r.left; right = r.right; room = length was; tape = last }
 outcome_of (Issue h r) = quiet r.session r.left r.right
 
--- what happened to the worlds in one call that was handed the session s, whose worlds exist, by its arguments and its refusal
+-- what happened to the worlds in one call that was handed the session s, whose worlds exist, by its arguments and the verdict on it
 abbrev pub happened : Session → Call → List Event
 happened s (Update d t box was r last) = events_of s d t box r.refusal
 happened s (Issue h r) = []

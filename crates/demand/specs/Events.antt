@@ -1,10 +1,10 @@
--- What happens to the worlds in an update, by what it was handed and by its refusal: document 01, "src/fixed_timestepper.rs". No frame and no skip is in it
+-- What happens to the worlds in an update, by what it was handed and by the verdict on it: document 01, "src/fixed_timestepper.rs". No frame and no skip is in it
 -- but those of the definition. Definitions only. Assumes nothing.
-use Rattle.std.specs.Prelude.{ℕ, zero, suc, cond, List, [], ◌∷◌, ◌++◌, eqb, Float}
+use Rattle.std.specs.Prelude.{ℕ, zero, suc, cond, List, [], ◌∷◌, ◌++◌, Float, Ok, Err}
 use Rattle.std.specs.Float.{binary64}
 use Rattle.std.specs.Float.Ieee.{add, sub, lt}
 use Rattle.refusals.specs.Limits.{most_frames}
-use Rattle.refusals.specs.Refusals.{accepted}
+use Rattle.refusals.specs.Refusals.{Verdict}
 use Rattle.timestamp.specs.declared.Timestamp.{Timestamp}
 use Rattle.settings.specs.declared.Settings.{Settings}
 use Rattle.client.specs.declared.Scene.{Scene}
@@ -64,6 +64,7 @@ played_in s delta seconds inbox =
     plays_from s.settings (server_at s delta seconds inbox) (scene_after s inbox) (start_at s delta seconds inbox)
     (frames_for most_frames s.settings.timestep (start_at s delta seconds inbox))
 
--- an update of a session whose worlds exist, which answered this refusal: nothing where it was refused
-unfoldable pub events_of : Session → Float → Float → List ℕ → ℕ → List Event
-events_of s delta seconds inbox refusal = cond (eqb refusal accepted) (played_in s delta seconds inbox) []
+-- an update of a session whose worlds exist, which was judged so: nothing where it was refused
+unfoldable pub events_of : Session → Float → Float → List ℕ → Verdict → List Event
+events_of s delta seconds inbox (Ok x) = played_in s delta seconds inbox
+events_of s delta seconds inbox (Err e) = []

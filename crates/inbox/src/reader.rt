@@ -2,7 +2,6 @@
 // words and a place.
 ghost use Rattle.std.specs.Prelude.{◌≡◌};
 ghost use Rattle.std.specs.Iterator.{YieldsFirst, item_count};
-ghost use Rattle.inbox.specs.Inbox.{messages_of};
 ghost use Rattle.inbox.specs.Reader.{reader_at, left_in};
 
 use super::{Reading, message_at};

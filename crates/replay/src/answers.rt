@@ -233,7 +233,14 @@ pub(crate) fn update(
     length: usize,
 ) -> usize {
     let words = a.words;
-    let n = update_numbers(out, at, a.refusal, a.frames, a.steps, a.request);
+    let n = update_numbers(
+        out,
+        at,
+        refusals::number(a.refusal),
+        a.frames,
+        a.steps,
+        a.request,
+    );
     let l = ledgers(out, n, a.left, a.right);
     let m = named(out, l, b" words=", words as u64);
     let k = tape_words(out, m, tape, words);
@@ -242,7 +249,12 @@ pub(crate) fn update(
 
 // The answer of `issue`.
 pub(crate) fn issue(out: &mut Out, at: usize, a: IssueAnswer) -> usize {
-    let n = named(out, at, b"issue refusal=", a.refusal as u64);
+    let n = named(
+        out,
+        at,
+        b"issue refusal=",
+        refusals::number(a.refusal) as u64,
+    );
     let s = named_stamp(out, n, b" stamp=", a.stamp);
     let l = ledgers(out, s, a.left, a.right);
     output::byte(out, l, b'\n')
@@ -250,7 +262,12 @@ pub(crate) fn issue(out: &mut Out, at: usize, a: IssueAnswer) -> usize {
 
 // The answer of `report`.
 pub(crate) fn report(out: &mut Out, at: usize, a: ReportAnswer) -> usize {
-    let n = named(out, at, b"report refusal=", a.refusal as u64);
+    let n = named(
+        out,
+        at,
+        b"report refusal=",
+        refusals::number(a.refusal) as u64,
+    );
     let reached = a.stage;
     let status = a.status;
     let s = stage(out, n, b" stage=", reached);

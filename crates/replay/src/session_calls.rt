@@ -172,7 +172,7 @@ pub(crate) fn open(f: Fields, at: usize, out: &mut Out) -> Player {
     let v = f.values;
     let a = calls::open(settings_of(v));
     let session = a.session;
-    let n = answers::open(out, at, a.refusal);
+    let n = answers::open(out, at, refusals::number(a.refusal));
     Player {
         session,
         place: lines::answered(f.cursor, n),

@@ -5,10 +5,11 @@ ghost use Rattle.clocksync.specs.Clock.{server_seconds_of};
 ghost use Rattle.fixed_timestepper.specs.TimeKeeper.{Advances};
 ghost use Rattle.refusals.specs.Limits.{most_steps};
 ghost use Rattle.session_answers.specs.Answers.{Updates};
-ghost use Rattle.session.specs.Inner.{end_refusal_of, unended_with, end_verdict_of};
-ghost use Rattle.session.specs.Calls.{open_of, times_ok, refused_at_once, clock_update_of, update_of, verdict_at_once, server_time_by};
+ghost use Rattle.session.specs.Inner.{unended_with, end_verdict_of};
+ghost use Rattle.session.specs.Calls.{open_of, times_ok, clock_update_of, update_of, verdict_at_once};
+ghost use Rattle.client_receive.specs.Receive.{none_received};
 
-use client::Received;
+use client::{ClientWorldSimulations, Scene};
 use clocksync::Clock;
 use fixed_timestepper::Advanced;
 use refusals::Verdict;
@@ -25,7 +26,7 @@ pub fn open(settings: Settings) -> OpenAnswer
 {
     OpenAnswer {
         refusal: refusals::of_open(settings.passes()),
-        session: session_state::starting(settings, Clock::new(), client::new(Timestamp(0))),
+        session: session_state::starting(settings, Clock::new(), ClientWorldSimulations::new(Timestamp(0))),
     }
 }
 
@@ -79,7 +80,7 @@ pub(crate) fn server_time(clock: Clock, seconds: f64) -> f64
 // with the lag.
 pub(crate) fn play(
     session: Session,
-    got: Received,
+    received: Scene,
     clock: Clock,
     delta: f64,
     seconds: f64,
@@ -87,11 +88,10 @@ pub(crate) fn play(
     tape: &mut [u32],
 ) -> Advanced
     requires { session.settings.m ≤ most_steps }
-    ensures { Advances (unended_with session got clock delta seconds inbox.now) tape.old result tape.new }
+    ensures { Advances (unended_with session (none_received received) clock delta seconds inbox.now) tape.old result tape.new }
 {
-    let mut scene = got.scene;
-    let w = scene.worlds;
-    scene.worlds = inbox_passes::receive_snapshots(inbox, w);
+    let mut scene = received;
+    inbox_passes::receive_snapshots(inbox, &mut scene.worlds);
     let settings = session.settings;
     let server = server_time(clock, seconds) + settings.lag;
     fixed_timestepper::update(scene, session.overshoot, delta, server, settings, tape)
@@ -127,19 +127,14 @@ pub fn update(
         return update_clock(session, delta, seconds, inbox, tape);
     }
     let h = inbox_passes::hear_all(inbox, session.clock.listen(), seconds);
-    let r = inbox_passes::receive_commands(
-        inbox,
-        Received {
-            scene: session_state::scene_of(session),
-            full: false,
-        },
-    );
-    if let Err(refusal) = refusals::by_arrivals(h.other, r.full) {
+    let mut scene = session_state::scene_of(session);
+    let full = inbox_passes::receive_commands(inbox, &mut scene);
+    if let Err(refusal) = refusals::by_arrivals(h.other, full) {
         return session_answers::refuse(refusal, session, tape);
     }
     let t = session.clock.tick(session.settings, delta);
     let settled = t.clock.settle(session.settings, h);
-    let a = play(session, r, settled, delta, seconds, inbox, tape);
+    let a = play(session, scene, settled, delta, seconds, inbox, tape);
     if let Err(refusal) = verdict_at_end(session, a, tape.len()) {
         return session_answers::refuse(refusal, session, tape);
     }

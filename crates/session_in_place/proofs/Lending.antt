@@ -4,7 +4,6 @@ use mathlib.Core.Bool.{Bool, true, false, cond, false≢true}
 use Rattle.std.specs.Prelude.{Ok, Err, is_err}
 use mathlib.Core.List.{List}
 use Prim.Native.Nat.{ℕ, ◌≤◌}
-use native.Mathlib.Omega.{arith}
 use lib.Dec.{eqb, leb, ltb}
 use lib.ListN.{length}
 use lib.Ieee.{Float, binary64, add}
@@ -74,10 +73,10 @@ use Rattle.session.proofs.Answering.{worlds_refused, worlds_stopped, worlds_acce
 
 module _ (reply : Reply) (c : Settings) (s : State) (ss : List Float) (was : Session) {a : LentAnswer} {last : List ℕ} where
   -- refused: whatever the slots are
-  pub refused_lent : (len : ℕ) {e : Refusal} {l r b : List Entry} → ArraysLent ss l r b → Leaves (λ x. refused_with e x len) s a last
+  pub refused_lent : (len : ℕ) (e : Refusal) {l r b : List Entry} → ArraysLent ss l r b → Leaves (λ x. refused_with e x len) s a last
       → Updates reply (answer_with a was) last → UpdatesLent reply c s ss was a ss l r b last
   unfolding refused_with
-  refused_lent len {e} {l} {r} {b} full h u =
+  refused_lent len e {l} {r} {b} full h u =
       let k : a.refusal ≡ Err e = ap (λ (x : UpdateAnswer). x.refusal) (h.replies was).answer in
       record {
         arrays = full;
@@ -160,7 +159,7 @@ module _ (c : Settings) (s : State) (delta seconds : Float) (scan : Scan)
   sync_refused e h =
       record {
         arrays = full;
-        syncs = λ words q. refused_lent _ c s ss (session_at c s ss l r b) len full h
+        syncs = λ words q. refused_lent _ c s ss (session_at c s ss l r b) len _ full h
             (clock_refused (session_at c s ss l r b) delta seconds words refl q.heard q.worldly hn len e (h.replies (session_at c s ss l r b)));
       }
 
@@ -212,7 +211,7 @@ module _ (c : Settings) (s : State) (delta seconds : Float) (words : List ℕ) (
   pub play_refused : (len : ℕ) {q : Refusal} {a : LentAnswer} {last : List ℕ} → length ss ≡ sample_room → n ≡ Err q → Leaves (λ x. refused_with q x len) s a last
       → UpdatesLent (worlds_update_of whole delta seconds words len) c s ss whole a ss l₁ r₁ b₁ last
   play_refused len room e h =
-      refused_lent _ c s ss whole len (record { samples = room; slots = hr.slots }) h
+      refused_lent _ c s ss whole len _ (record { samples = room; slots = hr.slots }) h
       (worlds_refused whole delta seconds words refl hs.heard refl got_is hn len e (h.replies whole))
 
   module _ (e : n ≡ accepted) {t : TickedNumbers} (ht : (xs : List Float) → ticked_at xs t ≡ ticked_of (clock_at xs s.clock) c.period delta) {o : Option Float}
@@ -251,7 +250,7 @@ module _ (c : Settings) (s : State) (delta seconds : Float) (words : List ℕ) (
           → Leaves (λ y. refused_with q y (length mid)) s a last
           → UpdatesLent (worlds_update_of whole delta seconds words (length was)) c s ss whole a ss l₂ r₂ b₂ last
       play_stopped room k h =
-          refused_lent _ c s ss whole (length mid) (record { samples = room; slots = slots_full }) h
+          refused_lent _ c s ss whole (length mid) _ (record { samples = room; slots = slots_full }) h
           (worlds_stopped whole delta seconds words refl hs.heard refl got_is hn e (ht ss) refl played hm refl k (h.replies whole))
 
       module _ {a : LentAnswer} {ss₁ : List Float} {b₃ : List Entry} {last : List ℕ} (hc : Concludes c s scan t v ss b₂ mid a ss₁ b₃ last) where
@@ -327,7 +326,7 @@ module _ (c : Settings) (s : State) (delta seconds : Float) (words : List ℕ) (
   pub lent_refused : (len : ℕ) {e : Refusal} {a : LentAnswer} {last : List ℕ} → ArraysLent ss l r b → n ≡ Err e → Leaves (λ x. refused_with e x len) s a last
       → UpdatesLent (update_of (session_at c s ss l r b) delta seconds words len) c s ss (session_at c s ss l r b) a ss l r b last
   lent_refused len full e h =
-      refused_lent _ c s ss (session_at c s ss l r b) len full h
+      refused_lent _ c s ss (session_at c s ss l r b) len _ full h
       (update_refused (session_at c s ss l r b) delta seconds words len once e (h.replies (session_at c s ss l r b)))
 
   -- by whether worlds exist

@@ -82,15 +82,16 @@ module _ (c : Settings) (s : State) (delta seconds : Float) (words : List ℕ) (
 
   module _ (e : x ≡ true) {ss₁ : List Float} {l₁ r₁ b₁ l₀ r₀ b₀ l₂ r₂ b₂ : List Entry}
       (h : UpdatesLent (update_of (session_at c s ss l r b) delta seconds words (length was)) c s ss (session_at c s ss l r b) a ss₁ l₁ r₁ b₁ last)
-      (hl : Copied l l₀) (hr : Copied r r₀) (hb : Copied b b₀) (p : PutsBack (is_err a.refusal) l₁ r₁ b₁ l₀ r₀ b₀ l₂ r₂ b₂) where
+      (hl : Copied l l₀) (hr : Copied r r₀) (hb : Copied b b₀) {k : Bool} (hk : k ≡ is_err a.refusal)
+      (p : PutsBack k l₁ r₁ b₁ l₀ r₀ b₀ l₂ r₂ b₂) where
     -- the session that is there now
     now_is : (v : Verdict) → a.refusal ≡ v → session_after v (session_at c s ss l r b) (session_at c a.state ss₁ l₁ r₁ b₁) ≡ session_at c a.state ss₁ l₂ r₂ b₂
-    now_is (Ok y) k =
-        let z = p.kept (ap is_err k) in
+    now_is (Ok y) v =
+        let z = p.kept (hk ∙ ap is_err v) in
         λ i. session_at c a.state ss₁ (sym z.0 i) (sym z.1 i) (sym z.2 i)
-    now_is (Err q) k =
-        let z = p.back (ap is_err k) in
-        let n : a.refusal ≡ accepted → ⊥ = λ y. turned_down q (sym k ∙ y) in
+    now_is (Err q) v =
+        let z = p.back (hk ∙ ap is_err v) in
+        let n : a.refusal ≡ accepted → ⊥ = λ y. turned_down q (sym v ∙ y) in
         λ i. session_at c (sym (h.state n) i) (sym (h.samples n) i) (sym (z.0 ∙ hl.same) i) (sym (z.1 ∙ hr.same) i) (sym (z.2 ∙ hb.same) i)
 
     pub place_fit : UpdatesInPlace c s delta seconds words ss l r b was a ss₁ l₂ r₂ b₂ last

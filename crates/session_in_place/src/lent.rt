@@ -11,7 +11,7 @@ ghost use Rattle.client_publish.specs.Ending.{weight_ok};
 ghost use Rattle.inbox_scan.specs.Scan.{Scans};
 ghost use Rattle.session_lent.specs.Lent.{session_at, old_in};
 ghost use Rattle.session_play.specs.Play.{WorldsLent};
-ghost use Rattle.session.specs.Calls.{times_ok, worlds_update_of, update_of, server_time_by};
+ghost use Rattle.session.specs.Calls.{times_ok, worlds_update_of, update_of};
 ghost use Rattle.session_in_place.specs.Lent.{ArraysLent, UpdatesLent, listening, Scanned, Settles, SyncsLent, Concludes};
 
 use super::{LentAnswer, answers, stage};

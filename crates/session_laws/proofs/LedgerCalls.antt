@@ -11,9 +11,11 @@ use lib.Ieee.{Float}
 use Rattle.tape.specs.Words.{commands_on}
 use Rattle.tape.proofs.Counting.{commands_on-append, commands_on_zeros}
 use Rattle.clocksync.specs.declared.Clock.{Clock}
-use Rattle.inbox.specs.declared.Message.{Message}
-use Rattle.inbox.specs.declared.Message.TheVariants.{Command, Snapshot, Clock as Timed, BadTime, WrongWord, CutShort}
-use Rattle.inbox.specs.Inbox.{messages_of, messages_after, front_of}
+use Rattle.std.specs.Prelude.{Ok, Err}
+use Rattle.inbox.specs.declared.Message.TheVariants.{Command, Snapshot, Clock as Timed}
+use Rattle.inbox.specs.Inbox.{Reading, messages_of, messages_after, front_of}
+use Rattle.refusals.specs.declared.Refusal.{Refusal}
+use Rattle.refusals.specs.Refusals.{accepted}
 use Rattle.inbox_refusal.specs.Refusal.{refusal_of}
 use Rattle.inbox.specs.Passes.{over}
 use Rattle.inbox_refusal.proofs.Refusals.{accepted_few}
@@ -88,29 +90,25 @@ messages_few (suc k) [] = omega arith
 messages_few zero (w ∷ ws) = omega (arith, messages_few ((front_of w ws).size - 1) ws)
 messages_few (suc k) (w ∷ ws) = omega (arith, messages_few k ws)
 
-one_kept : {h n k : ℕ} (x : ℕ) (r : Received) (m : Message) → x < 2 → n + 2 < 2 ^ 64 → Kept x h n k r.scene → Kept x h (n + 2) k (receive_one r m).scene
-one_kept x r (Command t i) p z c = received_kept x r.scene (entry_of t i) p z c
-one_kept x r (Snapshot t i) p z c = kept_more (omega arith) c
-one_kept x r (Timed i t u) p z c = kept_more (omega arith) c
-one_kept x r BadTime p z c = kept_more (omega arith) c
-one_kept x r WrongWord p z c = kept_more (omega arith) c
-one_kept x r CutShort p z c = kept_more (omega arith) c
+one_kept : {h n k : ℕ} (x : ℕ) (r : Received) (m : Reading) → x < 2 → n + 2 < 2 ^ 64 → Kept x h n k r.scene → Kept x h (n + 2) k (receive_one r m).scene
+one_kept x r (Ok (Command t i)) p z c = received_kept x r.scene (entry_of t i) p z c
+one_kept x r (Ok (Snapshot t i)) p z c = kept_more (omega arith) c
+one_kept x r (Ok (Timed i t u)) p z c = kept_more (omega arith) c
+one_kept x r (Err e) p z c = kept_more (omega arith) c
 
-all_kept : {h n k : ℕ} (x : ℕ) (ms : List Message) (r : Received) → x < 2 → n + length ms * 2 < 2 ^ 64 → Kept x h n k r.scene
+all_kept : {h n k : ℕ} (x : ℕ) (ms : List Reading) (r : Received) → x < 2 → n + length ms * 2 < 2 ^ 64 → Kept x h n k r.scene
     → Kept x h (n + length ms * 2) k (over receive_one r ms).scene
 all_kept x [] r p z c = kept_more (omega arith) c
 all_kept {h = h} {n = n} {k = k} x (m ∷ ms) r p z c = kept_more (omega arith) (all_kept {n = n + 2} x ms (receive_one r m) p (omega arith) (one_kept x r m
     p (omega arith) c))
 
-one_alike : (w : ClientWorldSimulations) (m : Message) → SameBuffers w (note_one w m)
-one_alike w (Command t i) = record { left = refl; right = refl; base = refl }
-one_alike w (Snapshot t i) = notes_alike w t i
-one_alike w (Timed i t u) = record { left = refl; right = refl; base = refl }
-one_alike w BadTime = record { left = refl; right = refl; base = refl }
-one_alike w WrongWord = record { left = refl; right = refl; base = refl }
-one_alike w CutShort = record { left = refl; right = refl; base = refl }
+one_alike : (w : ClientWorldSimulations) (m : Reading) → SameBuffers w (note_one w m)
+one_alike w (Ok (Command t i)) = record { left = refl; right = refl; base = refl }
+one_alike w (Ok (Snapshot t i)) = notes_alike w t i
+one_alike w (Ok (Timed i t u)) = record { left = refl; right = refl; base = refl }
+one_alike w (Err e) = record { left = refl; right = refl; base = refl }
 
-all_alike : (ms : List Message) (w : ClientWorldSimulations) → SameBuffers w (over note_one w ms)
+all_alike : (ms : List Reading) (w : ClientWorldSimulations) → SameBuffers w (over note_one w ms)
 all_alike [] w = record { left = refl; right = refl; base = refl }
 all_alike (m ∷ ms) w = same_buffers_then (one_alike w m) (all_alike ms (note_one w m))
 
@@ -118,7 +116,7 @@ noted_alike : (inbox : List ℕ) (w : ClientWorldSimulations) → SameBuffers w 
 unfolding noted_in
 noted_alike inbox w = all_alike (messages_of inbox) w
 
-commands_kept : {h : ℕ} (x : ℕ) (inbox : List ℕ) (r : Received) → x < 2 → refusal_of inbox ≡ 0 → Kept x h 64 0 r.scene
+commands_kept : {h : ℕ} (x : ℕ) (inbox : List ℕ) (r : Received) → x < 2 → refusal_of inbox ≡ accepted → Kept x h 64 0 r.scene
     → Kept x h 8256 0 (received_in inbox r).scene
 unfolding received_in
 commands_kept x inbox r p e c =
@@ -126,14 +124,14 @@ commands_kept x inbox r p e c =
     kept_more (omega arith) (all_kept x (messages_of inbox) r p (omega arith) c)
 
 -- the scene after the inbox of an update
-after_kept : (x : ℕ) (s : Session) (inbox : List ℕ) → x < 2 → refusal_of inbox ≡ 0 → Filled s.worlds
+after_kept : (x : ℕ) (s : Session) (inbox : List ℕ) → x < 2 → refusal_of inbox ≡ accepted → Filled s.worlds
     → Kept x (held_at x s.worlds) 8256 0 (scene_after s inbox)
 after_kept x s inbox p e f =
     let r : Scene = (received_in inbox (unreceived s)).scene in
     same_buffers_kept r (noted_in inbox r.worlds) (noted_alike inbox r.worlds) (commands_kept x inbox (unreceived s) p e (start_kept x s f))
 
 -- the frames of an update
-played_kept : (x : ℕ) (s : Session) (c : Clock) (delta seconds : Float) (inbox : List ℕ) → x < 2 → refusal_of inbox ≡ 0 → Filled s.worlds
+played_kept : (x : ℕ) (s : Session) (c : Clock) (delta seconds : Float) (inbox : List ℕ) → x < 2 → refusal_of inbox ≡ accepted → Filled s.worlds
     → KeptBy x (held_at x s.worlds) 12416 0 (played_of s c delta seconds inbox)
 unfolding played_of
 played_kept x s c delta seconds inbox p e f =
@@ -175,9 +173,9 @@ closed_settles (suc (suc x)) s t u marks p e w m c = absurd (omega arith)
 -- ---- update
 
 -- a refused one
-refused_settles : (n x : ℕ) (s : Session) (len : ℕ) → has_worlds s.stage ≡ true → Replied x s (refused_with n s len)
+refused_settles : (e : Refusal) (x : ℕ) (s : Session) (len : ℕ) → has_worlds s.stage ≡ true → Replied x s (refused_with e s len)
 unfolding refused_with
-refused_settles n x s len w = none_settles (eqb x 0) x s (commands_on x (replicate len 0)) w (commands_on_zeros x len)
+refused_settles e x s len w = none_settles (eqb x 0) x s (commands_on x (replicate len 0)) w (commands_on_zeros x len)
 
 -- the worlds of a session that an update leaves exist
 pub stage_kept : (g : Stage) (t : Option Float) → has_worlds g ≡ true → has_worlds (stage_after g t) ≡ true
@@ -200,7 +198,7 @@ pub update_settles : (x : ℕ) (s : Session) (delta seconds : Float) (inbox : Li
 update_settles x s delta seconds inbox len p w =
     update_by_ways {P = Replied x s} s delta seconds inbox len
     (record {
-      refuses = λ n k. refused_settles n x s len w;
+      refuses = λ e. refused_settles e x s len w;
       syncs = λ j z. not_true (sym z ∙ w);
       plays = λ j z d ok.
           accepted_settles x s (clock_after s delta seconds inbox) (request_of s delta) (run_in s delta seconds inbox) len p w
@@ -209,12 +207,12 @@ update_settles x s delta seconds inbox len p w =
 
 -- ---- issue
 
-unissued_settles : (n x : ℕ) (s : Session) → has_worlds s.stage ≡ true → Issued x s (unissued n s)
-unissued_settles n x s w = none_settles (eqb x 0) x s 0 w refl
+unissued_settles : (e : Refusal) (x : ℕ) (s : Session) → has_worlds s.stage ≡ true → Issued x s (unissued e s)
+unissued_settles e x s w = none_settles (eqb x 0) x s 0 w refl
 
 -- issue: from a session whose worlds exist, sound or not
 pub issue_settles : (x : ℕ) (s : Session) (i : ℕ) → x < 2 → has_worlds s.stage ≡ true → Issued x s (issue_of s i)
 issue_settles x s i p w =
-    issue_by_ways (Issued x s) s i (λ n k. unissued_settles n x s w)
+    issue_by_ways (Issued x s) s i (λ e. unissued_settles e x s w)
     (λ h f. closed_settles x s (with_worlds_of s (received_now s i).scene.worlds) (received_now s i).scene 0 p refl w refl
     (received_kept x (scene_of s) (issued_entry s i) p (omega arith) (start_kept x s (sound_filled s f))))

@@ -17,7 +17,9 @@ use Rattle.settings.specs.declared.Settings.{Settings}
 use Rattle.settings.specs.Settings.{passes_of}
 use Rattle.settings.proofs.Limits.{timestep_within}
 use Rattle.refusals.specs.Limits.{handle_room}
-use Rattle.refusals.proofs.Accepted.{open_accepted, open_refused}
+use Rattle.refusals.specs.declared.Refusal.{Refusal}
+use Rattle.refusals.specs.Refusals.{Verdict, accepted as accepts}
+use Rattle.refusals.proofs.Accepted.{turned_down as refusal_stands, open_accepted, open_refused}
 use Rattle.command.proofs.Entries.{entry_plain}
 use Rattle.client_publish.specs.Ending.{weight_ok}
 use Rattle.clocksync.specs.declared.Clock.{Clock}
@@ -182,9 +184,9 @@ pub record Good (s : Session) : Type 0 where
   pub fit : FloatsFit s
 
 -- a refused answer is not accepted
-refused_not : (n : ℕ) (s : Session) (len : ℕ) {X : Type 0} → (n ≡ 0 → ⊥) → (refused_with n s len).refusal ≡ 0 → X
+refused_not : (e : Refusal) (s : Session) (len : ℕ) {X : Type 0} → (refused_with e s len).refusal ≡ accepts → X
 unfolding refused_with
-refused_not n s len h e = absurd (h e)
+refused_not e s len h = refusal_stands e h
 
 -- ---- an update once worlds exist
 
@@ -229,12 +231,12 @@ module _ (s : Session) (delta seconds : Float) (inbox : List ℕ) (g : Given s d
 
 -- ---- update
 
-update_good : (s : Session) (delta seconds : Float) (inbox : List ℕ) (len : ℕ) → FloatsFit s → (update_of s delta seconds inbox len).refusal ≡ 0
+update_good : (s : Session) (delta seconds : Float) (inbox : List ℕ) (len : ℕ) → FloatsFit s → (update_of s delta seconds inbox len).refusal ≡ accepts
     → Good (update_of s delta seconds inbox len).session
 update_good s delta seconds inbox len f =
-    update_by_ways {P = λ a. a.refusal ≡ 0 → Good a.session} s delta seconds inbox len
+    update_by_ways {P = λ a. a.refusal ≡ accepts → Good a.session} s delta seconds inbox len
     (record {
-      refuses = λ n k e. refused_not n s len k e;
+      refuses = λ q e. refused_not q s len e;
       syncs = λ j w e. record
           { sound = synced_sound s delta seconds inbox (given j) (without_worlds s.stage w); fit = synced_fit s delta seconds inbox (given j) };
       plays = λ j w d ok e. accepted_good s delta seconds inbox (given j) (λ z. not_false (sym w ∙ ap has_worlds z)) (request_of s delta) len d ok;
@@ -251,13 +253,13 @@ update_sound s delta seconds inbox len f k = (update_good s delta seconds inbox 
 -- ---- a refused update returns the session
 
 -- an answer that is accepted, or has the session that was handed in
-pub data Either (n : ℕ) (s t : Session) : Type 0 where
-  accepted : n ≡ 0 → Either n s t
-  handed_back : t ≡ s → Either n s t
+pub data Either (v : Verdict) (s t : Session) : Type 0 where
+  accepted : v ≡ accepts → Either v s t
+  handed_back : t ≡ s → Either v s t
 
-refused_back : (n : ℕ) (s : Session) (len : ℕ) → Either (refused_with n s len).refusal s (refused_with n s len).session
+refused_back : (e : Refusal) (s : Session) (len : ℕ) → Either (refused_with e s len).refusal s (refused_with e s len).session
 unfolding refused_with
-refused_back n s len = handed_back refl
+refused_back e s len = handed_back refl
 
 abbrev Back : Session → Reply → Type 0
 Back s a = Either a.refusal s a.session
@@ -266,7 +268,7 @@ update_back : (s : Session) (delta seconds : Float) (inbox : List ℕ) (len : �
 unfolding accepted_of
 update_back s delta seconds inbox len =
     update_by_ways {P = Back s} s delta seconds inbox len
-    (record { refuses = λ n k. refused_back n s len; syncs = λ j w. accepted refl; plays = λ j w d ok. accepted refl })
+    (record { refuses = λ e. refused_back e s len; syncs = λ j w. accepted refl; plays = λ j w d ok. accepted refl })
 
 -- what the types say of the session goes on holding, refused or not
 pub update_fits : (s : Session) (delta seconds : Float) (inbox : List ℕ) (len : ℕ) → FloatsFit s
@@ -305,13 +307,13 @@ received_good s h i k =
 
 -- an issue's answer is accepted and leaves a sound session, or hands the session back
 pub data Issued (s : Session) (a : IssueAnswer) : Type 0 where
-  taken : a.refusal ≡ 0 → sound_of s ≡ true → sound_of a.session ≡ true → (FloatsFit s → FloatsFit a.session) → Issued s a
-  turned_down : (a.refusal ≡ 0 → ⊥) → a.session ≡ s → Issued s a
+  taken : a.refusal ≡ accepts → sound_of s ≡ true → sound_of a.session ≡ true → (FloatsFit s → FloatsFit a.session) → Issued s a
+  turned_down : (a.refusal ≡ accepts → ⊥) → a.session ≡ s → Issued s a
 
 -- the two ways of an issue
 pub issue_ways : (s : Session) (h : ℕ) → Issued s (issue_of s h)
 issue_ways s h =
-    issue_by_ways (Issued s) s h (λ n k. turned_down k refl)
+    issue_by_ways (Issued s) s h (λ e. turned_down (refusal_stands e) refl)
     (λ i k. taken refl k (received_good s h i k) (λ f. record { timestep = f.timestep; timer = f.timer; slots = f.slots }))
 
 -- every session that an accepted issue returns is sound

@@ -17,7 +17,6 @@ use Rattle.float_laws.proofs.Order.{between_finite, float_le_trans}
 use Rattle.float_laws.proofs.Within.{within_of_tests, add_within}
 use Rattle.float_laws.proofs.Overshoot.{clamp_unit}
 use Rattle.timestamp.specs.declared.Timestamp.{Timestamp}
-use Rattle.std.specs.declared.cmp.Ordering.{Ordering}
 use Rattle.std.specs.declared.cmp.Ordering.TheVariants.{Less, Equal}
 use Rattle.timestamp.specs.Timestamps.{sum_of, order_of}
 use Rattle.timestamp.proofs.Order.{order_equal, order_less}

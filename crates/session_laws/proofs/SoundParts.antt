@@ -21,9 +21,9 @@ use Rattle.settings.specs.Settings.{passes_of, samples_to_discard_of, samples_to
 use Rattle.timestamp.proofs.Tests.{apart, both}
 use Rattle.settings.proofs.Limits.{timestep_within, lag_within}
 use Rattle.command.specs.Soundness.{sound_buffer}
-use Rattle.inbox.specs.declared.Message.{Message}
-use Rattle.inbox.specs.declared.Message.TheVariants.{Command, Snapshot, Clock, BadTime, WrongWord, CutShort}
-use Rattle.inbox.specs.Inbox.{messages_of}
+use Rattle.std.specs.Prelude.{Ok, Err}
+use Rattle.inbox.specs.declared.Message.TheVariants.{Command, Snapshot, Clock}
+use Rattle.inbox.specs.Inbox.{Reading, messages_of}
 use Rattle.inbox.specs.Passes.{over}
 use Rattle.inbox.proofs.Passes.{Each, over_keeps}
 use Rattle.inbox.proofs.Bounds.{Bounded, messages_bounded}
@@ -216,34 +216,30 @@ time_within x h =
 -- ---- the clock messages of an inbox
 
 -- an offset that is heard passes the test of a sample
-heard_ok : (seconds : Float) (h : Heard) (ms : List Message) → Within seconds (2 ^ 32) → Each Bounded ms → offset_ok h.offset ≡ true →
+heard_ok : (seconds : Float) (h : Heard) (ms : List Reading) → Within seconds (2 ^ 32) → Each Bounded ms → offset_ok h.offset ≡ true →
     offset_ok (over (hear_one seconds) h ms).offset ≡ true
 unfolding heard_of
 heard_ok seconds h ms w b k = over_keeps (λ (x : Heard). offset_ok x.offset ≡ true) (hear_one seconds) one h ms b k
   where
-    one : (x : Heard) (m : Message) → Bounded m → offset_ok x.offset ≡ true → offset_ok (hear_one seconds x m).offset ≡ true
-    one x (Command s n) p q = q
-    one x (Snapshot s n) p q = q
-    one x (Clock i s t) p q = measured_ok s t seconds (time_within s p.1) (time_within t p.2) w
-    one x BadTime p q = q
-    one x WrongWord p q = q
-    one x CutShort p q = q
+    one : (x : Heard) (m : Reading) → Bounded m → offset_ok x.offset ≡ true → offset_ok (hear_one seconds x m).offset ≡ true
+    one x (Ok (Command s n)) p q = q
+    one x (Ok (Snapshot s n)) p q = q
+    one x (Ok (Clock i s t)) p q = measured_ok s t seconds (time_within s p.1) (time_within t p.2) w
+    one x (Err e) p q = q
 
 -- a number that is known stays known, and an offset that is heard comes with one
 pub record Known (had : Bool) (h : Heard) : Type 0 where
   pub kept : had ≡ true → is_some h.id ≡ true
   pub brought : is_some h.offset ≡ true → is_some h.id ≡ true
 
-heard_known : (seconds : Float) (h : Heard) (ms : List Message) (had : Bool) → Each Bounded ms → Known had h → Known had (over (hear_one seconds) h ms)
+heard_known : (seconds : Float) (h : Heard) (ms : List Reading) (had : Bool) → Each Bounded ms → Known had h → Known had (over (hear_one seconds) h ms)
 heard_known seconds h ms had b k = over_keeps (Known had) (hear_one seconds) one h ms b k
   where
-    one : (x : Heard) (m : Message) → Bounded m → Known had x → Known had (hear_one seconds x m)
-    one x (Command s n) p q = q
-    one x (Snapshot s n) p q = q
-    one x (Clock i s t) p q = let e = heard_id seconds x i s t in record { kept = λ z. e; brought = λ z. e }
-    one x BadTime p q = q
-    one x WrongWord p q = q
-    one x CutShort p q = q
+    one : (x : Heard) (m : Reading) → Bounded m → Known had x → Known had (hear_one seconds x m)
+    one x (Ok (Command s n)) p q = q
+    one x (Ok (Snapshot s n)) p q = q
+    one x (Ok (Clock i s t)) p q = let e = heard_id seconds x i s t in record { kept = λ z. e; brought = λ z. e }
+    one x (Err e) p q = q
 
 -- ---- the clock in an update
 
@@ -337,37 +333,29 @@ server_within c o seconds pass w ok = go o ok
 
 -- ---- what arrives
 
-receive_kept : (r : Received) (m : Message) → Bounded m → Kept r.scene.worlds → Kept (receive_one r m).scene.worlds
-receive_kept r (Command s h) b k = received_kept r.scene (entry_of s h) (entry_plain s h b.0 b.1) k
-receive_kept r (Snapshot s h) b k = k
-receive_kept r (Clock i s t) b k = k
-receive_kept r BadTime b k = k
-receive_kept r WrongWord b k = k
-receive_kept r CutShort b k = k
+receive_kept : (r : Received) (m : Reading) → Bounded m → Kept r.scene.worlds → Kept (receive_one r m).scene.worlds
+receive_kept r (Ok (Command s h)) b k = received_kept r.scene (entry_of s h) (entry_plain s h b.0 b.1) k
+receive_kept r (Ok (Snapshot s h)) b k = k
+receive_kept r (Ok (Clock i s t)) b k = k
+receive_kept r (Err e) b k = k
 
-receive_weighed : (r : Received) (m : Message) → Bounded m → Weighed r.scene.worlds → Weighed (receive_one r m).scene.worlds
-receive_weighed r (Command s h) b k = received_weighed r.scene (entry_of s h) k
-receive_weighed r (Snapshot s h) b k = k
-receive_weighed r (Clock i s t) b k = k
-receive_weighed r BadTime b k = k
-receive_weighed r WrongWord b k = k
-receive_weighed r CutShort b k = k
+receive_weighed : (r : Received) (m : Reading) → Bounded m → Weighed r.scene.worlds → Weighed (receive_one r m).scene.worlds
+receive_weighed r (Ok (Command s h)) b k = received_weighed r.scene (entry_of s h) k
+receive_weighed r (Ok (Snapshot s h)) b k = k
+receive_weighed r (Ok (Clock i s t)) b k = k
+receive_weighed r (Err e) b k = k
 
-note_kept : (w : ClientWorldSimulations) (m : Message) → Bounded m → Kept w → Kept (note_one w m)
-note_kept w (Command s h) b k = k
-note_kept w (Snapshot s h) b k = noted_kept w s h b.1 k
-note_kept w (Clock i s t) b k = k
-note_kept w BadTime b k = k
-note_kept w WrongWord b k = k
-note_kept w CutShort b k = k
+note_kept : (w : ClientWorldSimulations) (m : Reading) → Bounded m → Kept w → Kept (note_one w m)
+note_kept w (Ok (Command s h)) b k = k
+note_kept w (Ok (Snapshot s h)) b k = noted_kept w s h b.1 k
+note_kept w (Ok (Clock i s t)) b k = k
+note_kept w (Err e) b k = k
 
-note_weighed : (w : ClientWorldSimulations) (m : Message) → Bounded m → Weighed w → Weighed (note_one w m)
-note_weighed w (Command s h) b k = k
-note_weighed w (Snapshot s h) b k = noted_weighed w s h k
-note_weighed w (Clock i s t) b k = k
-note_weighed w BadTime b k = k
-note_weighed w WrongWord b k = k
-note_weighed w CutShort b k = k
+note_weighed : (w : ClientWorldSimulations) (m : Reading) → Bounded m → Weighed w → Weighed (note_one w m)
+note_weighed w (Ok (Command s h)) b k = k
+note_weighed w (Ok (Snapshot s h)) b k = noted_weighed w s h k
+note_weighed w (Ok (Clock i s t)) b k = k
+note_weighed w (Err e) b k = k
 
 -- the worlds after an inbox's commands and snapshots
 pub scene_after_kept : (s : Session) (inbox : List ℕ) → Kept s.worlds → Kept (scene_after s inbox).worlds

@@ -4,9 +4,9 @@ use mathlib.Core.Path.{◌≡◌, refl}
 use mathlib.Core.Bool.{true}
 use mathlib.Core.List.{List, [], ◌∷◌}
 use Prim.Native.Nat.{ℕ, ◌≤◌}
-use Rattle.inbox.specs.declared.Message.{Message}
-use Rattle.inbox.specs.declared.Message.TheVariants.{Command, Snapshot, Clock, BadTime, WrongWord, CutShort}
-use Rattle.inbox.specs.Inbox.{messages_of}
+use Rattle.std.specs.Prelude.{Ok, Err}
+use Rattle.inbox.specs.declared.Message.TheVariants.{Command, Snapshot, Clock}
+use Rattle.inbox.specs.Inbox.{Reading, messages_of}
 use Rattle.inbox.specs.Passes.{over}
 use Rattle.inbox.proofs.Passes.{Each}
 use Rattle.inbox.proofs.Bounds.{Bounded, messages_bounded}
@@ -35,15 +35,13 @@ sound_m s h = steps_few s.settings (sound_facts s h).settings
 
 -- ---- commands
 
-received_one : (r : Received) (m : Message) → Offers r.scene (receive_one r m).scene
-received_one r (Command s h) = offers r.scene (entry_of s h)
-received_one r (Snapshot s h) = offers_self r.scene
-received_one r (Clock i s t) = offers_self r.scene
-received_one r BadTime = offers_self r.scene
-received_one r WrongWord = offers_self r.scene
-received_one r CutShort = offers_self r.scene
+received_one : (r : Received) (m : Reading) → Offers r.scene (receive_one r m).scene
+received_one r (Ok (Command s h)) = offers r.scene (entry_of s h)
+received_one r (Ok (Snapshot s h)) = offers_self r.scene
+received_one r (Ok (Clock i s t)) = offers_self r.scene
+received_one r (Err e) = offers_self r.scene
 
-received_over : (r : Received) (ms : List Message) → Offers r.scene (over receive_one r ms).scene
+received_over : (r : Received) (ms : List Reading) → Offers r.scene (over receive_one r ms).scene
 received_over r [] = offers_self r.scene
 received_over r (m ∷ ms) = offers_then (received_one r m) (received_over (receive_one r m) ms)
 
@@ -54,27 +52,23 @@ receives inbox r = received_over r (messages_of inbox)
 
 -- ---- snapshots
 
-noted_one : (w : ClientWorldSimulations) (m : Message) → Alike w (note_one w m)
-noted_one w (Command s h) = alike_self w
-noted_one w (Snapshot s h) = notes_alike w s h
-noted_one w (Clock i s t) = alike_self w
-noted_one w BadTime = alike_self w
-noted_one w WrongWord = alike_self w
-noted_one w CutShort = alike_self w
+noted_one : (w : ClientWorldSimulations) (m : Reading) → Alike w (note_one w m)
+noted_one w (Ok (Command s h)) = alike_self w
+noted_one w (Ok (Snapshot s h)) = notes_alike w s h
+noted_one w (Ok (Clock i s t)) = alike_self w
+noted_one w (Err e) = alike_self w
 
-noted_over : (w : ClientWorldSimulations) (ms : List Message) → Alike w (over note_one w ms)
+noted_over : (w : ClientWorldSimulations) (ms : List Reading) → Alike w (over note_one w ms)
 noted_over w [] = alike_self w
 noted_over w (m ∷ ms) = alike_then (noted_one w m) (noted_over (note_one w m) ms)
 
-fits_one : (w : ClientWorldSimulations) (m : Message) → Bounded m → QueuedFits w.snapshots.queued → QueuedFits (note_one w m).snapshots.queued
-fits_one w (Command s h) b q = q
-fits_one w (Snapshot s h) b q = notes_fit w s h b.0 q
-fits_one w (Clock i s t) b q = q
-fits_one w BadTime b q = q
-fits_one w WrongWord b q = q
-fits_one w CutShort b q = q
+fits_one : (w : ClientWorldSimulations) (m : Reading) → Bounded m → QueuedFits w.snapshots.queued → QueuedFits (note_one w m).snapshots.queued
+fits_one w (Ok (Command s h)) b q = q
+fits_one w (Ok (Snapshot s h)) b q = notes_fit w s h b.0 q
+fits_one w (Ok (Clock i s t)) b q = q
+fits_one w (Err e) b q = q
 
-fits_over : (w : ClientWorldSimulations) (ms : List Message) → Each Bounded ms → QueuedFits w.snapshots.queued
+fits_over : (w : ClientWorldSimulations) (ms : List Reading) → Each Bounded ms → QueuedFits w.snapshots.queued
     → QueuedFits (over note_one w ms).snapshots.queued
 fits_over w [] b q = q
 fits_over w (m ∷ ms) b q = fits_over (note_one w m) ms b.1 (fits_one w m b.0 q)
@@ -121,6 +115,6 @@ keeps_self s = record { settings = refl; stage = refl; alike = alike_self s.worl
 -- an issue, refused or not
 pub issue_keeps : (s : Session) (h : ℕ) → Keeps s (issue_of s h).session
 issue_keeps s h =
-    issue_by_ways (λ a. Keeps s a.session) s h (λ n k. keeps_self s)
+    issue_by_ways (λ a. Keeps s a.session) s h (λ e. keeps_self s)
     (λ i k. let o : Offers (scene_of s) (received_now s h).scene = offers (scene_of s) (issued_entry s h) in
     record { settings = refl; stage = refl; alike = o.alike; queued = rw o.snapshots refl })

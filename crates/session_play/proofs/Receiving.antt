@@ -5,9 +5,9 @@ use mathlib.Core.List.{List, [], ◌∷◌}
 use Prim.Native.Nat.{ℕ}
 use native.Mathlib.Omega.{arith}
 use Rattle.command.specs.Entries.{Entry}
-use Rattle.inbox.specs.declared.Message.{Message}
-use Rattle.inbox.specs.declared.Message.TheVariants.{Command, Snapshot, Clock, BadTime, WrongWord, CutShort}
-use Rattle.inbox.specs.Inbox.{messages_of, some}
+use Rattle.std.specs.Prelude.{Ok, Err}
+use Rattle.inbox.specs.declared.Message.TheVariants.{Command, Snapshot, Clock}
+use Rattle.inbox.specs.Inbox.{Reading, messages_of, some}
 use Rattle.inbox.specs.Passes.{over}
 use Rattle.inbox_passes.specs.Passes.{receive_one, received_in}
 use Rattle.inbox_scan.specs.Scan.{is_command, has_command}
@@ -20,14 +20,12 @@ use Rattle.session_play.specs.Play.{WorldsLent, unarrived_of, midpoints_of}
 use Rattle.session_play.proofs.Scenes.{worlds_ready}
 
 -- messages of which none is a command leave what was received
-none_over : (r : Received) (ms : List Message) → some is_command ms ≡ false → over receive_one r ms ≡ r
+none_over : (r : Received) (ms : List Reading) → some is_command ms ≡ false → over receive_one r ms ≡ r
 none_over r [] h = refl
-none_over r (Command t k ∷ ms) h = let z : ◌≡◌ {A = ℕ} 0 1 = cc in absurd (omega arith)
-none_over r (Snapshot t k ∷ ms) h = none_over r ms h
-none_over r (Clock i t u ∷ ms) h = none_over r ms h
-none_over r (BadTime ∷ ms) h = none_over r ms h
-none_over r (WrongWord ∷ ms) h = none_over r ms h
-none_over r (CutShort ∷ ms) h = none_over r ms h
+none_over r (Ok (Command t k) ∷ ms) h = let z : ◌≡◌ {A = ℕ} 0 1 = cc in absurd (omega arith)
+none_over r (Ok (Snapshot t k) ∷ ms) h = none_over r ms h
+none_over r (Ok (Clock i t u) ∷ ms) h = none_over r ms h
+none_over r (Err e ∷ ms) h = none_over r ms h
 
 none_received_lem : (words : List ℕ) (r : Received) → has_command words ≡ false → received_in words r ≡ r
 unfolding has_command received_in

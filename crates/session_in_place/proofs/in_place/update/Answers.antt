@@ -67,4 +67,4 @@ returns c = place_fit _ _ _ _ _ _ _ _ _ _
     c.update-a.ensures
     c.copy_from.ensures
     c.copy_from-2.ensures c.copy_from-3.ensures
-    c.put_back.ensures
+    c.is_err.ensures.value c.put_back.ensures
