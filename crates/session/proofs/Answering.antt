@@ -43,7 +43,7 @@ use Rattle.session_state.specs.Session.{scene_of}
 use Rattle.client.specs.Ledgers.{closed_of}
 use Rattle.session_answers.specs.Inner.{accepted_by}
 use Rattle.std.specs.Prelude.{unwrap_or}
-use Rattle.session.specs.Calls.{times_ok, refused_at_once, heard_other, clock_after, request_of, clock_moved_of, clock_update_of, concluded_of, verdict_at_once, server_time_by}
+use Rattle.session.specs.Calls.{times_ok, heard_other, clock_after, request_of, clock_moved_of, clock_update_of, concluded_of, verdict_at_once}
 use Rattle.session.specs.Calls.{lagged_of, unreceived, scene_after, played_of, worlds_update_of, update_by, update_of}
 use Rattle.session.specs.Inner.{end_verdict_of, unended_with}
 

@@ -26,7 +26,11 @@ pub fn open(settings: Settings) -> OpenAnswer
 {
     OpenAnswer {
         refusal: refusals::of_open(settings.passes()),
-        session: session_state::starting(settings, Clock::new(), ClientWorldSimulations::new(Timestamp(0))),
+        session: session_state::starting(
+            settings,
+            Clock::new(),
+            ClientWorldSimulations::new(Timestamp(0)),
+        ),
     }
 }
 

@@ -5,7 +5,6 @@ ghost use Rattle.std.specs.Prelude.{◌≡◌};
 ghost use Rattle.session_report.specs.Report.{unreported, reported_of, report_of};
 
 use client::ReconciliationStatus;
-use client::{ReconciliationStatus, sides, status};
 use refusals::{Refusal, Verdict};
 use session_state::{Session, Stage};
 use timestamp::Timestamp;

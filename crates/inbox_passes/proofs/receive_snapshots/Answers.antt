@@ -1,6 +1,5 @@
 -- `receive_snapshots` meets its contract: the snapshots that the fold gives are put back into the worlds. Assumes nothing.
-use Rattle.std.proofs.Common.{◌≡◌, rules, sym, ap, ◌∙◌}
-use Rattle.client.specs.declared.Snapshots.{Snapshots}
+use Rattle.std.proofs.Common.{rules, sym, ap, ◌∙◌}
 use Rattle.client.specs.Sides.{old_stamp_of, with_snapshots}
 use Rattle.inbox.proofs.Passes.{passed}
 use Rattle.inbox_passes.specs.Passes.{keep_one}

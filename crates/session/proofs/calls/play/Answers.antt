@@ -1,4 +1,5 @@
 -- `play` meets its contract: the snapshots, and then the worlds by the server's time with the lag. Assumes nothing.
+use Rattle.client_receive.specs.Receive.{none_received}
 use Rattle.session.proofs.Answering.{played_by}
 use Rattle.session.proofs.calls.play.Goals as goal
 
@@ -8,6 +9,6 @@ update-requires c = c.requires
 pub returns : goal.returns
 returns c =
     let a = c.args in
-    played_by a.session a.got a.clock a.delta a.seconds _
-    c.receive_snapshots-scene.ensures
+    played_by a.session (none_received a.received) a.clock a.delta a.seconds _
+    c.receive_snapshots.ensures
     c.server_time.ensures c.update.ensures

@@ -17,7 +17,7 @@ returns-in-Err-by_arrivals c =
     update_by_lem _ _ _ _ _ c.verdict_at_once.ensures true c.in_default.is c.has_worlds.ensures
     c.if-not-has_worlds.false
     (worlds_refused _ _ _ _ c.listen.ensures c.hear_all-h.ensures
-    c.scene_of.ensures c.receive_commands-r.ensures c.by_arrivals.ensures _ c.in-Err-by_arrivals.is
+    c.scene_of-scene.ensures c.receive_commands-full.ensures c.by_arrivals.ensures _ c.in-Err-by_arrivals.is
     c.refuse-in-Err-by_arrivals.ensures)
 
 pub play-a-requires : goal.play-a-requires
@@ -28,7 +28,7 @@ returns-in-Err-verdict_at_end c =
     update_by_lem _ _ _ _ _ c.verdict_at_once.ensures true c.in_default.is c.has_worlds.ensures
     c.if-not-has_worlds.false
     (worlds_stopped _ _ _ _ c.listen.ensures c.hear_all-h.ensures
-    c.scene_of.ensures c.receive_commands-r.ensures c.by_arrivals.ensures c.in_default-by_arrivals.is
+    c.scene_of-scene.ensures c.receive_commands-full.ensures c.by_arrivals.ensures c.in_default-by_arrivals.is
     c.tick-t.ensures c.settle-settled.ensures c.play-a.ensures c.verdict_at_end.ensures refl c.in-Err-verdict_at_end.is
     c.refuse-in-Err-verdict_at_end.ensures)
 
@@ -37,6 +37,6 @@ returns c =
     update_by_lem _ _ _ _ _ c.verdict_at_once.ensures true c.in_default.is c.has_worlds.ensures
     c.if-not-has_worlds.false
     (worlds_accepted _ _ _ _ c.listen.ensures c.hear_all-h.ensures
-    c.scene_of.ensures c.receive_commands-r.ensures c.by_arrivals.ensures c.in_default-by_arrivals.is
+    c.scene_of-scene.ensures c.receive_commands-full.ensures c.by_arrivals.ensures c.in_default-by_arrivals.is
     c.tick-t.ensures c.settle-settled.ensures c.play-a.ensures c.verdict_at_end.ensures refl c.in_default-verdict_at_end.is
     c.accept.ensures)
