@@ -4,7 +4,7 @@ ghost use Rattle.session_answers.specs.Answers.{unplayed_of, refused_with};
 ghost use Rattle.session_in_place.specs.AnswersLent.{answer_with, Leaves, Accepts};
 
 use super::LentAnswer;
-use client::ledgers;
+use client::Ledger;
 use clock_samples::ClockNumbers;
 use frames::Advanced;
 use refusals::{Refusal, Verdict};
@@ -23,8 +23,8 @@ pub fn unplayed(refusal: Verdict, state: State, request: bool, tape: &mut [u32])
         frames: 0,
         steps: 0,
         request,
-        left: ledgers::empty_ledger(),
-        right: ledgers::empty_ledger(),
+        left: Ledger::empty(),
+        right: Ledger::empty(),
         words: 0,
     }
 }

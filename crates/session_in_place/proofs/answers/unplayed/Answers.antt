@@ -3,4 +3,4 @@ use Rattle.session_in_place.proofs.Filling.{unplayed_is}
 use Rattle.session_in_place.proofs.answers.unplayed.Goals as goal
 
 pub returns : goal.returns
-returns c = unplayed_is _ _ _ _ c.clear.ensures c.empty_ledger.ensures c.empty_ledger-2.ensures
+returns c = unplayed_is _ _ _ _ c.clear.ensures c.empty.ensures c.empty-2.ensures
