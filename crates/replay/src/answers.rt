@@ -1,7 +1,7 @@
 // The answers as text, without the line's end.
 use super::text::{
-    Bits, BufferText, LedgerText, OrNone, RefusalText, Stamp, comma_before,
-    float_or_none, queued, stamp_or_none,
+    Bits, BufferText, LedgerText, OrNone, RefusalText, Stamp, comma_before, float_or_none, queued,
+    stamp_or_none,
 };
 use client::{
     ClientWorldSimulations, FastforwardingHealth, Ledger, Published, ReconciliationStatus,
