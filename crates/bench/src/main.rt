@@ -2,28 +2,27 @@
 // from a fresh session as often as it says, and writes a checksum of the answers.
 #![tactic(auto)]
 
-ghost use Rattle.std.specs.Prelude.{◌<◌};
+ghost use Rattle.std.specs.Prelude.{◌<◌, ◌≤◌, length, IfSome, IfOk};
+ghost use Rattle.std.specs.Iterator.{at_most};
 
 use client::ReconciliationStatus;
+use refusals::Verdict;
 use session::calls;
 use session_answers::UpdateAnswer;
+use session_issue::IssueAnswer;
 use session_report::ReportAnswer;
-use session_state::Session;
 use settings::{Settings, TweeningMethod};
-use std::io::{Read, Result, Stdin, Stdout, Write};
-use timestamp::Timestamp;
+use std::io;
+use std::io::Read;
 
-// The words of a script.
-type Script = [u32; 262144];
+// The most words of a script. Script and tape are arrays, since bench/run shows by what the program asks of the C library that the calls
+// of a session need no heap.
+const SCRIPT_ROOM: usize = 262144;
 
-// The tape that every update is handed.
-type Tape = [u32; 256];
+const BYTE_ROOM: usize = 4 * SCRIPT_ROOM;
 
-// The bytes of a script.
-type Bytes = [u8; 1048576];
-
-// The first word of a script's calls: before it stand the repetitions and the settings.
-const CALLS: usize = 20;
+// The words of the tape that every update is handed.
+const TAPE_ROOM: usize = 256;
 
 // Two sums over numbers: of the numbers, and of the first sum after each of them, so that their order counts.
 #[derive(Clone, Copy)]
@@ -32,121 +31,38 @@ struct Sums {
     second: u64,
 }
 
-// The sums with one number more.
-fn add(s: Sums, number: u64) -> Sums {
-    let first = std::num::wrapping_add_u64(s.first, number);
-    Sums {
-        first,
-        second: std::num::wrapping_add_u64(s.second, first),
+impl Sums {
+    // Both sums wrap.
+    fn add(&mut self, number: u64) {
+        self.first = self.first.wrapping_add(number);
+        self.second = self.second.wrapping_add(self.first);
     }
-}
 
-// A word as a number to add.
-fn wide(word: u32) -> u64 {
-    word as u64
-}
-
-// The word at a place of the script, and 0 past its end.
-fn word_at(script: &Script, at: usize) -> u32 {
-    if at < 262144 {
-        return script[at];
+    fn add_refusal(&mut self, verdict: Verdict) {
+        self.add(u64::from(refusals::number(verdict)));
     }
-    0
-}
 
-// The float of 64 bits, high word first; 0 for the bits of a NaN.
-fn float_of(high: u32, low: u32) -> f64 {
-    let bits = (high as u64) * 4294967296 + (low as u64);
-    if bits % 9223372036854775808 > 9218868437227405312 {
-        return 0.0;
-    }
-    f64::from_bits(bits)
-}
-
-// The float of the words at a place and after it.
-fn float_at(script: &Script, at: usize) -> f64 {
-    if at < 262143 {
-        return float_of(script[at], script[at + 1]);
-    }
-    0.0
-}
-
-// The settings of a script.
-fn settings_of(script: &Script) -> Settings {
-    let method = TweeningMethod::from_number(word_at(script, 19));
-    Settings {
-        timestep: float_at(script, 1),
-        blend: float_at(script, 3),
-        lag: float_at(script, 5),
-        period: float_at(script, 7),
-        deviation: float_at(script, 9),
-        skip: float_at(script, 11),
-        max: float_at(script, 13),
-        needed: word_at(script, 17),
-        rate: float_at(script, 15),
-        m: word_at(script, 18),
-        method,
-    }
-}
-
-// The sums with the first words of a tape.
-fn add_words(s: Sums, tape: &Tape, count: usize) -> Sums {
-    let mut t = s;
-    let mut i: usize = 0;
-    while i < count {
-        if i >= 256 {
-            return t;
-        }
-        t = add(t, wide(tape[i]));
-        i += 1;
-    }
-    t
-}
-
-// The part of the script from a place on that is so many words long, and none where it would reach past the end.
-fn inbox_at(script: &[u32], from: usize, count: usize) -> &[u32] {
-    if from <= script.len() {
-        if count <= script.len() - from {
-            let to = from + count;
-            return &script[from..to];
+    // All steps of a world are those of the frames and those made to catch up.
+    fn add_update(&mut self, answer: &UpdateAnswer, tape: &[u32]) {
+        self.add_refusal(answer.refusal);
+        self.add(u64::from(answer.frames) + u64::from(answer.steps));
+        self.add(answer.words as u64);
+        for word in tape.iter().take(answer.words) {
+            self.add(u64::from(*word));
         }
     }
-    &script[..0]
-}
 
-// Plays the update at a place of the script, whose inbox has so many words.
-fn call_update(
-    session: Session,
-    script: &Script,
-    at: usize,
-    count: usize,
-    tape: &mut Tape,
-) -> UpdateAnswer
-    requires { at < 262144 }
-{
-    let delta = float_at(script, at + 1);
-    let seconds = float_at(script, at + 3);
-    let inbox = inbox_at(script, at + 6, count);
-    calls::update(session, delta, seconds, inbox, tape)
-}
+    fn add_issue(&mut self, answer: &IssueAnswer) {
+        self.add_refusal(answer.refusal);
+        self.add(u64::from(answer.stamp.0));
+    }
 
-// All steps of a world: those of the frames, and those made to catch up.
-fn steps_of(frames: u32, steps: u32) -> u64 {
-    (frames as u64) + (steps as u64)
-}
-
-// The sums with an update's answer: its refusal, all steps of a world, the count of its words, and the words.
-fn add_update(s: Sums, refusal: u32, steps: u64, words: usize, tape: &Tape) -> Sums {
-    let a = add(s, refusal as u64);
-    let b = add(a, steps);
-    let c = add(b, words as u64);
-    add_words(c, tape, words)
-}
-
-// The sums with an issue's answer.
-fn add_issue(s: Sums, refusal: u32, stamp: Timestamp) -> Sums {
-    let a = add(s, refusal as u64);
-    add(a, stamp.0 as u64)
+    fn add_report(&mut self, answer: &ReportAnswer) {
+        self.add_refusal(answer.refusal);
+        self.add(status_number(answer.status));
+        self.add(u64::from(answer.old.0));
+        self.add(time_bits(answer.time));
+    }
 }
 
 // The number of a status.
@@ -160,131 +76,201 @@ fn status_number(status: ReconciliationStatus) -> u64 {
 
 // The bits of the time that is displayed.
 fn time_bits(time: Option<f64>) -> u64 {
-    match time {
-        None => 0,
-        Some(x) => tape::bits_of(x),
-    }
+    time.map_or(0, tape::bits_of)
 }
 
-// The sums with a report.
-fn add_report(s: Sums, a: ReportAnswer) -> Sums {
-    let status = a.status;
-    let time = a.time;
-    let old = a.old;
-    let b = add(s, refusals::number(a.refusal) as u64);
-    let c = add(b, status_number(status));
-    let d = add(c, old.0 as u64);
-    add(d, time_bits(time))
+// A call of a script.
+#[derive(Drop)]
+enum Call<'a> {
+    Update {
+        delta: f64,
+        seconds: f64,
+        inbox: &'a [u32],
+    },
+    Issue {
+        handle: u32,
+    },
+    Report,
 }
 
-// Plays the script once from a fresh session. A word that begins no call ends it.
-fn play(script: &Script, length: usize, tape: &mut Tape, start: Sums) -> Sums {
-    let opened = calls::open(settings_of(script));
-    let mut session = opened.session;
-    let mut sums = add(start, refusals::number(opened.refusal) as u64);
-    let mut at = CALLS;
-    while at < length {
-        if at >= 262144 {
-            return sums;
+// The words of a script that are left to read. Past them every word is 0.
+#[derive(Drop)]
+struct Words<'a>(&'a [u32]);
+
+impl<'a> Words<'a> {
+    fn word(&mut self) -> u32
+        ensures { length self.new.0.now ≤ length self.old.0.now }
+    {
+        match self.0 {
+            [word, rest @ ..] => {
+                self.0 = rest;
+                *word
+            }
+            [] => 0,
         }
-        let kind = script[at];
-        if kind == 1 {
-            let count = word_at(script, at + 5) as usize;
-            let a = call_update(session, script, at, count, tape);
-            let next = a.session;
-            session = next;
-            sums = add_update(
-                sums,
-                refusals::number(a.refusal),
-                steps_of(a.frames, a.steps),
-                a.words,
-                tape,
-            );
-            at = at + 6 + count;
-        } else if kind == 2 {
-            let a = calls::issue(session, word_at(script, at + 1));
-            let next = a.session;
-            session = next;
-            sums = add_issue(sums, refusals::number(a.refusal), a.stamp);
-            at = at + 2;
-        } else if kind == 3 {
-            sums = add_report(sums, calls::report(session));
-            at = at + 1;
+    }
+
+    // The float of two words, high word first.
+    fn float(&mut self) -> f64
+        ensures { length self.new.0.now ≤ length self.old.0.now }
+    {
+        match self.0 {
+            [high, low, rest @ ..] => {
+                self.0 = rest;
+                float_of(*high, *low)
+            }
+            _ => {
+                self.0 = &[];
+                0.0
+            }
+        }
+    }
+
+    // So many words, and none where fewer are left.
+    fn inbox(&mut self, count: usize) -> &'a [u32]
+        ensures { length self.new.0.now ≤ length self.old.0.now }
+    {
+        let words = self.0;
+        if count <= words.len() {
+            self.0 = &words[count..];
+            &words[..count]
         } else {
-            return sums;
+            self.0 = &[];
+            &[]
         }
     }
-    sums
-}
 
-// The word of four bytes, low byte first.
-fn word_of(a: u8, b: u8, c: u8, d: u8) -> u32 {
-    (a as u32) + (b as u32) * 256 + (c as u32) * 65536 + (d as u32) * 16777216
-}
-
-// Lays so many words out from the bytes of a script.
-fn lay_out(script: &mut Script, bytes: &Bytes, count: usize) {
-    let mut i: usize = 0;
-    while i < count {
-        if i >= 262144 {
-            return;
+    fn settings(&mut self) -> Settings {
+        let timestep = self.float();
+        let blend = self.float();
+        let lag = self.float();
+        let period = self.float();
+        let deviation = self.float();
+        let skip = self.float();
+        let max = self.float();
+        let rate = self.float();
+        Settings {
+            timestep,
+            blend,
+            lag,
+            period,
+            deviation,
+            skip,
+            max,
+            needed: self.word(),
+            rate,
+            m: self.word(),
+            method: TweeningMethod::from_number(self.word()),
         }
-        let at = i * 4;
-        script[i] = word_of(bytes[at], bytes[at + 1], bytes[at + 2], bytes[at + 3]);
-        i += 1;
     }
 }
 
-// Reads the bytes of a script, as many as there is room for. Gives how many there are.
-fn read_bytes(stdin: &mut Stdin, bytes: &mut Bytes) -> Result<usize> {
-    let mut done: usize = 0;
-    while done < 1048576 {
-        let n = stdin.read(&mut bytes[done..])?;
-        if n == 0 {
-            return Ok(done);
+impl<'a> Iterator for Words<'a> {
+    type Item = Call<'a>;
+
+    ghost remaining = { λ s. at_most (length s.0.now) };
+
+    // The next call. A word that begins none ends the script.
+    fn next(&mut self) -> Option<Call<'a>> {
+        let (kind, rest) = self.0.split_first()?;
+        self.0 = rest;
+        match *kind {
+            1 => {
+                let delta = self.float();
+                let seconds = self.float();
+                let count = self.word() as usize;
+                let inbox = self.inbox(count);
+                Some(Call::Update {
+                    delta,
+                    seconds,
+                    inbox,
+                })
+            }
+            2 => {
+                let handle = self.word();
+                Some(Call::Issue { handle })
+            }
+            3 => Some(Call::Report),
+            _ => None,
         }
-        done += n;
     }
-    Ok(done)
 }
 
-// Reads the script. Gives how many words it has.
-fn read_script(stdin: &mut Stdin, script: &mut Script) -> Result<usize> {
-    let mut bytes = [0u8; 1048576];
-    let count = read_bytes(stdin, &mut bytes)? / 4;
-    lay_out(script, &bytes, count);
+// The float of 64 bits, high word first; 0 for the bits of a NaN.
+fn float_of(high: u32, low: u32) -> f64 {
+    let bits = u64::from(high) << 32 | u64::from(low);
+    let x = std::num::f64_from_bits_with_nan(bits);
+    if x.is_nan() { 0.0 } else { x }
+}
+
+// Plays the script once from a fresh session.
+fn play(script: &[u32], tape: &mut [u32], sums: &mut Sums) {
+    let mut words = Words(script);
+    let opened = calls::open(words.settings());
+    sums.add_refusal(opened.refusal);
+    let mut session = opened.session;
+    for call in words {
+        match call {
+            Call::Update {
+                delta,
+                seconds,
+                inbox,
+            } => {
+                let answer = calls::update(session, delta, seconds, inbox, tape);
+                session = answer.session;
+                sums.add_update(&answer, tape);
+            }
+            Call::Issue { handle } => {
+                let answer = calls::issue(session, handle);
+                session = answer.session;
+                sums.add_issue(&answer);
+            }
+            Call::Report => sums.add_report(&calls::report(session)),
+        }
+    }
+}
+
+// Reads the bytes of a script, as many as there is room for, and gives how many there are. `io::copy` would do too, but bench/run adds up
+// frames, and the buffer of a copy, 8 KB, is more than what an update takes below `main`.
+fn read_bytes(stdin: &mut impl Read, bytes: &mut [u8; BYTE_ROOM]) -> io::Result<usize>
+    ensures { IfOk result (λ n. n ≤ 1048576) }
+{
+    let mut count = 0;
+    while count < BYTE_ROOM {
+        match stdin.read(&mut bytes[count..])? {
+            0 => break,
+            n => count += n,
+        }
+    }
     Ok(count)
 }
 
-// Plays the script as often as it says.
-fn play_all(script: &Script, length: usize, tape: &mut Tape) -> Sums {
-    let mut left = script[0];
+// Reads the words of a script, low byte first.
+fn read_script(
+    stdin: &mut impl Read,
+    bytes: &mut [u8; BYTE_ROOM],
+    script: &mut [u32; SCRIPT_ROOM],
+) -> io::Result<()> {
+    let count = read_bytes(stdin, bytes)?;
+    let (words, _) = bytes[..count].as_chunks::<4>();
+    for (word, bytes) in script.iter_mut().zip(words) {
+        *word = u32::from_le_bytes(*bytes);
+    }
+    Ok(())
+}
+
+// Plays the script as often as its first word says.
+fn main(rt: HostRuntime) -> io::Result<()> {
+    let mut bytes = [0u8; BYTE_ROOM];
+    let mut script = [0u32; SCRIPT_ROOM];
+    let mut tape = [0u32; TAPE_ROOM];
+    read_script(&mut rt.stdin(), &mut bytes, &mut script)?;
     let mut sums = Sums {
         first: 0,
         second: 0,
     };
-    while left > 0 {
-        left -= 1;
-        sums = play(script, length, tape, sums);
+    for _ in 0..script[0] {
+        play(&script[1..], &mut tape, &mut sums);
     }
-    sums
-}
-
-// Writes a number in hexadecimal.
-fn write_hex(stdout: &mut Stdout, v: u64) -> Result<()> {
-    let mut digits = [0u8; 16];
-    let n = io::hex(v, 16, &mut digits);
-    stdout.write_all(&digits[..n])
-}
-
-fn main(rt: HostRuntime) -> Result<()> {
-    let mut stdin = rt.stdin();
-    let mut stdout = rt.stdout();
-    let mut script = [0u32; 262144];
-    let mut tape = [0u32; 256];
-    let length = read_script(&mut stdin, &mut script)?;
-    let sums = play_all(&script, length, &mut tape);
-    write_hex(&mut stdout, sums.first)?;
-    write_hex(&mut stdout, sums.second)?;
-    stdout.write_all(b"\n")
+    println!(rt; "{:016x}{:016x}", sums.first, sums.second)
 }

@@ -196,8 +196,8 @@ pub record Marked : Type 0 where
   -- and so in the sessions that the four updates return
   pub left_behind : behinds_after (frame_one ∷ frame_two ∷ frame_three ∷ frame_four ∷ []) ≡ 5 ∷ 3 ∷ 1 ∷ 0 ∷ []
   -- the run: it is opened, and the clock message at 1 s is of these words
-  pub run_opened : ((open_of (settings_with 2)).refusal ≡ accepted) × (clock_at 1 ≡ 0x30000007 ∷ 0x5000003f ∷ 0x5f000000 ∷ 0x50000000 ∷ 0x5000003f ∷ 0x5f000000 ∷
-      0x50000000 ∷ [])
+  pub run_opened : ((open_of (settings_with 2)).refusal ≡ accepted)
+      × (clock_at 1 ≡ 0x30000007 ∷ 0x5000003f ∷ 0x5f000000 ∷ 0x50000000 ∷ 0x5000003f ∷ 0x5f000000 ∷ 0x50000000 ∷ [])
   -- the updates at 1, 2 and 3 s are accepted and play nothing
   pub run_syncs : Shows (heard_once 2 1) 0 0 (replicate 8 0) × Shows (heard_twice 2 1) 0 0 (replicate 8 0) × Shows (heard_thrice 2 1) 0 0 (replicate 8 0)
   -- stamps start at 3

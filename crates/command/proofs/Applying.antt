@@ -55,7 +55,8 @@ apply_few side p xs i s = omega (arith, s.at, words-length side (filter_b p (tak
 
 -- and the word of one entry more that passes
 pub apply_one : (side : ℕ) (p : Entry → Bool) (xs : List Entry) (i : ℕ) {was last next : List ℕ} {place q w r : ℕ} → i < length xs
-    → p (get_or xs i blank) ≡ true → w ≡ command_word side (handle_in (get_or xs i blank)) → Puts was place (command_words side (filter_b p (take i xs))) q last → Puts last q (w ∷ []) r next
+    → p (get_or xs i blank) ≡ true → w ≡ command_word side (handle_in (get_or xs i blank)) → Puts was place (command_words side (filter_b p (take i xs))) q last
+    → Puts last q (w ∷ []) r next
     → Puts was place (command_words side (filter_b p (take (i + 1) xs))) r next
 apply_one side p xs i {w = w} h e f s u =
     let all : command_words side (filter_b p (take i xs)) ++ (w ∷ []) ≡ command_words side (filter_b p (take (i + 1) xs)) =

@@ -1,5 +1,5 @@
--- What happens to the worlds in an update, by what it was handed and by the verdict on it: document 01, "src/fixed_timestepper.rs". No frame and no skip is in it
--- but those of the definition. Definitions only. Assumes nothing.
+-- What happens to the worlds in an update, by what it was handed and by the verdict on it: document 01, "src/fixed_timestepper.rs". No frame and no skip is in
+-- it but those of the definition. Definitions only. Assumes nothing.
 use Rattle.std.specs.Prelude.{ℕ, zero, suc, cond, List, [], ◌∷◌, ◌++◌, Float, Ok, Err}
 use Rattle.std.specs.Float.{binary64}
 use Rattle.std.specs.Float.Ieee.{add, sub, lt}

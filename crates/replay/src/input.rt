@@ -1,96 +1,272 @@
-// Standard input, byte by byte, through a buffer.
-use std::io::{Error, Read, Result, Stdin};
+// The input as lines of fields, with one space between two fields. It is read byte by byte, and no more of a field is kept than its value
+// has room for, so that a line may have any length.
+ghost use Rattle.std.specs.Prelude.{◌+◌, ◌*◌, ◌<◌, ◌≤◌, IfSome};
+ghost use Rattle.std.specs.Iterator.{at_most};
 
-// Standard input, the bytes that were read last, and how a read failed. Nothing is read after that.
+use super::stop::Stop;
+use std::alloc::Global;
+use std::io::{BufRead, BufReader, Read};
+
+// The longest name of a call has 7 bytes. Of a line's first field one more is kept, so that a longer one is no name.
+const NAME_ROOM: usize = 8;
+
+// What ended a field: a space, the end of its line, or that of the input.
+#[derive(Clone, Copy, PartialEq, Eq)]
+pub enum End {
+    Space,
+    Line,
+    Input,
+}
+
+// The input, and where the reading of it stands.
 #[derive(Drop)]
-pub struct In {
-    stdin: Stdin,
-    bytes: [u8; 65536],
-    failure: Option<Error>,
+pub struct Input<R: Read + Drop> {
+    alloc: Global,
+    reader: BufReader<R>,
+    // what ended the field that was read last
+    end: End,
 }
 
-// The place of the next byte in the buffer, and the end of what was read into it.
-#[derive(Clone, Copy)]
-pub struct Cursor {
-    pub at: usize,
-    pub end: usize,
+// The bytes of a field up to what ends it. `left` bounds them, so that a loop over them is proved to end.
+#[derive(Drop)]
+struct Field<'a, R: Read + Drop> {
+    input: &'a mut Input<R>,
+    left: u64,
 }
 
-// A byte and the cursor after it. 256 is the end of the input, and 257 that a read failed.
-#[derive(Clone, Copy)]
-pub struct NextByte {
-    pub cursor: Cursor,
-    pub byte: u32,
-}
+impl<R: Read + Drop> Iterator for Field<'_, R> {
+    type Item = Result<u8, Stop>;
 
-// Standard input, of which nothing is read yet.
-pub(crate) fn from_start(stdin: Stdin) -> In {
-    In {
-        stdin,
-        bytes: [0; 65536],
-        failure: None,
+    ghost remaining = { λ s. at_most s.left };
+
+    fn next(&mut self) -> Option<Result<u8, Stop>> {
+        self.left = self.left.checked_sub(1)?;
+        self.input.next_of_field().transpose()
     }
 }
 
-// Whether every read went well.
-pub(crate) fn is_well(input: &In) -> bool {
-    input.failure.is_none()
-}
-
-// How a read failed, if one did.
-pub(crate) fn outcome(input: &In) -> Result<()> {
-    match input.failure {
-        Some(e) => Err(e),
-        None => Ok(()),
+// The digit that a byte is, in lower case.
+fn digit(byte: u8) -> Option<u8>
+    ensures { IfSome result (λ d. d < 16) }
+{
+    match byte {
+        b'0'..=b'9' => Some(byte - b'0'),
+        b'a'..=b'f' => Some(byte - b'a' + 10),
+        _ => None,
     }
 }
 
-// Reads on where the buffer is used up.
-fn refill(input: &mut In) -> Cursor {
-    if is_well(input) {
-        match input.stdin.read(&mut input.bytes) {
-            Ok(n) => return Cursor { at: 0, end: n },
-            Err(e) => input.failure = Some(e),
+// A number with one digit more, where the byte is one and the number still fits.
+fn with_digit(number: u64, byte: u8, radix: u8) -> Option<u64>
+    ensures { IfSome result (λ n. (number * radix ≤ n) × (n < number * radix + radix)) }
+{
+    let digit = digit(byte)?;
+    if digit >= radix {
+        return None;
+    }
+    number
+        .checked_mul(u64::from(radix))?
+        .checked_add(u64::from(digit))
+}
+
+impl<R: Read + Drop> Input<R> {
+    pub fn new(alloc: Global, reader: BufReader<R>) -> Input<R> {
+        Input {
+            alloc,
+            reader,
+            end: End::Line,
         }
     }
-    Cursor { at: 0, end: 0 }
-}
 
-// A byte as a number that has room for the end of the input too.
-fn wide(b: u8) -> u32 {
-    b as u32
-}
+    // The next byte; none at the end of the input.
+    fn next_byte(&mut self) -> Result<Option<u8>, Stop> {
+        let byte = self.reader.fill_buf().map_err(Stop::Read)?.first().copied();
+        if byte.is_some() {
+            self.reader.consume(1);
+        }
+        Ok(byte)
+    }
 
-// What stands for a byte past the last.
-fn past(input: &In, c: Cursor) -> NextByte {
-    let byte = if is_well(input) { 256 } else { 257 };
-    NextByte { cursor: c, byte }
-}
+    // The next byte of a field; none at its end.
+    fn next_of_field(&mut self) -> Result<Option<u8>, Stop> {
+        let end = match self.next_byte()? {
+            Some(b' ') => End::Space,
+            Some(b'\n') => End::Line,
+            Some(byte) => return Ok(Some(byte)),
+            None => End::Input,
+        };
+        self.end = end;
+        Ok(None)
+    }
 
-// The byte at a place of the buffer; the end of the input past its end.
-fn taken(input: &In, c: Cursor) -> NextByte {
-    let at = c.at;
-    if at >= 65536 {
-        return past(input, c);
+    // The bytes that are left of a field.
+    fn rest(&mut self) -> Field<'_, R> {
+        Field {
+            input: self,
+            left: u64::MAX,
+        }
     }
-    if at >= c.end {
-        return past(input, c);
-    }
-    NextByte {
-        cursor: Cursor {
-            at: at + 1,
-            end: c.end,
-        },
-        byte: wide(input.bytes[at]),
-    }
-}
 
-// The next byte of the input.
-pub(crate) fn next(input: &mut In, c: Cursor) -> NextByte {
-    let at = c.at;
-    if at < c.end {
-        return taken(input, c);
+    // Whether the line has another field.
+    pub fn has_more(&self) -> bool {
+        self.end == End::Space
     }
-    let f = refill(input);
-    taken(input, f)
+
+    // The line ends here.
+    pub fn end_line(&self) -> Result<(), Stop> {
+        if self.has_more() {
+            return Err(Stop::BadCall);
+        }
+        Ok(())
+    }
+
+    // What ended the field that was read last.
+    pub fn end(&self) -> End {
+        self.end
+    }
+
+    // Passes over what is left of a line.
+    pub fn skip_line(&mut self) -> Result<(), Stop> {
+        if self.has_more() {
+            self.reader.skip_until(b'\n').map_err(Stop::Read)?;
+        }
+        Ok(())
+    }
+
+    // The first bytes of a line's first field.
+    pub fn name(&mut self) -> Result<Vec<u8>, Stop> {
+        let mut name = Vec::with_capacity(self.alloc, NAME_ROOM)?;
+        for byte in self.rest() {
+            let byte = byte?;
+            if name.len() < NAME_ROOM {
+                name.push(byte)?;
+            }
+        }
+        Ok(name)
+    }
+
+    // The next byte of a field, which must be there.
+    fn byte(&mut self) -> Result<u8, Stop> {
+        self.next_of_field()?.ok_or(Stop::BadCall)
+    }
+
+    // The first byte of the next field: the line has one only after a space, and it may not be empty.
+    fn first_byte(&mut self) -> Result<u8, Stop> {
+        if !self.has_more() {
+            return Err(Stop::BadCall);
+        }
+        self.byte()
+    }
+
+    // The number in decimal that begins with a byte.
+    fn decimal_from(&mut self, first: u8) -> Result<u64, Stop> {
+        let mut number = with_digit(0, first, 10);
+        for byte in self.rest() {
+            let byte = byte?;
+            number = number.and_then(|n| with_digit(n, byte, 10));
+        }
+        number.ok_or(Stop::BadCall)
+    }
+
+    // A number in decimal, without a sign.
+    pub fn decimal(&mut self) -> Result<u64, Stop> {
+        let first = self.first_byte()?;
+        self.decimal_from(first)
+    }
+
+    // A number in decimal, cut to 32 bits: what is more stays more than any limit of a call.
+    pub fn decimal_u32(&mut self) -> Result<u32, Stop> {
+        Ok(u32::try_from(self.decimal()?).unwrap_or(u32::MAX))
+    }
+
+    // A stamp in signed decimal.
+    pub fn stamp(&mut self) -> Result<i16, Stop> {
+        let first = self.first_byte()?;
+        let is_negative = first == b'-';
+        let first = if is_negative { self.byte()? } else { first };
+        let size = i32::try_from(self.decimal_from(first)?).map_err(|_| Stop::BadCall)?;
+        let value = if is_negative { -size } else { size };
+        i16::try_from(value).map_err(|_| Stop::BadCall)
+    }
+
+    // A number of so many hexadecimal digits.
+    fn hex(&mut self, digits: usize) -> Result<u64, Stop> {
+        let mut number = with_digit(0, self.first_byte()?, 16);
+        let mut count = 1usize;
+        for byte in self.rest() {
+            let byte = byte?;
+            number = number.and_then(|n| with_digit(n, byte, 16));
+            count = count.saturating_add(1);
+        }
+        number.filter(|_| count == digits).ok_or(Stop::BadCall)
+    }
+
+    // A float by its bits.
+    pub fn float(&mut self) -> Result<f64, Stop> {
+        Ok(std::num::f64_from_bits_with_nan(self.hex(16)?))
+    }
+
+    // A word of an inbox.
+    pub fn word(&mut self) -> Result<u32, Stop> {
+        u32::try_from(self.hex(8)?).map_err(|_| Stop::BadCall)
+    }
+
+    // Words up to the end of the line, of which the first `room` are kept.
+    pub fn words(&mut self, room: usize) -> Result<Vec<u32>, Stop> {
+        let mut words = Vec::new(self.alloc);
+        // the bound is for the proof that the loop ends: no line has so many words
+        for _ in 0..u64::MAX {
+            if !self.has_more() {
+                break;
+            }
+            let word = self.word()?;
+            if words.len() < room {
+                words.push(word)?;
+            }
+        }
+        Ok(words)
+    }
+
+    // The field ends here.
+    fn end_field(&mut self) -> Result<(), Stop> {
+        let mut is_at_end = true;
+        for byte in self.rest() {
+            byte?;
+            is_at_end = false;
+        }
+        if is_at_end {
+            Ok(())
+        } else {
+            Err(Stop::BadCall)
+        }
+    }
+
+    // Bytes of two hexadecimal digits each, or `-` for none, of which the first `room` are kept.
+    pub fn bytes(&mut self, room: usize) -> Result<Vec<u8>, Stop> {
+        let mut bytes = Vec::new(self.alloc);
+        let first = self.first_byte()?;
+        if first == b'-' {
+            self.end_field()?;
+            return Ok(bytes);
+        }
+        // the first digit of a byte, while its second is to come
+        let mut high = digit(first);
+        let mut is_good = high.is_some();
+        for byte in self.rest() {
+            match (high.take(), digit(byte?)) {
+                (Some(high), Some(low)) => {
+                    if bytes.len() < room {
+                        bytes.push(high << 4 | low)?;
+                    }
+                }
+                (None, Some(first)) => high = Some(first),
+                (_, None) => is_good = false,
+            }
+        }
+        if is_good && high.is_none() {
+            Ok(bytes)
+        } else {
+            Err(Stop::BadCall)
+        }
+    }
 }

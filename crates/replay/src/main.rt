@@ -2,128 +2,57 @@
 #![tactic(auto)]
 
 mod answers;
-mod fields;
-mod host_calls;
+mod call;
 mod input;
-mod lines;
-mod output;
-mod samples;
-mod session_calls;
+mod player;
+mod stop;
+mod text;
 
-use fields::Fields;
-use input::{Cursor, In};
-use lines::{Line, Place};
-use output::Out;
-use session_calls::{Player, Tape, Words};
-use session_state::Session;
-use std::io::Result;
+use call::Line;
+use input::Input;
+use player::Player;
+use std::io;
+use std::io::{BufReader, BufWriter, Read, Write};
+use stop::Stop;
 
-// Passes over what is left of a comment.
-fn pass_over(p: Place, end: u32, input: &mut In) -> Place {
-    if fields::ends_line(end) {
-        return p;
-    }
-    lines::answered(fields::skip_line(input, p.cursor), p.at)
-}
-
-// Plays a line that is no call on the session.
-fn play_beside(l: Line, p: Place, end: u32, input: &mut In, out: &mut Out) -> Place {
-    match l {
-        Line::End => lines::ended(p),
-        Line::Empty => p,
-        Line::Comment => pass_over(p, end, input),
-        Line::Order => host_calls::order(p, end, input, out),
-        Line::Stamp => host_calls::frame_stamp(p, end, input, out),
-        Line::Mean => host_calls::mean(p, end, input, out),
-        Line::Span => host_calls::span(p, end, input, out),
-        _ => lines::bad(p),
-    }
-}
-
-// The player at another place.
-fn moved(p: Player, place: Place) -> Player {
-    let mut q = p;
-    q.place = place;
-    q
-}
-
-// Plays a call on the session, of which the line was read.
-fn play_call(
-    p: Player,
-    l: Line,
-    f: Fields,
-    at: usize,
-    words: &mut Words,
-    tape: &mut Tape,
-    out: &mut Out,
-) -> Player {
-    match l {
-        Line::Open => session_calls::open(f, at, out),
-        Line::Update => session_calls::update(p.session, f, at, words, tape, out),
-        Line::Issue => session_calls::issue(p.session, f, at, out),
-        Line::Report => moved(p, session_calls::report(p.session, f, at, out)),
-        _ => moved(p, session_calls::show(p.session, f, at, out)),
-    }
-}
-
-// Reads the next line and plays it.
-fn play_next(
-    p: Player,
-    input: &mut In,
-    words: &mut Words,
-    tape: &mut Tape,
-    out: &mut Out,
-) -> Player {
-    let place = p.place;
-    let at = place.at;
-    let s = fields::scan(input, place.cursor);
-    let first = s.field;
-    let l = lines::line_of(first);
-    if !lines::is_on_session(l) {
-        let q = lines::answered(s.cursor, at);
-        return moved(p, play_beside(l, q, first.end, input, out));
-    }
-    let f = session_calls::read_call(l, input, s.cursor, first.end, words);
-    if !f.ok {
-        return moved(p, lines::bad(place));
-    }
-    play_call(p, l, f, at, words, tape, out)
-}
-
-// After the last line: a line that is no call is named, unless a read failed in it.
-fn ended(p: Place, line: u64, input: &In, out: &mut Out) -> usize {
-    if p.bad && input::is_well(input) {
-        return answers::bad_call(out, p.at, line);
-    }
-    p.at
-}
+// How many bytes are read at once, and how many wait to be written.
+const BUFFER: usize = 65536;
 
 // Plays the lines of the input in order. A line that is no call ends the run, and so does a read or a write that fails.
-fn play(input: &mut In, words: &mut Words, tape: &mut Tape, out: &mut Out) -> usize {
-    let mut p = Player {
-        session: session_calls::no_session(),
-        place: lines::answered(Cursor { at: 0, end: 0 }, 0),
-    };
-    let mut line: u64 = 0;
-    while line < u64::MAX {
-        line += 1;
-        let q = play_next(p, input, words, tape, out);
-        p = q;
-        let place = p.place;
-        if !place.going || !output::is_well(out) {
-            return ended(place, line, input, out);
+fn play<R: Read + Drop, W: Write>(
+    input: &mut Input<R>,
+    player: &mut Player,
+    out: &mut W,
+) -> Result<(), Stop> {
+    for number in 1..=u64::MAX {
+        match call::read_line(input) {
+            Ok(Line::Call(call)) => player.play(call, out).map_err(Stop::Write)?,
+            Ok(Line::PassedOver) => {}
+            Ok(Line::End) => return Ok(()),
+            Err(Stop::BadCall) => {
+                writeln!(out, "bad call at line {number}").map_err(Stop::Write)?;
+                return Err(Stop::BadCall);
+            }
+            Err(stop) => return Err(stop),
         }
     }
-    0
+    Ok(())
 }
 
-// Lays out the buffers, plays, and writes out what is left. A read or a write that failed is the error.
-fn main(rt: HostRuntime) -> Result<()> {
-    let mut input = input::from_start(rt.stdin());
-    let mut words = [0u32; 4097];
-    let mut tape = [0u32; 65536];
-    let mut out = output::from_start(rt.stdout());
-    let n = play(&mut input, &mut words, &mut tape, &mut out);
-    output::flush(&mut out, n)?;
-    input::outcome(&input)
+// Plays the calls and writes out what is left. A read or a write that failed is the error.
+fn main(rt: HostRuntime) -> io::Result<()> {
+    let mut input = Input::new(
+        rt.alloc(),
+        BufReader::with_capacity(rt.alloc(), BUFFER, rt.stdin())?,
+    );
+    let mut player = Player::new(rt.alloc())?;
+    let mut out = BufWriter::with_capacity(rt.alloc(), BUFFER, rt.stdout())?;
+    let outcome = match play(&mut input, &mut player, &mut out) {
+        Ok(()) | Err(Stop::BadCall) => out.flush(),
+        Err(Stop::Read(e)) => out.flush().and(Err(e)),
+        Err(Stop::Write(e)) => Err(e),
+    };
+    // after a write that failed nothing more is written: dropped whole, the writer would try again
+    let _ = out.into_parts();
+    outcome
 }

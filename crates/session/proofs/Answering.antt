@@ -71,7 +71,8 @@ unfolding verdict_at_once
 once_is s delta seconds inbox ht hm hq h = h ∙ (λ i. once_verdict_by (ht i) (hm i) (hq i))
 
 -- an update that is not refused at once has an m of at most 64
-pub once_few : (s : Session) (delta seconds : Float) (inbox : List ℕ) {n : Verdict} → n ≡ verdict_at_once s delta seconds inbox → n ≡ accepted → s.settings.m ≤ most_steps
+pub once_few : (s : Session) (delta seconds : Float) (inbox : List ℕ) {n : Verdict} → n ≡ verdict_at_once s delta seconds inbox → n ≡ accepted
+    → s.settings.m ≤ most_steps
 unfolding verdict_at_once sound_of
 once_few s delta seconds inbox hn e =
     let k = once_accepted (times_ok delta seconds) (refusal_of inbox) (sound_of s) (sym hn ∙ e) in

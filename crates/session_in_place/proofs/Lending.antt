@@ -208,8 +208,8 @@ module _ (c : Settings) (s : State) (delta seconds : Float) (words : List ℕ) (
   got_is = hr.received (scene_of whole) ∙ (λ i. received_in words (record { scene = unarrived_is s.worlds l r b i; full = false }))
 
   -- refused by what arrived
-  pub play_refused : (len : ℕ) {q : Refusal} {a : LentAnswer} {last : List ℕ} → length ss ≡ sample_room → n ≡ Err q → Leaves (λ x. refused_with q x len) s a last
-      → UpdatesLent (worlds_update_of whole delta seconds words len) c s ss whole a ss l₁ r₁ b₁ last
+  pub play_refused : (len : ℕ) {q : Refusal} {a : LentAnswer} {last : List ℕ} → length ss ≡ sample_room → n ≡ Err q
+      → Leaves (λ x. refused_with q x len) s a last → UpdatesLent (worlds_update_of whole delta seconds words len) c s ss whole a ss l₁ r₁ b₁ last
   play_refused len room e h =
       refused_lent _ c s ss whole len _ (record { samples = room; slots = hr.slots }) h
       (worlds_refused whole delta seconds words refl hs.heard refl got_is hn len e (h.replies whole))

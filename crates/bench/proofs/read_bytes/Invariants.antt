@@ -2,8 +2,8 @@
 use Rattle.std.proofs.Common.{◌-◌, ◌≤◌}
 use Rattle.bench.proofs.read_bytes.Given as goal
 
-abbrev pub invariant-loop-done : goal.invariant-loop-done
-invariant-loop-done l = l.done ≤ 1048576
+abbrev pub invariant-loop-count : goal.invariant-loop-count
+invariant-loop-count _ l = l.count ≤ 1048576
 
-abbrev pub decreases-loop-done : goal.decreases-loop-done
-decreases-loop-done l = 1048576 - l.done
+abbrev pub decreases-loop-count : goal.decreases-loop-count
+decreases-loop-count _ l = 1048576 - l.count

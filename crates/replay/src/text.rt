@@ -1,0 +1,121 @@
+// The text of single values in answers. The types that print are this program's own, since the values' types belong to the client's crates.
+use client::{Ledger, QueuedSnapshot};
+use command::CommandBuffer;
+use refusals::Verdict;
+use std::fmt;
+use std::fmt::{Display, Formatter};
+use timestamp::Timestamp;
+
+// A float, by the digits of its bits.
+#[derive(Drop)]
+pub struct Bits(pub f64);
+
+impl Display for Bits {
+    fn fmt<W: fmt::Write>(&self, f: &mut Formatter<W>) -> fmt::Result {
+        write!(f, "{:016x}", std::num::f64_to_bits_with_nan(self.0))
+    }
+}
+
+// A stamp, in signed decimal.
+#[derive(Drop)]
+pub struct Stamp(pub Timestamp);
+
+impl Display for Stamp {
+    fn fmt<W: fmt::Write>(&self, f: &mut Formatter<W>) -> fmt::Result {
+        write!(f, "{}", self.0.value())
+    }
+}
+
+// A value, or `none`.
+#[derive(Drop)]
+pub struct OrNone<T>(pub Option<T>);
+
+impl<T: Display> Display for OrNone<T> {
+    fn fmt<W: fmt::Write>(&self, f: &mut Formatter<W>) -> fmt::Result {
+        match &self.0 {
+            Some(x) => write!(f, "{x}"),
+            None => write!(f, "none"),
+        }
+    }
+}
+
+// The number of a verdict, 0 for an accepted call.
+#[derive(Drop)]
+pub struct RefusalText(pub Verdict);
+
+impl Display for RefusalText {
+    fn fmt<W: fmt::Write>(&self, f: &mut Formatter<W>) -> fmt::Result {
+        write!(f, "refusal={}", refusals::number(self.0))
+    }
+}
+
+pub fn float_or_none(x: Option<f64>) -> OrNone<Bits> {
+    OrNone(x.map(|x| Bits(x)))
+}
+
+pub fn stamp_or_none(stamp: Option<Timestamp>) -> OrNone<Stamp> {
+    OrNone(stamp.map(|t| Stamp(t)))
+}
+
+pub fn queued(snapshot: Option<QueuedSnapshot>) -> OrNone<Entry> {
+    OrNone(snapshot.map(|s| Entry {
+        stamp: s.stamp,
+        handle: s.handle,
+    }))
+}
+
+// A stamp and a handle, as an entry of a buffer and a queued snapshot are given.
+#[derive(Drop)]
+pub struct Entry {
+    stamp: Timestamp,
+    handle: u32,
+}
+
+impl Display for Entry {
+    fn fmt<W: fmt::Write>(&self, f: &mut Formatter<W>) -> fmt::Result {
+        write!(f, "{}:{:x}", Stamp(self.stamp), self.handle)
+    }
+}
+
+// A buffer: its midpoint and its entries, oldest first.
+#[derive(Drop)]
+pub struct BufferText(pub CommandBuffer);
+
+impl Display for BufferText {
+    fn fmt<W: fmt::Write>(&self, f: &mut Formatter<W>) -> fmt::Result {
+        let buffer = self.0;
+        write!(f, "{}[", Stamp(buffer.timestamp))?;
+        let held = command::held_count(buffer);
+        for (i, entry) in buffer.entries.iter().take(held).enumerate() {
+            let comma = comma_before(i);
+            let entry = Entry {
+                stamp: command::stamp_of(*entry),
+                handle: command::handle_of(*entry),
+            };
+            write!(f, "{comma}{entry}")?;
+        }
+        write!(f, "]")
+    }
+}
+
+// What stands before an element of a list: a comma, but for the first.
+pub fn comma_before(i: usize) -> &'static str {
+    if i == 0 { "" } else { "," }
+}
+
+// The ledger of one side.
+#[derive(Drop)]
+pub struct LedgerText(pub Ledger);
+
+impl Display for LedgerText {
+    fn fmt<W: fmt::Write>(&self, f: &mut Formatter<W>) -> fmt::Result {
+        let ledger = self.0;
+        let held = ledger.held;
+        let taken = ledger.taken;
+        let copied = ledger.copied;
+        let replaced = ledger.replaced;
+        let applied = ledger.applied;
+        let leftout = ledger.leftout;
+        write!(f, "{held},{taken},{copied},{replaced},{applied},{leftout}")
+    }
+}
