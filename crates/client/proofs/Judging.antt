@@ -1,6 +1,6 @@
 -- What the code of a new client and of the status comes to, over plain values. Assumes nothing.
 use Rattle.std.specs.Ordering.{is_gt}
-use Rattle.std.proofs.Common.{◌≡◌, ℕ, Bool, false, eqb, [], pos, sym, ap, ◌∙◌}
+use Rattle.std.proofs.Common.{◌≡◌, Bool, false, eqb, [], pos, sym, ap, ◌∙◌}
 use lib.Ieee.{fin, lt}
 use Rattle.timestamp.specs.declared.Timestamp.{Timestamp}
 use Rattle.std.specs.declared.cmp.Ordering.{Ordering}

@@ -1,6 +1,6 @@
 -- What the code of a frame comes to, over plain values: one rule for each return. Assumes nothing.
 use Rattle.std.specs.Ordering.{is_ge}
-use Rattle.std.proofs.Common.{◌≡◌, ℕ, ◌+◌, ◌%◌, ◌^◌, ◌<◌, ◌≤◌, Bool, true, false, ltb, List, pos, refl, ap, ◌∙◌, le-ltb, lt-ltb, eq-eqb, ne_eqb, cond, sym}
+use Rattle.std.proofs.Common.{◌≡◌, ℕ, ◌+◌, ◌%◌, ◌^◌, Bool, true, false, List, pos, refl, ap, ◌∙◌, eq-eqb, ne_eqb}
 use Rattle.std.specs.Prelude.{Option, Some, None}
 use lib.Ieee.{Float, fin, binary64, add, lt}
 use Rattle.timestamp.specs.declared.Timestamp.{Timestamp}

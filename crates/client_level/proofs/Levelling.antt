@@ -1,11 +1,10 @@
 -- A level frame: both worlds make one step that moves their stamps only. Assumes nothing.
 use Rattle.std.specs.Ordering.{is_ge}
-use Rattle.std.proofs.Common.{◌≡◌, ℕ, zero, suc, ◌+◌, ◌%◌, ◌^◌, Bool, true, false, cond, not, ◌&&◌, eqb, List, [], ◌∷◌, sym, refl, ap, ◌∙◌, arith, eq-eqb}
+use Rattle.std.proofs.Common.{◌≡◌, ℕ, zero, suc, ◌+◌, ◌%◌, ◌^◌, Bool, true, false, not, ◌&&◌, eqb, List, [], ◌∷◌, sym, refl, ap, ◌∙◌, arith, eq-eqb}
 use Rattle.std.proofs.Common.{ne_eqb, eqb-true, Option, Some, None}
 use lib.Ieee.{Float, binary64, add}
 use borrow.Author.Tests.{eqb-false, not-true}
 use Rattle.timestamp.specs.declared.Timestamp.{Timestamp}
-use Rattle.std.specs.declared.cmp.Ordering.{Ordering}
 use Rattle.std.specs.declared.cmp.Ordering.TheVariants.{Less, Equal}
 use Rattle.timestamp.specs.Timestamps.{sum_of, difference_of, signed_of, sign_of, order_of}
 use Rattle.tape.specs.Tape.{Puts}

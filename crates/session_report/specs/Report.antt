@@ -1,6 +1,6 @@
 -- Report: document 01, "Kept, and written anew", and refusals 20 and 21. Where a session stands.
 -- Definitions only. Assumes nothing.
-use Rattle.std.specs.Prelude.{ℕ, cond, eqb, None, Ok, Err}
+use Rattle.std.specs.Prelude.{None, Ok, Err}
 use Rattle.refusals.specs.Refusals.{accepted, Verdict, report_verdict_by}
 use Rattle.refusals.specs.declared.Refusal.{Refusal}
 use Rattle.client.specs.declared.ReconciliationStatus.TheVariants.{AwaitingSnapshot}

@@ -1,6 +1,6 @@
 -- A sound session: document 01, "Turned down by the session", the sentence "Sound".
 -- Definitions only. Assumes nothing.
-use Rattle.std.specs.Prelude.{Bool, true, false, cond, ◌&&◌, eqb, ltb, Float, Option, Some, None, is_none}
+use Rattle.std.specs.Prelude.{Bool, true, cond, ◌&&◌, eqb, ltb, Float, Option, Some, None, is_none}
 use Rattle.std.specs.Float.Ieee.{eq}
 use Rattle.timestamp.specs.Floats.{zero64, one64, between}
 use Rattle.refusals.specs.Limits.{handle_room}
