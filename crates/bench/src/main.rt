@@ -2,7 +2,7 @@
 // from a fresh session as often as it says, and writes a checksum of the answers.
 #![tactic(auto)]
 
-ghost use Rattle.std.specs.Prelude.{◌<◌, ◌≤◌, length, IfSome, IfOk};
+ghost use Rattle.std.specs.Prelude.{◌<◌, ◌≤◌, length, IfOk};
 ghost use Rattle.std.specs.Iterator.{at_most};
 
 use client::ReconciliationStatus;

@@ -1,5 +1,5 @@
 -- What an issue comes to, over plain values: each way that it ends, from what its parts answered. Assumes nothing.
-use mathlib.Core.Path.{◌≡◌, refl, ap, sym, subst, ◌∙◌}
+use mathlib.Core.Path.{◌≡◌, ap, sym, subst, ◌∙◌}
 use mathlib.Core.Bool.{Bool, true, false}
 use mathlib.Core.List.{List}
 use Prim.Native.Nat.{ℕ, ◌<◌}
@@ -35,7 +35,7 @@ use Rattle.session_lent.proofs.Reading.{old_stamp_in}
 use Rattle.session_play.specs.Play.{WorldsLent, unarrived_of, midpoints_of, arrived_in}
 use Rattle.session_play.proofs.Scenes.{unarrived_is, worlds_ready, closed_is}
 use Rattle.session_issue.specs.declared.IssueAnswer.{IssueAnswer}
-use Rattle.session_issue.specs.Issue.{unissued, issued_of, issue_stamp, issued_entry, received_now, issue_verdict_of, issue_by, issue_of}
+use Rattle.session_issue.specs.Issue.{unissued, issue_stamp, issued_entry, received_now, issue_verdict_of, issue_by, issue_of}
 use Rattle.session_in_place.specs.IssueLent.{state_with, issued_with}
 
 -- the numbers with what arrived, by the call that makes them

@@ -63,7 +63,7 @@ use Rattle.session_in_place.specs.declared.LentAnswer.{LentAnswer}
 use Rattle.session_answers.specs.Answers.{Reply, unplayed_of, refused_with, Updates}
 use Rattle.session_answers.specs.Inner.{accepted_by}
 use Rattle.session_in_place.specs.AnswersLent.{answer_with, Leaves, Accepts}
-use Rattle.session.specs.Calls.{times_ok, refused_at_once, clock_update_of, worlds_update_of, update_by, update_of, verdict_at_once, server_time_by}
+use Rattle.session.specs.Calls.{times_ok, clock_update_of, worlds_update_of, update_by, update_of, verdict_at_once}
 use Rattle.session.specs.Inner.{unended_with}
 use Rattle.session_in_place.specs.Lent.{ArraysLent, session_after, UpdatesLent, listening, Scanned, Settles, SyncsLent, Concludes}
 use Rattle.session.proofs.Answering.{once_is, once_few, clock_refused, clock_moved, played_by}

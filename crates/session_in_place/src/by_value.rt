@@ -1,5 +1,5 @@
 // The call update by value, over the update of `lent`.
-ghost use Rattle.std.specs.Prelude.{◌≡◌, length};
+ghost use Rattle.std.specs.Prelude.{length};
 ghost use Rattle.session_answers.specs.Answers.{Updates};
 ghost use Rattle.session.specs.Calls.{update_of};
 
