@@ -5,7 +5,7 @@ use super::text::{
 };
 use client::{
     ClientWorldSimulations, FastforwardingHealth, Ledger, Published, ReconciliationStatus,
-    Snapshots, status,
+    Snapshots,
 };
 use clocksync::Clock;
 use session_answers::UpdateAnswer;
@@ -201,7 +201,7 @@ impl Display for WorldsText {
             published: worlds.published,
             overshoot: self.overshoot,
         };
-        let status = status_name(status::infer_current_reconciliation_status(*worlds));
+        let status = status_name(worlds.infer_current_reconciliation_status());
         write!(f, "{published} status={status}")
     }
 }

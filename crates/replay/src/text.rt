@@ -83,10 +83,9 @@ pub struct BufferText(pub CommandBuffer);
 
 impl Display for BufferText {
     fn fmt<W: fmt::Write>(&self, f: &mut Formatter<W>) -> fmt::Result {
-        let buffer = self.0;
+        let buffer = &self.0;
         write!(f, "{}[", Stamp(buffer.timestamp))?;
-        let held = command::held_count(buffer);
-        for (i, entry) in buffer.entries.iter().take(held).enumerate() {
+        for (i, entry) in buffer.held().iter().enumerate() {
             let comma = comma_before(i);
             let entry = Entry {
                 stamp: command::stamp_of(*entry),

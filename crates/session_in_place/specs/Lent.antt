@@ -1,6 +1,6 @@
 -- The call update over arrays that are lent: what it asks of them and what it leaves in them. Definitions only. Assumes nothing.
 use Prim.{⊥}
-use Rattle.std.specs.Prelude.{ℕ, false, cond, List, ◌≡◌, eqb, length, Float, Option, None, Ok, Err}
+use Rattle.std.specs.Prelude.{ℕ, false, List, ◌≡◌, length, Float, Option, None, Ok, Err}
 use Rattle.refusals.specs.Limits.{sample_room}
 use Rattle.refusals.specs.Refusals.{Verdict, accepted}
 use Rattle.settings.specs.declared.Settings.{Settings}
