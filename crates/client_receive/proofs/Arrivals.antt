@@ -15,7 +15,8 @@ use Rattle.client.specs.Ledgers.{takes}
 use Rattle.client.specs.Sides.{new_side_of, old_side_of, world_of, with_world, with_ledger, ledger_of, with_left, with_right, with_base, with_worlds}
 use Rattle.client.specs.Sides.{with_ledgers}
 use Rattle.client_receive.specs.Inner.{any_full}
-use Rattle.client_receive.specs.Receive.{Received, full_by, offered_base, offered_side, received_of, from_future_of, fresh_of, noted_of, snapshots_by, snapshots_of}
+use Rattle.client_receive.specs.Receive.{Received, full_by, offered_base, offered_side, received_of}
+use Rattle.client_receive.specs.Receive.{from_future_of, fresh_of, noted_of, snapshots_by, snapshots_of}
 
 -- ---- commands
 

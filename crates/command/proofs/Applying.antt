@@ -64,6 +64,7 @@ apply_one side p xs i {w = w} h e f s u =
     puts_as all (puts_then s u)
 
 -- the words of entries of a buffer that pass a test are at most 64
-pub applied_few : (side : ℕ) (p : Entry → Bool) (xs : List Entry) {place next n : ℕ} {was last : List ℕ} → Puts was place (command_words side (filter_b p xs)) next last
+pub applied_few : (side : ℕ) (p : Entry → Bool) (xs : List Entry) {place next n : ℕ} {was last : List ℕ}
+    → Puts was place (command_words side (filter_b p xs)) next last
     → length xs ≤ n → next ≤ place + n
 applied_few side p xs u few = omega (arith, u.at, words-length side (filter_b p xs), filter_short p xs, few)

@@ -13,7 +13,8 @@ use Rattle.command.specs.Entries.{Entry}
 use Rattle.command.specs.declared.CommandBuffer.{CommandBuffer}
 use Rattle.command.specs.declared.Outcome.TheVariants.{Taken, OutOfRange, Full}
 use Rattle.command.specs.Lists.{filter_b}
-use Rattle.command.specs.Buffer.{Insertion, Moved, Drained, held, laid, in_range_of, due_of, later_than, placed_of, inserted_of, leaving, around, dropped_of, moved_of, taken_of, rest_of}
+use Rattle.command.specs.Buffer.{Insertion, Moved, Drained, held, laid, in_range_of, due_of, later_than}
+use Rattle.command.specs.Buffer.{placed_of, inserted_of, leaving, around, dropped_of, moved_of, taken_of, rest_of}
 use Rattle.command.specs.Buffer.{drained_of, emptied_of, drained_all_of, command_words, Applies, AppliesAll}
 use Rattle.command.specs.Ranks.{rank_within, sifted_of, HasRoom}
 use Rattle.command.proofs.Lists.{filter_ext, filter_all, filter-ledger, filter_short}

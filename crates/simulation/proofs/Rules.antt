@@ -14,7 +14,8 @@ use Rattle.tape.specs.Words.{step_word, snapshot_word}
 use Rattle.tape.proofs.Writing.{puts_none, puts_then, puts_as}
 use Rattle.command.specs.declared.CommandBuffer.{CommandBuffer}
 use Rattle.command.specs.Entries.{Entry}
-use Rattle.command.specs.Buffer.{Applied, Moved, Insertion, held, laid, inserted_of, moved_of, taken_of, rest_of, emptied_of, command_words, Applies, AppliesAll}
+use Rattle.command.specs.Buffer.{Applied, Moved, Insertion, held, laid, inserted_of}
+use Rattle.command.specs.Buffer.{moved_of, taken_of, rest_of, emptied_of, command_words, Applies, AppliesAll}
 use Rattle.command.proofs.Applying.{words-length}
 use Rattle.simulation.specs.declared.Simulation.{Simulation}
 use Rattle.simulation.specs.World.{Scheduled, world_with, next_stamp, new_world, scheduled_of, step_of, resets_back, reset_of, Does, load_of, Loads}

@@ -4,4 +4,5 @@ use Rattle.client_publish.proofs.ending.post_update.Goals as goal
 
 pub returns : goal.returns
 returns c =
-    post_is c.args.worlds.now c.args.t c.args.lag c.last_completed_timestamp-old.ensures c.displayed-worlds.ensures c.update_timestamp.ensures c.revised-worlds.ensures
+    post_is c.args.worlds.now c.args.t c.args.lag c.last_completed_timestamp-old.ensures c.displayed-worlds.ensures
+    c.update_timestamp.ensures c.revised-worlds.ensures
