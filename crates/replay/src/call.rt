@@ -51,7 +51,7 @@ pub enum Call {
 }
 
 // Reads the next line.
-pub fn read_line<R: Read + Drop>(input: &mut Input<R>) -> Result<Line, Stop> {
+pub(crate) fn read_line<R: Read + Drop>(input: &mut Input<R>) -> Result<Line, Stop> {
     let name = input.name()?;
     match name.as_slice() {
         [b'#', ..] => {

@@ -70,7 +70,7 @@ fn with_digit(number: u64, byte: u8, radix: u8) -> Option<u64>
 }
 
 impl<R: Read + Drop> Input<R> {
-    pub fn new(alloc: Global, reader: BufReader<R>) -> Input<R> {
+    pub(crate) fn new(alloc: Global, reader: BufReader<R>) -> Input<R> {
         Input {
             alloc,
             reader,
@@ -108,12 +108,12 @@ impl<R: Read + Drop> Input<R> {
     }
 
     // Whether the line has another field.
-    pub fn has_more(&self) -> bool {
+    pub(crate) fn has_more(&self) -> bool {
         self.end == End::Space
     }
 
     // The line ends here.
-    pub fn end_line(&self) -> Result<(), Stop> {
+    pub(crate) fn end_line(&self) -> Result<(), Stop> {
         if self.has_more() {
             return Err(Stop::BadCall);
         }
@@ -121,12 +121,12 @@ impl<R: Read + Drop> Input<R> {
     }
 
     // What ended the field that was read last.
-    pub fn end(&self) -> End {
+    pub(crate) fn end(&self) -> End {
         self.end
     }
 
     // Passes over what is left of a line.
-    pub fn skip_line(&mut self) -> Result<(), Stop> {
+    pub(crate) fn skip_line(&mut self) -> Result<(), Stop> {
         if self.has_more() {
             self.reader.skip_until(b'\n').map_err(Stop::Read)?;
         }
@@ -134,7 +134,7 @@ impl<R: Read + Drop> Input<R> {
     }
 
     // The first bytes of a line's first field.
-    pub fn name(&mut self) -> Result<Vec<u8>, Stop> {
+    pub(crate) fn name(&mut self) -> Result<Vec<u8>, Stop> {
         let mut name = Vec::with_capacity(self.alloc, NAME_ROOM)?;
         for byte in self.rest() {
             let byte = byte?;
@@ -169,18 +169,18 @@ impl<R: Read + Drop> Input<R> {
     }
 
     // A number in decimal, without a sign.
-    pub fn decimal(&mut self) -> Result<u64, Stop> {
+    pub(crate) fn decimal(&mut self) -> Result<u64, Stop> {
         let first = self.first_byte()?;
         self.decimal_from(first)
     }
 
     // A number in decimal, cut to 32 bits: what is more stays more than any limit of a call.
-    pub fn decimal_u32(&mut self) -> Result<u32, Stop> {
+    pub(crate) fn decimal_u32(&mut self) -> Result<u32, Stop> {
         Ok(u32::try_from(self.decimal()?).unwrap_or(u32::MAX))
     }
 
     // A stamp in signed decimal.
-    pub fn stamp(&mut self) -> Result<i16, Stop> {
+    pub(crate) fn stamp(&mut self) -> Result<i16, Stop> {
         let first = self.first_byte()?;
         let is_negative = first == b'-';
         let first = if is_negative { self.byte()? } else { first };
@@ -202,17 +202,17 @@ impl<R: Read + Drop> Input<R> {
     }
 
     // A float by its bits.
-    pub fn float(&mut self) -> Result<f64, Stop> {
+    pub(crate) fn float(&mut self) -> Result<f64, Stop> {
         Ok(std::num::f64_from_bits_with_nan(self.hex(16)?))
     }
 
     // A word of an inbox.
-    pub fn word(&mut self) -> Result<u32, Stop> {
+    pub(crate) fn word(&mut self) -> Result<u32, Stop> {
         u32::try_from(self.hex(8)?).map_err(|_| Stop::BadCall)
     }
 
     // Words up to the end of the line, of which the first `room` are kept.
-    pub fn words(&mut self, room: usize) -> Result<Vec<u32>, Stop> {
+    pub(crate) fn words(&mut self, room: usize) -> Result<Vec<u32>, Stop> {
         let mut words = Vec::new(self.alloc);
         // the bound is for the proof that the loop ends: no line has so many words
         for _ in 0..u64::MAX {
@@ -242,7 +242,7 @@ impl<R: Read + Drop> Input<R> {
     }
 
     // Bytes of two hexadecimal digits each, or `-` for none, of which the first `room` are kept.
-    pub fn bytes(&mut self, room: usize) -> Result<Vec<u8>, Stop> {
+    pub(crate) fn bytes(&mut self, room: usize) -> Result<Vec<u8>, Stop> {
         let mut bytes = Vec::new(self.alloc);
         let first = self.first_byte()?;
         if first == b'-' {

@@ -48,7 +48,7 @@ fn first<T>(all: &mut [T], count: u64) -> &mut [T]
 }
 
 impl Player {
-    pub fn new(alloc: Global) -> Result<Player, AllocError> {
+    pub(crate) fn new(alloc: Global) -> Result<Player, AllocError> {
         Ok(Player {
             session: no_session(),
             tape: vec![in alloc; 0; TAPE_ROOM]?,
@@ -56,7 +56,7 @@ impl Player {
     }
 
     // Plays a call and writes its answer.
-    pub fn play<W: Write>(&mut self, call: Call, out: &mut W) -> io::Result<()> {
+    pub(crate) fn play<W: Write>(&mut self, call: Call, out: &mut W) -> io::Result<()> {
         match call {
             Call::Open(settings) => self.open(settings, out),
             Call::Update {

@@ -49,15 +49,15 @@ impl Display for RefusalText {
     }
 }
 
-pub fn float_or_none(x: Option<f64>) -> OrNone<Bits> {
+pub(crate) fn float_or_none(x: Option<f64>) -> OrNone<Bits> {
     OrNone(x.map(|x| Bits(x)))
 }
 
-pub fn stamp_or_none(stamp: Option<Timestamp>) -> OrNone<Stamp> {
+pub(crate) fn stamp_or_none(stamp: Option<Timestamp>) -> OrNone<Stamp> {
     OrNone(stamp.map(|t| Stamp(t)))
 }
 
-pub fn queued(snapshot: Option<QueuedSnapshot>) -> OrNone<Entry> {
+pub(crate) fn queued(snapshot: Option<QueuedSnapshot>) -> OrNone<Entry> {
     OrNone(snapshot.map(|s| Entry {
         stamp: s.stamp,
         handle: s.handle,
@@ -98,7 +98,7 @@ impl Display for BufferText {
 }
 
 // What stands before an element of a list: a comma, but for the first.
-pub fn comma_before(i: usize) -> &'static str {
+pub(crate) fn comma_before(i: usize) -> &'static str {
     if i == 0 { "" } else { "," }
 }
 
