@@ -7,7 +7,8 @@ use native.Mathlib.Omega.{arith}
 use lib.ListN.{length, length-append}
 use borrow.Author.Tests.{lt-ltb, le-ltb}
 use Rattle.timestamp.specs.declared.Timestamp.{Timestamp}
-use Rattle.tape.specs.Tape.{Puts}
+use Rattle.tape.specs.declared.Tape.{Tape}
+use Rattle.tape.specs.Tape.{PutsOn}
 use Rattle.tape.proofs.Writing.{puts_as}
 use Rattle.command.specs.Entries.{Entry}
 use Rattle.command.specs.declared.CommandBuffer.{CommandBuffer}
@@ -85,11 +86,11 @@ unfolding taken_of
 taken_is b s lo hi el eh = filter_ext (rank_within s lo hi) (due_of s) (span_due s lo hi el eh) (held b)
 
 -- a drain to the tape
-pub applies_is : (b : CommandBuffer) (s : Timestamp) {side place next count : ℕ} {was last : List ℕ} {lo hi : ℕ} {left : CommandBuffer} → lo ≡ 0 → hi ≡ 32769
-    → Puts was place (command_words side (filter_b (rank_within s lo hi) (held b))) next last
-    → ◌≡◌ {A = Drained} (record { buffer = left; count = count }) (drained_of b s) → Applies b s side place was (record { buffer = left; at = next }) last
-applies_is b s {side} {place} {next} {count} {was} {last} {lo} {hi} el eh p e =
-    let u : Puts was place (command_words side (taken_of b s)) next last = puts_as (ap (command_words side) (taken_is b s lo hi el eh)) p in
+pub applies_is : (b : CommandBuffer) (s : Timestamp) {side count : ℕ} {was now : Tape} {lo hi : ℕ} {left : CommandBuffer} → lo ≡ 0 → hi ≡ 32769
+    → PutsOn was (command_words side (filter_b (rank_within s lo hi) (held b))) now
+    → ◌≡◌ {A = Drained} (record { buffer = left; count = count }) (drained_of b s) → Applies b s side was left now
+applies_is b s {side} {count} {was} {now} {lo} {hi} el eh p e =
+    let u : PutsOn was (command_words side (taken_of b s)) now = puts_as (ap (command_words side) (taken_is b s lo hi el eh)) p in
     record {
       buffer = ap (λ (d : Drained). d.buffer) e;
       at = omega (arith, u.at, words-length side (taken_of b s));
@@ -111,11 +112,11 @@ emptied_some b {n} e z {q} f =
     ap (λ (k : ℕ). record { buffer = q; count = k }) e
     ∙ ap (λ (r : CommandBuffer). record { buffer = r; count = length (held b) }) (f ∙ leaving_some (held b) [] b (λ h. z (e ∙ h)))
 
-pub applies_all_is : (b : CommandBuffer) (t : Timestamp) {side place next count : ℕ} {was last : List ℕ} {lo hi : ℕ} {left : CommandBuffer} → lo ≡ 0
-    → hi ≡ 65536 → Puts was place (command_words side (filter_b (rank_within t lo hi) (held b))) next last
-    → ◌≡◌ {A = Drained} (record { buffer = left; count = count }) (drained_all_of b) → AppliesAll b side place was (record { buffer = left; at = next }) last
-applies_all_is b t {side} {place} {next} {count} {was} {last} {lo} {hi} el eh p e =
-    let u : Puts was place (command_words side (held b)) next last =
+pub applies_all_is : (b : CommandBuffer) (t : Timestamp) {side count : ℕ} {was now : Tape} {lo hi : ℕ} {left : CommandBuffer} → lo ≡ 0
+    → hi ≡ 65536 → PutsOn was (command_words side (filter_b (rank_within t lo hi) (held b))) now
+    → ◌≡◌ {A = Drained} (record { buffer = left; count = count }) (drained_all_of b) → AppliesAll b side was left now
+applies_all_is b t {side} {count} {was} {now} {lo} {hi} el eh p e =
+    let u : PutsOn was (command_words side (held b)) now =
     puts_as (ap (command_words side) (filter_all (rank_within t lo hi) (span_all t lo hi el eh) (held b))) p in
     record {
       buffer = ap (λ (d : Drained). d.buffer) e;

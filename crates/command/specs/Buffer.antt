@@ -7,6 +7,7 @@ use Rattle.timestamp.specs.Timestamps.{difference_of, signed_of, in_range}
 use Rattle.refusals.specs.Limits.{buffer_room}
 use Rattle.tape.specs.Words.{command_word}
 use Rattle.tape.specs.Tape.{written}
+use Rattle.tape.specs.declared.Tape.{Tape}
 use Rattle.command.specs.Lists.{filter_b, pad}
 use Rattle.command.specs.Entries.{Entry, stamp_in, handle_in}
 use Rattle.command.specs.declared.CommandBuffer.{CommandBuffer}
@@ -29,11 +30,6 @@ pub record Moved : Type 0 where
 pub record Drained : Type 0 where
   pub buffer : CommandBuffer
   pub count : ℕ
-
--- a drain to the tape: the buffer after it, and the next place on the tape
-pub record Applied : Type 0 where
-  pub buffer : CommandBuffer
-  pub at : ℕ
 
 -- ---- the entries
 
@@ -131,13 +127,13 @@ unfoldable pub command_words : ℕ → List Entry → List ℕ
 command_words side xs = map (λ e. command_word side (handle_in e)) xs
 
 -- a drain up to s to the tape `was`: what is left, the next place, and the command words of what is taken
-pub record Applies (b : CommandBuffer) (s : Timestamp) (side place : ℕ) (was : List ℕ) (r : Applied) (last : List ℕ) : Type 0 where
-  pub buffer : r.buffer ≡ rest_of b s
-  pub at : r.at ≡ place + length (taken_of b s)
-  pub tape : last ≡ written was place (command_words side (taken_of b s))
+pub record Applies (b : CommandBuffer) (s : Timestamp) (side : ℕ) (was : Tape) (left : CommandBuffer) (now : Tape) : Type 0 where
+  pub buffer : left ≡ rest_of b s
+  pub at : now.at ≡ was.at + length (taken_of b s)
+  pub tape : now.words.now ≡ written was.words.now was.at (command_words side (taken_of b s))
 
 -- the same for a drain of everything
-pub record AppliesAll (b : CommandBuffer) (side place : ℕ) (was : List ℕ) (r : Applied) (last : List ℕ) : Type 0 where
-  pub buffer : r.buffer ≡ emptied_of b
-  pub at : r.at ≡ place + length (held b)
-  pub tape : last ≡ written was place (command_words side (held b))
+pub record AppliesAll (b : CommandBuffer) (side : ℕ) (was : Tape) (left : CommandBuffer) (now : Tape) : Type 0 where
+  pub buffer : left ≡ emptied_of b
+  pub at : now.at ≡ was.at + length (held b)
+  pub tape : now.words.now ≡ written was.words.now was.at (command_words side (held b))

@@ -3,4 +3,3 @@ pub mod Entries
 pub mod Buffer
 pub mod Soundness
 pub mod Ranks
-pub mod Slots

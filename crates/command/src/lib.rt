@@ -6,7 +6,8 @@
 
 ghost use Rattle.std.specs.Prelude.{◌≡◌, [], ◌∷◌, ◌++◌, not, ◌+◌, ◌≤◌, ◌<◌, length};
 ghost use Rattle.refusals.specs.Limits.{buffer_room};
-ghost use Rattle.tape.specs.Tape.{Puts};
+ghost use Rattle.tape.specs.Sides.{side_number};
+ghost use Rattle.tape.specs.Tape.{PutsOn};
 ghost use Rattle.command.specs.Lists.{filter_b};
 ghost use Rattle.command.specs.Entries.{entry_of, stamp_in, handle_in, plain_entry};
 ghost use Rattle.command.specs.Buffer.{held, laid, in_range_of, placed_of, inserted_of};
@@ -14,7 +15,7 @@ ghost use Rattle.command.specs.Buffer.{moved_of, drained_of, drained_all_of, com
 ghost use Rattle.command.specs.Soundness.{sound_buffer};
 ghost use Rattle.command.specs.Ranks.{rank_of, rank_within, sifted_of, waits_of, sound_rank, HasRoom};
 
-use tape::{command_word, put};
+use tape::{Side, Tape, command_word};
 use timestamp::Timestamp;
 
 // The rank of a stamp m around itself: `rank_of` says what ranks are.
@@ -44,6 +45,24 @@ pub struct CommandBuffer {
     pub entries: [u64; 64],
     pub len: usize,
     pub timestamp: Timestamp,
+}
+
+// The entries whose rank around a stamp is `from` or more and below `end`.
+#[derive(Clone, Copy)]
+pub struct Span {
+    pub around: Timestamp,
+    pub from: u32,
+    pub end: u32,
+}
+
+impl Span {
+    // Whether an entry is among them.
+    pub fn holds(self, entry: u64) -> bool
+        ensures { result ≡ rank_within self.around self.from self.end entry }
+    {
+        let k = rank_in(entry, self.around);
+        self.from <= k && k < self.end
+    }
 }
 
 // What became of an entry handed to `insert`.
@@ -115,14 +134,24 @@ impl CommandBuffer {
         ensures { record { buffer = self.new; dropped = result } ≡ moved_of self.old t }
     {
         self.timestamp = t;
-        self.sift(t, RANGE_FROM, RANGE_END)
+        let in_range = Span {
+            around: t,
+            from: RANGE_FROM,
+            end: RANGE_END,
+        };
+        self.sift(in_range)
     }
 
     // Whether a step to a stamp leaves the buffer as it is: nothing is due, and nothing leaves the range. One that holds nothing is not read.
     pub fn waits(&self, t: Timestamp) -> bool
         ensures { result ≡ waits_of self.now t }
     {
-        self.len == 0 || self.count_outside(t, FIRST_AFTER, RANGE_END) == 0
+        let waiting = Span {
+            around: t,
+            from: FIRST_AFTER,
+            end: RANGE_END,
+        };
+        self.len == 0 || self.count_outside(waiting) == 0
     }
 
     // Takes an entry that is in range, if there is room, after all entries that are not later than it.
@@ -143,19 +172,27 @@ impl CommandBuffer {
     pub fn drain_up_to(&mut self, s: Timestamp) -> usize
         ensures { record { buffer = self.new; count = result } ≡ drained_of self.old s }
     {
-        self.sift(s, FIRST_AFTER, RANKS)
+        let later = Span {
+            around: s,
+            from: FIRST_AFTER,
+            end: RANKS,
+        };
+        self.sift(later)
     }
 
-    // Takes the same entries, and puts the command word of each on the tape, for the left (0) or the right (1) world, oldest first. Gives the
-    // next place on the tape.
-    pub fn apply_up_to(&mut self, s: Timestamp, side: u32, tape: &mut [u32], at: usize) -> usize
-        requires { at < 4000000000 }
-        ensures applied { Applies self.old s side at tape.old (record { buffer = self.new; at = result }) tape.new }
-        ensures few { result ≤ at + buffer_room }
+    // Takes the same entries, and puts the command word of each on the tape, for a world, oldest first.
+    pub fn apply_up_to(&mut self, s: Timestamp, side: Side, tape: &mut Tape<'_>)
+        requires { tape.old.at < 4000000000 }
+        ensures applied { Applies self.old s (side_number side) tape.old self.new tape.new }
+        ensures few { tape.new.at ≤ tape.old.at + buffer_room }
     {
-        let next = apply_between(self.held(), s, 0, FIRST_AFTER, side, tape, at);
+        let due = Span {
+            around: s,
+            from: 0,
+            end: FIRST_AFTER,
+        };
+        apply_between(self.held(), due, side, tape);
         self.drain_up_to(s);
-        next
     }
 
     // Takes every entry. Gives how many it takes.
@@ -169,15 +206,19 @@ impl CommandBuffer {
         count
     }
 
-    // Takes every entry, and puts the command word of each on the tape, oldest first. Gives the next place on the tape.
-    pub fn apply_all(&mut self, side: u32, tape: &mut [u32], at: usize) -> usize
-        requires { at < 4000000000 }
-        ensures applied { AppliesAll self.old side at tape.old (record { buffer = self.new; at = result }) tape.new }
-        ensures few { result ≤ at + buffer_room }
+    // Takes every entry, and puts the command word of each on the tape, oldest first.
+    pub fn apply_all(&mut self, side: Side, tape: &mut Tape<'_>)
+        requires { tape.old.at < 4000000000 }
+        ensures applied { AppliesAll self.old (side_number side) tape.old self.new tape.new }
+        ensures few { tape.new.at ≤ tape.old.at + buffer_room }
     {
-        let next = apply_between(self.held(), self.timestamp, 0, RANKS, side, tape, at);
+        let all = Span {
+            around: self.timestamp,
+            from: 0,
+            end: RANKS,
+        };
+        apply_between(self.held(), all, side, tape);
         self.drain_all();
-        next
     }
 
     // Whether it is sound: at most 64 entries, in order and in range, every handle within 24 bits, and no spare bit set.
@@ -204,12 +245,26 @@ impl CommandBuffer {
         ensures { self.new ≡ laid (placed_of self.old.timestamp entry (held self.old)) self.old.timestamp }
     {
         let was = *self;
-        let m = self.timestamp;
-        let next = rank_in(entry, m) + 1;
-        *self = CommandBuffer::new(m);
-        self.extend(&was, m, 0, next);
+        let around = self.timestamp;
+        let next = rank_in(entry, around) + 1;
+        *self = CommandBuffer::new(around);
+        self.extend(
+            &was,
+            Span {
+                around,
+                from: 0,
+                end: next,
+            },
+        );
         self.push(entry);
-        self.extend(&was, m, next, RANKS);
+        self.extend(
+            &was,
+            Span {
+                around,
+                from: next,
+                end: RANKS,
+            },
+        );
     }
 
     // Takes one entry more, at the end.
@@ -221,41 +276,40 @@ impl CommandBuffer {
         self.len += 1;
     }
 
-    // Takes the entries of another buffer whose rank around m is lo or more and below hi, at the end.
-    fn extend(&mut self, other: &CommandBuffer, m: Timestamp, lo: u32, hi: u32)
-        requires { HasRoom self.old other.now m lo hi }
-        ensures { self.new ≡ laid (held self.old ++ filter_b (rank_within m lo hi) (held other.now)) self.old.timestamp }
+    // Takes the entries of another buffer that are in a span, at the end.
+    fn extend(&mut self, other: &CommandBuffer, span: Span)
+        requires { HasRoom self.old other.now span.around span.from span.end }
+        ensures { self.new ≡ laid (held self.old ++ filter_b (rank_within span.around span.from span.end) (held other.now)) self.old.timestamp }
     {
         for e in other.held() {
-            if ranks_between(*e, m, lo, hi) {
+            if span.holds(*e) {
                 self.push(*e);
             }
         }
     }
 
-    // How many entries have a rank around m below lo, or hi or more. A loop: `filter` and `count` were tried and are slower, 874 instructions with
-    // 64 entries for 743.
-    fn count_outside(&self, m: Timestamp, lo: u32, hi: u32) -> usize
-        ensures { result ≡ length (filter_b (λ e. not (rank_within m lo hi e)) (held self.now)) }
+    // How many entries are not in a span. A loop: `filter` and `count` were tried and are slower, 874 instructions with 64 entries for 743.
+    fn count_outside(&self, span: Span) -> usize
+        ensures { result ≡ length (filter_b (λ e. not (rank_within span.around span.from span.end e)) (held self.now)) }
     {
         let mut count: usize = 0;
         for e in self.held() {
-            if !ranks_between(*e, m, lo, hi) {
+            if !span.holds(*e) {
                 count += 1;
             }
         }
         count
     }
 
-    // Keeps exactly the entries whose rank around m is lo or more and below hi. Gives how many go.
-    fn sift(&mut self, m: Timestamp, lo: u32, hi: u32) -> usize
-        ensures { record { buffer = self.new; count = result } ≡ sifted_of self.old m lo hi }
+    // Keeps exactly the entries in a span. Gives how many go.
+    fn sift(&mut self, span: Span) -> usize
+        ensures { record { buffer = self.new; count = result } ≡ sifted_of self.old span.around span.from span.end }
     {
-        let count = self.count_outside(m, lo, hi);
+        let count = self.count_outside(span);
         if count > 0 {
             let was = *self;
             *self = CommandBuffer::new(self.timestamp);
-            self.extend(&was, m, lo, hi);
+            self.extend(&was, span);
         }
         count
     }
@@ -290,32 +344,14 @@ pub fn rank_in(entry: u64, m: Timestamp) -> u32
     rank_of(stamp_of(entry), m)
 }
 
-// Whether the rank of an entry around m is lo or more, and below hi.
-pub fn ranks_between(entry: u64, m: Timestamp, lo: u32, hi: u32) -> bool
-    ensures { result ≡ rank_within m lo hi entry }
+// Puts the command words of the entries in a span, in their order.
+pub fn apply_between(entries: &[u64], span: Span, side: Side, tape: &mut Tape<'_>)
+    requires { (length entries.now ≤ buffer_room) × (tape.old.at < 4000000000) }
+    ensures { PutsOn tape.old (command_words (side_number side) (filter_b (rank_within span.around span.from span.end) entries.now)) tape.new }
 {
-    let k = rank_in(entry, m);
-    lo <= k && k < hi
-}
-
-// Puts the command words of the entries whose rank around m is lo or more and below hi, in their order.
-pub fn apply_between(
-    entries: &[u64],
-    m: Timestamp,
-    lo: u32,
-    hi: u32,
-    side: u32,
-    tape: &mut [u32],
-    at: usize,
-) -> usize
-    requires { (length entries.now ≤ buffer_room) × (at < 4000000000) }
-    ensures { Puts tape.old at (command_words side (filter_b (rank_within m lo hi) entries.now)) result tape.new }
-{
-    let mut next = at;
     for e in entries {
-        if ranks_between(*e, m, lo, hi) {
-            next = put(tape, next, command_word(side, handle_of(*e)));
+        if span.holds(*e) {
+            tape.put(command_word(side, handle_of(*e)));
         }
     }
-    next
 }

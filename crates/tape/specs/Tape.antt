@@ -2,6 +2,7 @@
 -- Definitions only. Assumes nothing.
 use Rattle.std.specs.Prelude.{ℕ, ◌+◌, ◌-◌, ◌≡◌, List, length, replicate}
 use Rattle.std.proofs.lemmas.List.Edits.{sets}
+use Rattle.tape.specs.declared.Tape.{Tape}
 
 -- the tape after words are put on it from a place on; a word past its end leaves no trace
 unfoldable pub written : List ℕ → ℕ → List ℕ → List ℕ
@@ -19,3 +20,7 @@ cleared tape from = written tape from (replicate (words_from tape from) 0)
 pub record Puts (was : List ℕ) (place : ℕ) (words : List ℕ) (next : ℕ) (last : List ℕ) : Type 0 where
   pub at : next ≡ place + length words
   pub tape : last ≡ written was place words
+
+-- words put on a tape that is lent, at its next place
+abbrev pub PutsOn : Tape → List ℕ → Tape → Type 0
+PutsOn was words now = Puts was.words.now was.at words now.at now.words.now

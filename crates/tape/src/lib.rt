@@ -5,11 +5,77 @@
 ghost use Rattle.std.specs.Prelude.{◌≡◌, [], ◌∷◌, ◌<◌};
 ghost use Rattle.std.specs.Float.{binary64};
 ghost use Rattle.std.specs.Float.Ieee.{to_bits};
-ghost use Rattle.tape.specs.Words.{step_word, command_word, snapshot_word, publish_word, mix_word, none_word, weight_word, weight_words, mix_words};
-ghost use Rattle.tape.specs.Tape.{Puts, cleared};
+ghost use Rattle.tape.specs.Sides.{side_number, side_named, other_of};
+ghost use Rattle.tape.specs.Words.{side_bit, step_word, command_word, snapshot_word, publish_word, mix_word, none_word, weight_word, weight_words, mix_words};
+ghost use Rattle.tape.specs.Tape.{Puts, PutsOn, cleared};
 
-// Puts one word at a place, where there is room; the next place is counted in any case.
-pub fn put(tape: &mut [u32], at: usize, word: u32) -> usize
+// One of the two worlds.
+#[derive(Clone, Copy, PartialEq, Eq)]
+pub enum Side {
+    Left,
+    Right,
+}
+
+impl Side {
+    // The other side.
+    pub fn other(self) -> Side
+        ensures { result ≡ other_of self }
+    {
+        match self {
+            Side::Left => Side::Right,
+            Side::Right => Side::Left,
+        }
+    }
+}
+
+// The side of a number: 0 is left, any other number right.
+impl From<u32> for Side {
+    fn from(n: u32) -> Side
+        ensures { result ≡ side_named n }
+    {
+        if n == 0 { Side::Left } else { Side::Right }
+    }
+}
+
+// A tape that is lent, and the place of its next word.
+#[derive(Drop)]
+pub struct Tape<'a> {
+    pub words: &'a mut [u32],
+    pub at: usize,
+}
+
+impl Tape<'_> {
+    // Puts one word, where there is room; the next place is counted in any case.
+    pub fn put(&mut self, word: u32)
+        requires { self.old.at < 4294967296 }
+        ensures { PutsOn self.old (word ∷ []) self.new }
+    {
+        self.at = put(self.words, self.at, word);
+    }
+
+    // Puts the four words of a mix: its own, and the three of its weight.
+    pub fn put_mix(&mut self, weight: f64)
+        requires { self.old.at < 4000000000 }
+        ensures { PutsOn self.old (mix_words weight) self.new }
+    {
+        let bits = bits_of(weight);
+        self.put(mix_word());
+        self.put_weight(bits);
+    }
+
+    // Puts the three words of a weight's bits, the high one first.
+    fn put_weight(&mut self, bits: u64)
+        requires { self.old.at < 4000000001 }
+        ensures { PutsOn self.old (weight_words bits) self.new }
+    {
+        self.put(weight_word(bits / HIGHEST_PART));
+        self.put(weight_word(bits / WEIGHT_PART));
+        self.put(weight_word(bits));
+    }
+}
+
+// Puts one word at a place, where there is room. Gives the next place.
+fn put(tape: &mut [u32], at: usize, word: u32) -> usize
     requires { at < 4294967296 }
     ensures { Puts tape.old at (word ∷ []) result tape.new }
 {
@@ -28,73 +94,82 @@ pub fn clear(tape: &mut [u32], from: usize)
     }
 }
 
-// The word for a step of the left (0) or the right (1) world.
-pub fn step_word(side: u32) -> u32
-    ensures { result ≡ step_word side }
+// A word's kind stands in its top 4 bits.
+const STEP: u32 = 1 << 28;
+const COMMAND: u32 = 2 << 28;
+const SNAPSHOT: u32 = 3 << 28;
+const PUBLISH: u32 = 4 << 28;
+const MIX: u32 = 5 << 28;
+const WEIGHT: u32 = 6 << 28;
+const NONE: u32 = 7 << 28;
+
+// The bit of the right world.
+const RIGHT: u32 = 1 << 27;
+
+// A word of a weight holds 28 bits of it: these are its parts from bit 28 and from bit 56 on.
+const WEIGHT_PART: u64 = 1 << 28;
+const HIGHEST_PART: u64 = 1 << 56;
+
+// The bits of the quiet NaN.
+const QUIET_NAN: u64 = 0x7ff8 << 48;
+
+// The bit of a side.
+fn side_bit(side: Side) -> u32
+    ensures { result ≡ side_bit (side_number side) }
 {
-    268435456 + (side % 2) * 134217728
+    match side {
+        Side::Left => 0,
+        Side::Right => RIGHT,
+    }
+}
+
+// The word for a step of a world.
+pub fn step_word(side: Side) -> u32
+    ensures { result ≡ step_word (side_number side) }
+{
+    STEP + side_bit(side)
 }
 
 // The word for a command applied to a world.
-pub fn command_word(side: u32, handle: u32) -> u32
-    ensures { result ≡ command_word side handle }
+pub fn command_word(side: Side, handle: u32) -> u32
+    ensures { result ≡ command_word (side_number side) handle }
 {
-    536870912 + (side % 2) * 134217728 + handle % refusals::HANDLE_ROOM
+    COMMAND + side_bit(side) + handle % refusals::HANDLE_ROOM
 }
 
 // The word for a snapshot loaded into a world.
-pub fn snapshot_word(side: u32, handle: u32) -> u32
-    ensures { result ≡ snapshot_word side handle }
+pub fn snapshot_word(side: Side, handle: u32) -> u32
+    ensures { result ≡ snapshot_word (side_number side) handle }
 {
-    805306368 + (side % 2) * 134217728 + handle % refusals::HANDLE_ROOM
+    SNAPSHOT + side_bit(side) + handle % refusals::HANDLE_ROOM
 }
 
 // The word for the publishing of a world as it is.
-pub fn publish_word(side: u32) -> u32
-    ensures { result ≡ publish_word side }
+pub fn publish_word(side: Side) -> u32
+    ensures { result ≡ publish_word (side_number side) }
 {
-    1073741824 + (side % 2) * 134217728
+    PUBLISH + side_bit(side)
 }
 
 // The word for the publishing of a mix of the two worlds.
 pub(crate) fn mix_word() -> u32
     ensures { result ≡ mix_word }
 {
-    1342177280
+    MIX
 }
 
 // The word for the publishing of nothing.
 pub fn none_word() -> u32
     ensures { result ≡ none_word }
 {
-    1879048192
-}
-
-// Puts the four words of a mix: its own, and the three of its weight.
-pub fn put_mix(tape: &mut [u32], at: usize, weight: f64) -> usize
-    requires { at < 4000000000 }
-    ensures { Puts tape.old at (mix_words weight) result tape.new }
-{
-    let bits = bits_of(weight);
-    let next = put(tape, at, mix_word());
-    put_weight(tape, next, bits)
-}
-
-// Puts the three words of a weight's bits, the high one first.
-fn put_weight(tape: &mut [u32], at: usize, bits: u64) -> usize
-    requires { at < 4000000001 }
-    ensures { Puts tape.old at (weight_words bits) result tape.new }
-{
-    let second = put(tape, at, weight_word(bits / 72057594037927936));
-    let third = put(tape, second, weight_word(bits / 268435456));
-    put(tape, third, weight_word(bits))
+    NONE
 }
 
 // The word that holds the low 28 bits of a number as a part of a weight.
 fn weight_word(part: u64) -> u32
     ensures { result ≡ weight_word part }
 {
-    1610612736 + (part % 268435456) as u32
+    WEIGHT + (part % WEIGHT_PART) as u32
 }
 
 // The bits of a float; those of the quiet NaN where it is no number.
@@ -102,7 +177,7 @@ pub fn bits_of(x: f64) -> u64
     ensures { result ≡ to_bits binary64 x }
 {
     if x != x {
-        return 9221120237041090560;
+        return QUIET_NAN;
     }
     f64::to_bits(x)
 }

@@ -4,29 +4,30 @@ use mathlib.Core.Path.{sym, ap, ◌∙◌}
 use Rattle.std.proofs.lemmas.List.{take_all}
 use Rattle.tape.specs.Words.{command_word}
 use Rattle.tape.proofs.Writing.{puts_none}
+use Rattle.tape.specs.Sides.{side_number}
 use Rattle.command.specs.Buffer.{blank, command_words}
 use Rattle.command.specs.Ranks.{rank_within}
 use Rattle.command.proofs.Lists.{filter-left}
 use Rattle.command.proofs.Applying.{apply_few, apply_one}
 use Rattle.command.proofs.apply_between.Goals as goal
-use Rattle.command.proofs.apply_between.Goals.{then-ranks_between, else-ranks_between}
+use Rattle.command.proofs.apply_between.Goals.{then-holds, else-holds}
 
 pub loop-e-init : goal.loop-e-init
 unfolding command_words
 loop-e-init c = puts_none _ _
 
-pub put-next-requires : goal.put-next-requires
-put-next-requires c =
+pub put-requires : goal.put-requires
+put-requires c =
     let a = c.args in
-    omega (arith, c.requires.0, c.requires.1, apply_few a.side (rank_within a.m a.lo a.hi) a.entries.now c.loop-e.e-index c.loop-e.invariant)
+    omega (arith, c.requires.0, c.requires.1, apply_few (side_number a.side) (rank_within a.span.around a.span.from a.span.end) a.entries.now c.loop-e.e-index c.loop-e.invariant)
 
 pub loop-e-preserved : goal.loop-e-preserved
 loop-e-preserved c =
-    elim c.if-ranks_between.branch [
-      | then-ranks_between w ↦ rw (w.tape-is, w.next-is)
-          (apply_one _ _ _ _ c.loop-e-test.true (sym c.ranks_between.ensures ∙ w.if-ranks_between.true)
-          (w.command_word.ensures ∙ ap (command_word _) w.handle_of.ensures) c.loop-e.invariant w.put-next.ensures)
-      | else-ranks_between w ↦ rw (w.tape-is, w.next-is, filter-left _ _ _ blank c.loop-e-test.true (sym c.ranks_between.ensures ∙ w.if-ranks_between.false))
+    elim c.if-holds.branch [
+      | then-holds w ↦ rw w.tape-is
+          (apply_one _ _ _ _ c.loop-e-test.true (sym c.holds.ensures ∙ w.if-holds.true)
+          (w.command_word.ensures ∙ ap (command_word _) w.handle_of.ensures) c.loop-e.invariant w.put.ensures)
+      | else-holds w ↦ rw (w.tape-is, filter-left _ _ _ blank c.loop-e-test.true (sym c.holds.ensures ∙ w.if-holds.false))
           c.loop-e.invariant
     ]
 

@@ -8,22 +8,22 @@ use Rattle.command.specs.Buffer.{blank}
 use Rattle.command.specs.Ranks.{rank_within}
 use Rattle.command.proofs.Lists.{count_few, count_one, count_skip}
 use Rattle.command.proofs.CommandBuffer.count_outside.Goals as goal
-use Rattle.command.proofs.CommandBuffer.count_outside.Goals.{then-not-ranks_between, else-not-ranks_between}
+use Rattle.command.proofs.CommandBuffer.count_outside.Goals.{then-not-holds, else-not-holds}
 
 pub overflow_add-count : goal.overflow_add-count
 overflow_add-count c =
     let a = c.args in
-    omega (arith, c.loop-e.invariant, count_few (λ e. not (rank_within a.m a.lo a.hi e)) c.held-e-items.result.now c.loop-e.e-index)
+    omega (arith, c.loop-e.invariant, count_few (λ e. not (rank_within a.span.around a.span.from a.span.end e)) c.held-e-items.result.now c.loop-e.e-index)
 
 pub loop-e-preserved : goal.loop-e-preserved
 loop-e-preserved c =
     let a = c.args in
-    let p = λ (e : Entry). not (rank_within a.m a.lo a.hi e) in
-    elim c.if-not-ranks_between.branch [
-      | then-not-ranks_between w ↦ rw w.count-is
-          (count_one p _ _ blank c.loop-e-test.true c.loop-e.invariant (ap not (sym c.ranks_between.ensures ∙ w.if-not-ranks_between.true)))
-      | else-not-ranks_between w ↦ rw w.count-is
-          (count_skip p _ _ blank c.loop-e-test.true c.loop-e.invariant (ap not (sym c.ranks_between.ensures ∙ w.if-not-ranks_between.false)))
+    let p = λ (e : Entry). not (rank_within a.span.around a.span.from a.span.end e) in
+    elim c.if-not-holds.branch [
+      | then-not-holds w ↦ rw w.count-is
+          (count_one p _ _ blank c.loop-e-test.true c.loop-e.invariant (ap not (sym c.holds.ensures ∙ w.if-not-holds.true)))
+      | else-not-holds w ↦ rw w.count-is
+          (count_skip p _ _ blank c.loop-e-test.true c.loop-e.invariant (ap not (sym c.holds.ensures ∙ w.if-not-holds.false)))
     ]
 
 pub returns : goal.returns

@@ -7,4 +7,4 @@ use Rattle.command.specs.Ranks.{rank_within}
 use Rattle.command.proofs.CommandBuffer.count_outside.Given as goal
 
 abbrev pub invariant-loop-e : goal.invariant-loop-e
-invariant-loop-e l = l.count ≡ length (filter_b (λ e. not (rank_within l.m l.lo l.hi e)) (take l.e-index l.e-items))
+invariant-loop-e l = l.count ≡ length (filter_b (λ e. not (rank_within l.span.around l.span.from l.span.end e)) (take l.e-index l.e-items))

@@ -3,23 +3,23 @@ use mathlib.Core.Path.{sym, ◌∙◌}
 use Rattle.command.specs.Buffer.{blank}
 use Rattle.command.proofs.Extending.{extended_none, extended_all, extended_room, extended_push, extended_skip}
 use Rattle.command.proofs.CommandBuffer.extend.Goals as goal
-use Rattle.command.proofs.CommandBuffer.extend.Goals.{then-ranks_between, else-ranks_between}
+use Rattle.command.proofs.CommandBuffer.extend.Goals.{then-holds, else-holds}
 
 pub loop-e-init : goal.loop-e-init
 loop-e-init c = extended_none _ _ c.requires.whole
 
 pub push-requires : goal.push-requires
 push-requires c =
-    extended_room c.loop-e.invariant blank c.loop-e-test.true (sym c.ranks_between.ensures ∙ c.if-ranks_between.true)
+    extended_room c.loop-e.invariant blank c.loop-e-test.true (sym c.holds.ensures ∙ c.if-holds.true)
     (rw c.held-e-items.ensures.held c.requires.room)
 
 pub loop-e-preserved : goal.loop-e-preserved
 loop-e-preserved c =
-    elim c.if-ranks_between.branch [
-      | then-ranks_between w ↦ rw w.self-is
-          (extended_push c.loop-e.invariant blank c.loop-e-test.true (sym c.ranks_between.ensures ∙ w.if-ranks_between.true) w.push.ensures)
-      | else-ranks_between w ↦ rw w.self-is
-          (extended_skip c.loop-e.invariant blank c.loop-e-test.true (sym c.ranks_between.ensures ∙ w.if-ranks_between.false))
+    elim c.if-holds.branch [
+      | then-holds w ↦ rw w.self-is
+          (extended_push c.loop-e.invariant blank c.loop-e-test.true (sym c.holds.ensures ∙ w.if-holds.true) w.push.ensures)
+      | else-holds w ↦ rw w.self-is
+          (extended_skip c.loop-e.invariant blank c.loop-e-test.true (sym c.holds.ensures ∙ w.if-holds.false))
     ]
 
 pub returns : goal.returns

@@ -4,4 +4,4 @@ use Rattle.command.proofs.Extending.{Extended}
 use Rattle.command.proofs.CommandBuffer.extend.Given as goal
 
 abbrev pub invariant-loop-e : goal.invariant-loop-e
-invariant-loop-e l = Extended l.initial.self (rank_within l.m l.lo l.hi) l.e-items l.e-index l.self
+invariant-loop-e l = Extended l.initial.self (rank_within l.span.around l.span.from l.span.end) l.e-items l.e-index l.self

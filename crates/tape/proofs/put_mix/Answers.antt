@@ -1,7 +1,0 @@
--- `put_mix` meets its contract: the mix's own word, and the three of its weight. Assumes nothing.
-use Rattle.tape.proofs.Writing.{puts_mix}
-use Rattle.tape.proofs.put_mix.Goals as goal
-
-pub returns : goal.returns
-returns c =
-    puts_mix c.args.weight c.mix_word.ensures c.put-next.ensures c.bits_of-bits.ensures c.put_weight.ensures
