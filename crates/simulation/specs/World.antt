@@ -4,7 +4,8 @@ use Rattle.std.specs.Ordering.{is_lt}
 use Rattle.std.specs.Prelude.{ℕ, Bool, true, false, cond, List, [], ◌∷◌, ◌++◌, ◌≡◌, length}
 use Rattle.timestamp.specs.declared.Timestamp.{Timestamp}
 use Rattle.timestamp.specs.Timestamps.{sum_of, order_of}
-use Rattle.tape.specs.Tape.{Puts}
+use Rattle.tape.specs.declared.Tape.{Tape}
+use Rattle.tape.specs.Tape.{PutsOn}
 use Rattle.tape.specs.Words.{step_word, snapshot_word}
 use Rattle.command.specs.declared.CommandBuffer.{CommandBuffer}
 use Rattle.command.specs.declared.Outcome.{Outcome}
@@ -75,12 +76,12 @@ flushed_of w t side =
 unfoldable pub reset_of : Simulation → Timestamp → ℕ → Done
 reset_of w t side = cond (resets_back t w.commands.timestamp) (flushed_of w t side) (kept_of w t)
 
--- a step or a reset as the code leaves it: the world w, and its words are on the tape from a place on
-pub record Does (d : Done) (was : List ℕ) (place : ℕ) (w : Simulation) (r : Stepped) (last : List ℕ) : Type 0 where
+-- a step or a reset as the code leaves it: the world w, and its words are on the tape
+pub record Does (d : Done) (was : Tape) (w : Simulation) (r : Stepped) (now : Tape) : Type 0 where
   pub world : w ≡ d.world
   pub applied : r.applied ≡ d.applied
   pub leftout : r.leftout ≡ d.leftout
-  pub puts : Puts was place d.words r.at last
+  pub puts : PutsOn was d.words now
 
 -- a load: the base's commands take the place of the world's, moved to the snapshot's stamp; the ledger counts what is copied, replaced and left out
 pub record Load : Type 0 where
@@ -100,9 +101,9 @@ load_of w base t =
     }
 
 -- a load as the code leaves it: the world w, and the snapshot's word is on the tape
-pub record Loads (l : Load) (side handle : ℕ) (was : List ℕ) (place : ℕ) (w : Simulation) (r : Loaded) (last : List ℕ) : Type 0 where
+pub record Loads (l : Load) (side handle : ℕ) (was : Tape) (w : Simulation) (r : Loaded) (now : Tape) : Type 0 where
   pub world : w ≡ l.world
   pub copied : r.copied ≡ l.copied
   pub replaced : r.replaced ≡ l.replaced
   pub leftout : r.leftout ≡ l.leftout
-  pub puts : Puts was place (snapshot_word side handle ∷ []) r.at last
+  pub puts : PutsOn was (snapshot_word side handle ∷ []) now

@@ -1,14 +1,15 @@
 // One world of the client: its commands and whether a snapshot has initialised it. It answers to src/world/simulation.rs of crystalorb.
 // The world itself is the host's: what happens to it is told by the words of a tape. The stamp of the last completed frame is the
-// midpoint of the command buffer, as in the Rust. A side is 0 for the left world and 1 for the right one.
+// midpoint of the command buffer, as in the Rust.
 #![tactic(auto)]
 
 ghost use Rattle.std.specs.Prelude.{◌≡◌, ◌+◌, ◌<◌, ◌≤◌};
 ghost use Rattle.refusals.specs.Limits.{buffer_room};
+ghost use Rattle.tape.specs.Sides.{side_number};
 ghost use Rattle.simulation.specs.World.{new_world, scheduled_of, step_of, resets_back, reset_of, load_of, Does, Loads};
 
 use command::{CommandBuffer, Outcome};
-use tape::{put, snapshot_word, step_word};
+use tape::{Side, Tape, snapshot_word, step_word};
 use timestamp::Timestamp;
 
 #[derive(Clone, Copy)]
@@ -17,20 +18,17 @@ pub struct Simulation {
     pub init: bool,
 }
 
-// What a step or a reset of a world came to: the next place on the tape, how many commands were applied to it, and how many the move of its
-// stamp left out.
+// What a step or a reset of a world came to: how many commands were applied to it, and how many the move of its stamp left out.
 #[derive(Clone, Copy)]
 pub struct Stepped {
-    pub at: usize,
     pub applied: usize,
     pub leftout: usize,
 }
 
-// What the load of a snapshot into a world came to: the next place on the tape, how many commands the world was given from the base, how many of
-// its own they replaced, and how many of them the move to the snapshot's stamp left out.
+// What the load of a snapshot into a world came to: how many commands the world was given from the base, how many of its own they replaced, and how
+// many of them the move to the snapshot's stamp left out.
 #[derive(Clone, Copy)]
 pub struct Loaded {
-    pub at: usize,
     pub copied: usize,
     pub replaced: usize,
     pub leftout: usize,
@@ -62,20 +60,18 @@ impl Simulation {
     }
 
     // One frame: the commands up to it are applied, the world steps, and its stamp moves on.
-    pub fn step(&mut self, side: u32, tape: &mut [u32], at: usize) -> Stepped
-        requires { at < 3000000000 }
-        ensures does { Does (step_of self.old side) tape.old at self.new result tape.new }
-        ensures few { result.at ≤ at + buffer_room + 1 }
+    pub fn step(&mut self, side: Side, tape: &mut Tape<'_>) -> Stepped
+        requires { tape.old.at < 3000000000 }
+        ensures does { Does (step_of self.old (side_number side)) tape.old self.new result tape.new }
+        ensures few { tape.new.at ≤ tape.old.at + buffer_room + 1 }
     {
         let next = self.commands.timestamp.add(1);
-        let after = self.commands.apply_up_to(next, side, tape, at);
-        let place = put(tape, after, step_word(side));
+        let start = tape.at;
+        self.commands.apply_up_to(next, side, tape);
+        let applied = tape.at - start;
+        tape.put(step_word(side));
         let leftout = self.commands.update_timestamp(next);
-        Stepped {
-            at: place,
-            applied: after - at,
-            leftout,
-        }
+        Stepped { applied, leftout }
     }
 
     // A snapshot of the frame with the stamp `stamp` is loaded: the world has the base's commands from then on.
@@ -84,20 +80,18 @@ impl Simulation {
         base: &CommandBuffer,
         stamp: Timestamp,
         handle: u32,
-        side: u32,
-        tape: &mut [u32],
-        at: usize,
+        side: Side,
+        tape: &mut Tape<'_>,
     ) -> Loaded
-        requires { at < 3000000000 }
-        ensures { Loads (load_of self.old base.now stamp) side handle tape.old at self.new result tape.new }
+        requires { tape.old.at < 3000000000 }
+        ensures { Loads (load_of self.old base.now stamp) (side_number side) handle tape.old self.new result tape.new }
     {
-        let place = put(tape, at, snapshot_word(side, handle));
+        tape.put(snapshot_word(side, handle));
         let replaced = self.commands.held_count();
         self.init = true;
         self.commands = *base;
         let leftout = self.commands.update_timestamp(stamp);
         Loaded {
-            at: place,
             copied: base.held_count(),
             replaced,
             leftout,
@@ -108,27 +102,25 @@ impl Simulation {
     pub fn reset_last_completed_timestamp(
         &mut self,
         stamp: Timestamp,
-        side: u32,
-        tape: &mut [u32],
-        at: usize,
+        side: Side,
+        tape: &mut Tape<'_>,
     ) -> Stepped
-        requires { at < 3000000000 }
-        ensures does { Does (reset_of self.old stamp side) tape.old at self.new result tape.new }
-        ensures few { result.at ≤ at + buffer_room }
+        requires { tape.old.at < 3000000000 }
+        ensures does { Does (reset_of self.old stamp (side_number side)) tape.old self.new result tape.new }
+        ensures few { tape.new.at ≤ tape.old.at + buffer_room }
     {
         let back = resets_back(stamp, self.commands.timestamp);
         let leftout = self.commands.update_timestamp(stamp);
-        if back {
-            let after = self.commands.apply_all(side, tape, at);
+        if !back {
             return Stepped {
-                at: after,
-                applied: after - at,
+                applied: 0,
                 leftout,
             };
         }
+        let start = tape.at;
+        self.commands.apply_all(side, tape);
         Stepped {
-            at,
-            applied: 0,
+            applied: tape.at - start,
             leftout,
         }
     }

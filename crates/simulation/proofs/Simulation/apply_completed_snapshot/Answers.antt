@@ -4,5 +4,5 @@ use Rattle.simulation.proofs.Simulation.apply_completed_snapshot.Goals as goal
 
 pub returns : goal.returns
 returns c =
-    load_does _ _ _ _ _ c.snapshot_word.ensures c.put-place.ensures c.update_timestamp-leftout.ensures c.held_count.ensures
+    load_does _ _ _ _ _ c.snapshot_word.ensures c.put.ensures c.update_timestamp-leftout.ensures c.held_count.ensures
     c.held_count-replaced.ensures

@@ -3,9 +3,8 @@ use mathlib.Core.Path.{sym, ◌∙◌}
 use Rattle.simulation.proofs.Rules.{reset_back, reset_on}
 use Rattle.simulation.proofs.Simulation.reset_last_completed_timestamp.Goals as goal
 
-pub returns-then-back-clause-does : goal.returns-then-back-clause-does
-returns-then-back-clause-does c =
-    reset_back _ _ _ (sym c.resets_back-back.ensures ∙ c.if-back.true) c.update_timestamp-leftout.ensures c.apply_all-after.ensures.applied
+pub returns-then-not-back-clause-does : goal.returns-then-not-back-clause-does
+returns-then-not-back-clause-does c = reset_on _ _ _ (sym c.resets_back-back.ensures ∙ c.if-not-back.true) c.update_timestamp-leftout.ensures
 
 pub returns-clause-does : goal.returns-clause-does
-returns-clause-does c = reset_on _ _ _ (sym c.resets_back-back.ensures ∙ c.if-back.false) c.update_timestamp-leftout.ensures
+returns-clause-does c = reset_back _ _ _ (sym c.resets_back-back.ensures ∙ c.if-not-back.false) c.update_timestamp-leftout.ensures c.apply_all.ensures.applied

@@ -4,4 +4,4 @@ use Rattle.simulation.proofs.Simulation.step.Goals as goal
 
 pub returns-clause-does : goal.returns-clause-does
 returns-clause-does c =
-    step_does _ _ c.add-next.ensures c.apply_up_to-after.ensures.applied c.step_word.ensures c.put-place.ensures c.update_timestamp-leftout.ensures
+    step_does _ _ c.add-next.ensures c.apply_up_to.ensures.applied c.step_word.ensures c.put.ensures c.update_timestamp-leftout.ensures
