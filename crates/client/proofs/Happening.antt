@@ -1,5 +1,9 @@
 -- What the code of the sides comes to, over plain values, and how one thing that happens follows another. Assumes nothing.
-use Rattle.std.proofs.Common.{◌≡◌, ℕ, List, refl, ap, ◌∙◌, ne_eqb}
+use Rattle.std.proofs.Common.{◌≡◌, refl, ap, ◌∙◌}
+use Rattle.tape.specs.declared.Side.{Side}
+use Rattle.tape.specs.declared.Side.TheVariants.{Left, Right}
+use Rattle.tape.specs.declared.Tape.{Tape}
+use Rattle.tape.specs.Sides.{side_number}
 use Rattle.tape.proofs.Writing.{puts_none, puts_then, puts_as}
 use Rattle.simulation.specs.declared.Simulation.{Simulation}
 use Rattle.simulation.specs.declared.Stepped.{Stepped}
@@ -14,16 +18,16 @@ use Rattle.client.specs.Sides.{Played, still, and_then, done_at, Plays}
 -- ---- what happens, one thing after another
 
 -- nothing happens
-pub plays_still : (s : Scene) (was : List ℕ) (place : ℕ) → Plays (still s) was place s place was
-plays_still s was place = record { scene = refl; puts = puts_none was place }
+pub plays_still : (s : Scene) (was : Tape) → Plays (still s) was s was
+plays_still s was = record { scene = refl; puts = puts_none was.words.now was.at }
 
 -- the same by another name
-pub plays_as : {p q : Played} {was last : List ℕ} {place next : ℕ} {s : Scene} → p ≡ q → Plays p was place s next last → Plays q was place s next last
+pub plays_as : {p q : Played} {was now : Tape} {s : Scene} → p ≡ q → Plays p was s now → Plays q was s now
 plays_as e h = record { scene = h.scene ∙ ap (λ (x : Played). x.scene) e; puts = puts_as (ap (λ (x : Played). x.words) e) h.puts }
 
 -- one thing, and then another from where it ended
-pub plays_then : {p : Played} (f : Scene → Played) {was mid last : List ℕ} {place then_at next : ℕ} {s t : Scene} → Plays p was place s then_at mid
-    → Plays (f s) mid then_at t next last → Plays (and_then p f) was place t next last
+pub plays_then : {p : Played} (f : Scene → Played) {was mid now : Tape} {s t : Scene} → Plays p was s mid → Plays (f s) mid t now
+    → Plays (and_then p f) was t now
 unfolding and_then
 plays_then {p} f h k =
     record {
@@ -31,11 +35,11 @@ plays_then {p} f h k =
       puts = puts_then h.puts (puts_as (ap (λ (x : Scene). (f x).words) h.scene) k.puts);
     }
 
--- something is done to the world of a side, which is the left one for side 0 and the right one for any other, and counted in the side's ledger
-module _ (s : Scene) (side : ℕ) (d : Simulation → Done) {was last : List ℕ} {place : ℕ} {w : Simulation} {r : Stepped} {l : Ledger} where
-  pub done_left : side ≡ 0 → Does (d s.worlds.left) was place w r last → l ≡ applies s.left r.applied r.leftout
-      → Plays (done_at s side (d (world_of s.worlds side))) was place
-      (record { worlds = with_left s.worlds w; left = l; right = s.right; steps = s.steps }) r.at last
+-- something is done to the world of a side and counted in the side's ledger
+module _ (s : Scene) (side : Side) (d : Simulation → Done) {was now : Tape} {w : Simulation} {r : Stepped} {l : Ledger} where
+  pub done_left : side ≡ Left → Does (d s.worlds.left) was w r now → l ≡ applies s.left r.applied r.leftout
+      → Plays (done_at s (side_number side) (d (world_of s.worlds (side_number side)))) was
+      (record { worlds = with_left s.worlds w; left = l; right = s.right; steps = s.steps }) now
   unfolding done_at put_of with_world with_ledger ledger_of world_of
   done_left z h e =
       rw z
@@ -49,12 +53,12 @@ module _ (s : Scene) (side : ℕ) (d : Simulation → Done) {was last : List ℕ
         puts = h.puts;
       })
 
-  pub done_right : (side ≡ 0 → ⊥) → Does (d s.worlds.right) was place w r last → l ≡ applies s.right r.applied r.leftout
-      → Plays (done_at s side (d (world_of s.worlds side))) was place
-      (record { worlds = with_right s.worlds w; left = s.left; right = l; steps = s.steps }) r.at last
+  pub done_right : side ≡ Right → Does (d s.worlds.right) was w r now → l ≡ applies s.right r.applied r.leftout
+      → Plays (done_at s (side_number side) (d (world_of s.worlds (side_number side)))) was
+      (record { worlds = with_right s.worlds w; left = s.left; right = l; steps = s.steps }) now
   unfolding done_at put_of with_world with_ledger ledger_of world_of
   done_right z h e =
-      rw (ne_eqb side 0 z)
+      rw z
       (record {
         scene = λ i. record {
           worlds = with_right s.worlds (h.world i);

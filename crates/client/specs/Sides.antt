@@ -3,7 +3,10 @@
 use Rattle.std.specs.Prelude.{◌≡◌, ℕ, cond, List, [], ◌++◌, ◌==◌, Float, None}
 use Rattle.timestamp.specs.Floats.{one64}
 use Rattle.timestamp.specs.declared.Timestamp.{Timestamp}
-use Rattle.tape.specs.Tape.{Puts}
+use Rattle.tape.specs.declared.Tape.{Tape}
+use Rattle.tape.specs.declared.Side.TheVariants.{Left}
+use Rattle.tape.specs.Sides.{side_number, side_named, other_of}
+use Rattle.tape.specs.Tape.{PutsOn}
 use Rattle.command.specs.declared.CommandBuffer.{CommandBuffer}
 use Rattle.command.specs.Buffer.{laid}
 use Rattle.simulation.specs.declared.Simulation.{Simulation}
@@ -17,11 +20,11 @@ use Rattle.client.specs.Ledgers.{applies}
 
 -- the side of the new world
 unfoldable pub new_side_of : ClientWorldSimulations → ℕ
-new_side_of w = cond (w.new == 0) 0 1
+new_side_of w = side_number w.new
 
 -- the side of the old world
 unfoldable pub old_side_of : ClientWorldSimulations → ℕ
-old_side_of w = cond (w.new == 0) 1 0
+old_side_of w = side_number (other_of w.new)
 
 -- the world of a side
 unfoldable pub world_of : ClientWorldSimulations → ℕ → Simulation
@@ -42,7 +45,7 @@ with_world w side s = cond (side == 0) (with_left w s) (with_right w s)
 -- the worlds with another side new
 abbrev pub with_new : ClientWorldSimulations → ℕ → ClientWorldSimulations
 with_new w side =
-    record { left = w.left; right = w.right; new = side; base = w.base; snapshots = w.snapshots; weight = w.weight; published = w.published }
+    record { left = w.left; right = w.right; new = side_named side; base = w.base; snapshots = w.snapshots; weight = w.weight; published = w.published }
 
 -- the worlds with another base buffer
 abbrev pub with_base : ClientWorldSimulations → CommandBuffer → ClientWorldSimulations
@@ -76,17 +79,25 @@ old_stamp_of w = world_stamp_of (world_of w (old_side_of w))
 unfoldable pub new_stamp_of : ClientWorldSimulations → Timestamp
 new_stamp_of w = world_stamp_of (world_of w (new_side_of w))
 
+-- no snapshot so far
+abbrev pub no_snapshots : Snapshots
+no_snapshots = record { queued = None; lastqueued = None; lastreceived = None }
+
+-- nothing is published yet
+abbrev pub nothing_published : Published
+nothing_published = record { before = None; after = None; time = None }
+
 -- two worlds and a base as a client starts with them: the left one is new, nothing is queued or published, and the weight is 1
 abbrev pub starting_with : Simulation → Simulation → CommandBuffer → ClientWorldSimulations
 starting_with l r b =
     record {
       left = l;
       right = r;
-      new = 0;
+      new = Left;
       base = b;
-      snapshots = record { queued = None; lastqueued = None; lastreceived = None };
+      snapshots = no_snapshots;
       weight = one64;
-      published = record { before = None; after = None; time = None };
+      published = nothing_published;
     }
 
 -- the worlds of a client whose first stamp is t; the base's midpoint starts at 0
@@ -138,7 +149,7 @@ and_then p f = record { scene = (f p.scene).scene; words = p.words ++ (f p.scene
 unfoldable pub done_at : Scene → ℕ → Done → Played
 done_at s side d = record { scene = put_of s side d.world d.applied d.leftout; words = d.words }
 
--- what happened, as the code leaves it: the scene s, and its words are on the tape from a place to before the place `next`
-pub record Plays (p : Played) (was : List ℕ) (place : ℕ) (s : Scene) (next : ℕ) (last : List ℕ) : Type 0 where
+-- what happened, as the code leaves it: the scene s, and its words are on the tape
+pub record Plays (p : Played) (was : Tape) (s : Scene) (now : Tape) : Type 0 where
   pub scene : s ≡ p.scene
-  pub puts : Puts was place p.words next last
+  pub puts : PutsOn was p.words now

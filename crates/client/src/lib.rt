@@ -4,7 +4,7 @@
 #![tactic(auto)]
 
 ghost use Rattle.std.specs.Prelude.{◌≡◌};
-ghost use Rattle.client.specs.Sides.{new_worlds_of};
+ghost use Rattle.client.specs.Sides.{no_snapshots, nothing_published, new_worlds_of};
 
 pub mod ledgers;
 pub mod sides;
@@ -12,6 +12,7 @@ pub mod status;
 
 use command::CommandBuffer;
 use simulation::Simulation;
+use tape::Side;
 use timestamp::Timestamp;
 
 // A snapshot that waits to be loaded.
@@ -54,12 +55,12 @@ pub struct Published {
     pub time: Option<f64>,
 }
 
-// Both worlds and all that reconciles them. `new` is the side of the new world, 0 for left; any other number is right.
+// Both worlds and all that reconciles them. `new` is the side of the new world.
 #[derive(Clone, Copy)]
 pub struct ClientWorldSimulations {
     pub left: Simulation,
     pub right: Simulation,
-    pub new: u32,
+    pub new: Side,
     pub base: CommandBuffer,
     pub snapshots: Snapshots,
     pub weight: f64,
@@ -86,6 +87,32 @@ pub struct Scene {
     pub steps: u32,
 }
 
+impl Snapshots {
+    // No snapshot so far.
+    pub fn none() -> Snapshots
+        ensures { result ≡ no_snapshots }
+    {
+        Snapshots {
+            queued: None,
+            lastqueued: None,
+            lastreceived: None,
+        }
+    }
+}
+
+impl Published {
+    // Nothing is published yet.
+    pub fn nothing() -> Published
+        ensures { result ≡ nothing_published }
+    {
+        Published {
+            before: None,
+            after: None,
+            time: None,
+        }
+    }
+}
+
 impl ClientWorldSimulations {
     // The worlds of a client whose first stamp is `stamp`. The base's stamp starts at 0.
     #[tactic(auto, unfolding(crate::specs::Sides::new_worlds_of))]
@@ -95,19 +122,11 @@ impl ClientWorldSimulations {
         ClientWorldSimulations {
             left: Simulation::new(stamp),
             right: Simulation::new(stamp),
-            new: 0,
+            new: Side::Left,
             base: CommandBuffer::new(Timestamp(0)),
-            snapshots: Snapshots {
-                queued: None,
-                lastqueued: None,
-                lastreceived: None,
-            },
+            snapshots: Snapshots::none(),
             weight: 1.0,
-            published: Published {
-                before: None,
-                after: None,
-                time: None,
-            },
+            published: Published::nothing(),
         }
     }
 }

@@ -1,36 +1,41 @@
-// The two sides: which world is old and which is new, by a number, and a ledger for each. (src/old_new.rs of crystalorb.)
+// The two sides: which world is old and which is new, and a ledger for each. (src/old_new.rs of crystalorb.)
 ghost use Rattle.std.specs.Prelude.{◌≡◌, ◌+◌, ◌<◌, ◌≤◌};
 ghost use Rattle.refusals.specs.Limits.{buffer_room};
+ghost use Rattle.tape.specs.Sides.{side_number};
 ghost use Rattle.client.specs.Sides.{new_side_of, old_side_of, world_of, world_stamp_of, old_stamp_of, new_stamp_of, done_at, Plays};
 ghost use Rattle.simulation.specs.World.{step_of, reset_of};
 
 use super::{ClientWorldSimulations, Scene};
 use simulation::Simulation;
+use tape::{Side, Tape};
 use timestamp::Timestamp;
 
 impl ClientWorldSimulations {
-    // The side of the new world: 0 for left, 1 for right.
+    // The side of the new world.
     #[tactic(auto, unfolding(crate::specs::Sides::new_side_of))]
-    pub fn new_side(&self) -> u32
-        ensures { result ≡ new_side_of self.now }
+    pub fn new_side(&self) -> Side
+        ensures { side_number result ≡ new_side_of self.now }
     {
-        if self.new == 0 { 0 } else { 1 }
+        self.new
     }
 
     // The side of the old world.
     #[tactic(auto, unfolding(crate::specs::Sides::old_side_of))]
-    pub fn old_side(&self) -> u32
-        ensures { result ≡ old_side_of self.now }
+    pub fn old_side(&self) -> Side
+        ensures { side_number result ≡ old_side_of self.now }
     {
-        if self.new == 0 { 1 } else { 0 }
+        self.new.other()
     }
 
     // The world of a side.
     #[tactic(auto, unfolding(crate::specs::Sides::world_of))]
-    pub fn get_side(&self, side: u32) -> &Simulation
-        ensures { result.now ≡ world_of self.now side }
+    pub fn get_side(&self, side: Side) -> &Simulation
+        ensures { result.now ≡ world_of self.now (side_number side) }
     {
-        if side == 0 { &self.left } else { &self.right }
+        match side {
+            Side::Left => &self.left,
+            Side::Right => &self.right,
+        }
     }
 
     // The stamp of the old world, which is the client's.
@@ -51,41 +56,43 @@ impl ClientWorldSimulations {
 }
 
 impl Scene {
-    // The world of a side steps. Gives the next place on the tape.
-    pub fn step_side(&mut self, side: u32, tape: &mut [u32], at: usize) -> usize
-        requires { at < 3000000000 }
-        ensures plays { Plays (done_at self.old side (step_of (world_of self.old.worlds side) side)) tape.old at self.new result tape.new }
-        ensures few { result ≤ at + buffer_room + 1 }
+    // The world of a side steps.
+    pub fn step_side(&mut self, side: Side, tape: &mut Tape<'_>)
+        requires { tape.old.at < 3000000000 }
+        ensures plays { Plays (done_at self.old (side_number side) (step_of (world_of self.old.worlds (side_number side)) (side_number side)))
+            tape.old self.new tape.new }
+        ensures few { tape.new.at ≤ tape.old.at + buffer_room + 1 }
     {
-        if side == 0 {
-            let done = self.worlds.left.step(side, tape, at);
-            self.left.count(done.applied, done.leftout);
-            return done.at;
+        match side {
+            Side::Left => {
+                let done = self.worlds.left.step(side, tape);
+                self.left.count(done.applied, done.leftout);
+            }
+            Side::Right => {
+                let done = self.worlds.right.step(side, tape);
+                self.right.count(done.applied, done.leftout);
+            }
         }
-        let done = self.worlds.right.step(side, tape, at);
-        self.right.count(done.applied, done.leftout);
-        done.at
     }
 
-    // The world of a side is set to a stamp. Gives the next place on the tape.
-    pub fn reset_side(&mut self, side: u32, stamp: Timestamp, tape: &mut [u32], at: usize) -> usize
-        requires { at < 3000000000 }
-        ensures plays { Plays (done_at self.old side (reset_of (world_of self.old.worlds side) stamp side)) tape.old at self.new result tape.new }
-        ensures few { result ≤ at + buffer_room }
+    // The world of a side is set to a stamp.
+    pub fn reset_side(&mut self, side: Side, stamp: Timestamp, tape: &mut Tape<'_>)
+        requires { tape.old.at < 3000000000 }
+        ensures plays { Plays (done_at self.old (side_number side) (reset_of (world_of self.old.worlds (side_number side)) stamp (side_number side)))
+            tape.old self.new tape.new }
+        ensures few { tape.new.at ≤ tape.old.at + buffer_room }
     {
-        if side == 0 {
-            let done = self
-                .worlds
-                .left
-                .reset_last_completed_timestamp(stamp, side, tape, at);
-            self.left.count(done.applied, done.leftout);
-            return done.at;
+        match side {
+            Side::Left => {
+                let world = &mut self.worlds.left;
+                let done = world.reset_last_completed_timestamp(stamp, side, tape);
+                self.left.count(done.applied, done.leftout);
+            }
+            Side::Right => {
+                let world = &mut self.worlds.right;
+                let done = world.reset_last_completed_timestamp(stamp, side, tape);
+                self.right.count(done.applied, done.leftout);
+            }
         }
-        let done = self
-            .worlds
-            .right
-            .reset_last_completed_timestamp(stamp, side, tape, at);
-        self.right.count(done.applied, done.leftout);
-        done.at
     }
 }
