@@ -5,7 +5,7 @@ use Rattle.timestamp.specs.Floats.{one64}
 use Rattle.timestamp.specs.declared.Timestamp.{Timestamp}
 use Rattle.tape.specs.declared.Tape.{Tape}
 use Rattle.tape.specs.declared.Side.TheVariants.{Left}
-use Rattle.tape.specs.Sides.{side_number, side_named, other_of}
+use Rattle.tape.specs.Sides.{is_left, side_number, side_named}
 use Rattle.tape.specs.Tape.{PutsOn}
 use Rattle.command.specs.declared.CommandBuffer.{CommandBuffer}
 use Rattle.command.specs.Buffer.{laid}
@@ -24,7 +24,7 @@ new_side_of w = side_number w.new
 
 -- the side of the old world
 unfoldable pub old_side_of : ClientWorldSimulations → ℕ
-old_side_of w = side_number (other_of w.new)
+old_side_of w = cond (is_left w.new) 1 0
 
 -- the world of a side
 unfoldable pub world_of : ClientWorldSimulations → ℕ → Simulation

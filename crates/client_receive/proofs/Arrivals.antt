@@ -4,6 +4,7 @@ use mathlib.Core.Bool.{Bool, true, false, ◌||◌}
 use Prim.Native.Nat.{ℕ}
 use lib.Dec.{eqb}
 use Rattle.timestamp.specs.declared.Timestamp.{Timestamp}
+use Rattle.tape.specs.Sides.{is_left}
 use Rattle.command.specs.Entries.{Entry}
 use Rattle.command.specs.Buffer.{Insertion, inserted_of, taken_by}
 use Rattle.simulation.specs.World.{Scheduled, scheduled_of}
@@ -35,7 +36,7 @@ received : Scene → Insertion → Scheduled → Scheduled → Bool → Received
 received s i a b f = record { scene = offered s i a b (takes s.left (taken_by a.outcome)) (takes s.right (taken_by b.outcome)); full = f }
 
 -- the command goes to all three, whichever side is new
-received_by : (s : Scene) (e : Entry) (new : Bool) → eqb s.worlds.new 0 ≡ new
+received_by : (s : Scene) (e : Entry) (new : Bool) → is_left s.worlds.new ≡ new
     → received s (inserted_of s.worlds.base e) (scheduled_of s.worlds.left e) (scheduled_of s.worlds.right e)
     (any_full (inserted_of s.worlds.base e).outcome (scheduled_of s.worlds.left e).outcome (scheduled_of s.worlds.right e).outcome)
     ≡ received_of s e
@@ -56,7 +57,7 @@ unfolding received
 received_is s e {i} {a} {b} {l} {r} {f} hi ha hb hl hr hf =
     (λ j. record { scene = offered s i a b (hl j) (hr j); full = hf j })
     ∙ (λ j. received s (hi j) (ha j) (hb j) (any_full (hi j).outcome (ha j).outcome (hb j).outcome))
-    ∙ received_by s e (eqb s.worlds.new 0) refl
+    ∙ received_by s e (is_left s.worlds.new) refl
 
 -- ---- snapshots
 

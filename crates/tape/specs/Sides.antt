@@ -1,13 +1,17 @@
 -- The two worlds of a client, by number: 0 is the left one and 1 the right one, as document 01 has them.
 -- Definitions only. Assumes nothing.
-use Rattle.std.specs.Prelude.{ℕ, cond, ◌==◌}
+use Rattle.std.specs.Prelude.{ℕ, Bool, true, false, cond, ◌==◌}
 use Rattle.tape.specs.declared.Side.{Side}
 use Rattle.tape.specs.declared.Side.TheVariants.{Left, Right}
 
+-- a side is the left one
+abbrev pub is_left : Side → Bool
+is_left Left = true
+is_left Right = false
+
 -- the number of a side
 abbrev pub side_number : Side → ℕ
-side_number Left = 0
-side_number Right = 1
+side_number s = cond (is_left s) 0 1
 
 -- the side of a number: any but 0 is right
 abbrev pub side_named : ℕ → Side

@@ -4,4 +4,4 @@ use Rattle.client_publish.proofs.publish_mix.Goals as goal
 
 pub returns : goal.returns
 returns c =
-    mix_states _ _ c.last_completed_timestamp-stamp.ensures c.put_mix-p.ensures
+    mix_states _ _ c.last_completed_timestamp-stamp.ensures c.put_mix.ensures

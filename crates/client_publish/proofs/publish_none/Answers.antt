@@ -3,4 +3,4 @@ use Rattle.client_publish.proofs.Showing.{none_states}
 use Rattle.client_publish.proofs.publish_none.Goals as goal
 
 pub returns : goal.returns
-returns c = none_states _ c.none_word.ensures c.put-p.ensures
+returns c = none_states _ c.none_word.ensures c.put.ensures

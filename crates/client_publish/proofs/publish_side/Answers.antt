@@ -4,4 +4,4 @@ use Rattle.client_publish.proofs.publish_side.Goals as goal
 
 pub returns : goal.returns
 returns c =
-    side_states _ _ c.get_side.ensures c.stamp-stamp.ensures c.publish_word.ensures c.put-p.ensures
+    side_states _ _ c.get_side.ensures c.stamp-stamp.ensures c.publish_word.ensures c.put.ensures
