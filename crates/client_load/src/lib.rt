@@ -2,46 +2,39 @@
 #![tactic(auto)]
 
 ghost use Rattle.std.specs.Prelude.{◌≡◌, ◌+◌, ◌<◌};
+ghost use Rattle.tape.specs.Sides.{side_number};
 ghost use Rattle.client.specs.Sides.{Plays};
 ghost use Rattle.client_load.specs.Load.{readied_with, loaded_of};
 
-use client::Scene;
-use timestamp::Timestamp;
+use client::{QueuedSnapshot, Scene};
+use tape::{Side, Tape};
 
-// A snapshot is loaded into a side, which is the new one from then on. The base is drained up to it before it is copied. Gives the next place on
-// the tape.
-pub fn load_snapshot(
-    scene: &mut Scene,
-    side: u32,
-    stamp: Timestamp,
-    handle: u32,
-    tape: &mut [u32],
-    at: usize,
-) -> usize
-    requires { at < 3000000000 }
-    ensures plays { Plays (loaded_of scene.old side stamp handle) tape.old at scene.new result tape.new }
-    ensures one { result ≡ at + 1 }
+// A snapshot is loaded into a side, which is the new one from then on. The base is drained up to it before it is copied.
+pub fn load_snapshot(scene: &mut Scene, side: Side, snapshot: QueuedSnapshot, tape: &mut Tape<'_>)
+    requires { tape.old.at < 3000000000 }
+    ensures plays { Plays (loaded_of scene.old (side_number side) snapshot.stamp snapshot.handle) tape.old scene.new tape.new }
+    ensures one { tape.new.at ≡ tape.old.at + 1 }
 {
+    let QueuedSnapshot { stamp, handle } = snapshot;
     scene.worlds.base.drain_up_to(stamp);
     scene.worlds.snapshots.queued = None;
     scene.worlds.weight = 0.0;
     scene.worlds.new = side;
-    if side == 0 {
-        let loaded = scene
-            .worlds
-            .left
-            .apply_completed_snapshot(&scene.worlds.base, stamp, handle, side, tape, at);
-        scene
-            .left
-            .count_load(loaded.copied, loaded.replaced, loaded.leftout);
-        return loaded.at;
+    let base = &scene.worlds.base;
+    match side {
+        Side::Left => {
+            let world = &mut scene.worlds.left;
+            let loaded = world.apply_completed_snapshot(base, stamp, handle, side, tape);
+            scene
+                .left
+                .count_load(loaded.copied, loaded.replaced, loaded.leftout);
+        }
+        Side::Right => {
+            let world = &mut scene.worlds.right;
+            let loaded = world.apply_completed_snapshot(base, stamp, handle, side, tape);
+            scene
+                .right
+                .count_load(loaded.copied, loaded.replaced, loaded.leftout);
+        }
     }
-    let loaded = scene
-        .worlds
-        .right
-        .apply_completed_snapshot(&scene.worlds.base, stamp, handle, side, tape, at);
-    scene
-        .right
-        .count_load(loaded.copied, loaded.replaced, loaded.leftout);
-    loaded.at
 }

@@ -7,21 +7,21 @@ ghost use Rattle.client.specs.Sides.{Plays};
 ghost use Rattle.client_skip.specs.Skip.{reset_side, reset_along, skips_back, emptied_base, skipped_of};
 
 use client::Scene;
+use tape::Tape;
 use timestamp::Timestamp;
 
-// The new world goes along with a skip where its stamp is the old one's. Gives the next place on the tape.
-pub(crate) fn reset_along(scene: &mut Scene, stamp: Timestamp, tape: &mut [u32], at: usize) -> usize
-    requires { at < 3000000000 }
-    ensures plays { Plays (reset_along scene.old stamp) tape.old at scene.new result tape.new }
-    ensures few { result ≤ at + buffer_room }
+// The new world goes along with a skip where its stamp is the old one's.
+pub(crate) fn reset_along(scene: &mut Scene, stamp: Timestamp, tape: &mut Tape<'_>)
+    requires { tape.old.at < 3000000000 }
+    ensures plays { Plays (reset_along scene.old stamp) tape.old scene.new tape.new }
+    ensures few { tape.new.at ≤ tape.old.at + buffer_room }
 {
     let old = scene.worlds.last_completed_timestamp();
     let new = scene.worlds.new_timestamp();
     if new == old {
         let side = scene.worlds.new_side();
-        return scene.reset_side(side, stamp, tape, at);
+        scene.reset_side(side, stamp, tape);
     }
-    at
 }
 
 // Whether a skip goes to an earlier stamp.
@@ -32,22 +32,15 @@ pub fn skips_back(stamp: Timestamp, old: Timestamp) -> bool
 }
 
 // A skip: equal stamps move together, and the base is emptied where it goes back, so that none of its commands is played at a wrong time later.
-// Gives the next place on the tape.
-pub fn reset_last_completed_timestamp(
-    scene: &mut Scene,
-    stamp: Timestamp,
-    tape: &mut [u32],
-    at: usize,
-) -> usize
-    requires { at < 2500000000 }
-    ensures { Plays (skipped_of scene.old stamp) tape.old at scene.new result tape.new }
+pub fn reset_last_completed_timestamp(scene: &mut Scene, stamp: Timestamp, tape: &mut Tape<'_>)
+    requires { tape.old.at < 2500000000 }
+    ensures { Plays (skipped_of scene.old stamp) tape.old scene.new tape.new }
 {
     let old = scene.worlds.last_completed_timestamp();
     let side = scene.worlds.old_side();
-    let mid = reset_along(scene, stamp, tape, at);
-    let next = scene.reset_side(side, stamp, tape, mid);
+    reset_along(scene, stamp, tape);
+    scene.reset_side(side, stamp, tape);
     if skips_back(stamp, old) {
         scene.worlds.base.drain_all();
     }
-    next
 }

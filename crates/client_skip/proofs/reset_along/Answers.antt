@@ -8,6 +8,6 @@ returns-then-eq-clause-plays c =
     along_plays _ _ c.last_completed_timestamp-old.ensures c.new_timestamp-new.ensures (sym c.eq.ensures ∙ c.if-eq.true) c.new_side-side.ensures
     c.reset_side.ensures.plays
 
-pub returns-clause-plays : goal.returns-clause-plays
-returns-clause-plays c =
+pub returns-else-eq-clause-plays : goal.returns-else-eq-clause-plays
+returns-else-eq-clause-plays c =
     along_stays _ _ c.last_completed_timestamp-old.ensures c.new_timestamp-new.ensures (sym c.eq.ensures ∙ c.if-eq.false)

@@ -6,10 +6,10 @@ use Rattle.client_skip.proofs.reset_last_completed_timestamp.Goals as goal
 
 pub returns-then-skips_back : goal.returns-then-skips_back
 returns-then-skips_back c =
-    skip_plays c.args.scene.now _ c.last_completed_timestamp-old.ensures c.reset_along-mid.ensures.plays c.old_side-side.ensures
-    c.reset_side-next.ensures.plays c.skips_back.ensures (emptied_is _ c.if-skips_back.true c.drain_all.ensures)
+    skip_plays c.args.scene.now _ c.last_completed_timestamp-old.ensures c.reset_along.ensures.plays c.old_side-side.ensures
+    c.reset_side.ensures.plays c.skips_back.ensures (emptied_is _ c.if-skips_back.true c.drain_all.ensures)
 
 pub returns-else-skips_back : goal.returns-else-skips_back
 returns-else-skips_back c =
-    skip_plays c.args.scene.now _ c.last_completed_timestamp-old.ensures c.reset_along-mid.ensures.plays c.old_side-side.ensures
-    c.reset_side-next.ensures.plays c.skips_back.ensures (λ i. emptied_base (sym c.if-skips_back.false i) c.reset_side-next.new.self)
+    skip_plays c.args.scene.now _ c.last_completed_timestamp-old.ensures c.reset_along.ensures.plays c.old_side-side.ensures
+    c.reset_side.ensures.plays c.skips_back.ensures (λ i. emptied_base (sym c.if-skips_back.false i) c.reset_side.new.self)
