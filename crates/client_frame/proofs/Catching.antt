@@ -1,22 +1,23 @@
 -- The loop of `catch_up`: what is left of it gives what the whole gives. Assumes nothing.
 use Rattle.std.proofs.Common.{◌≡◌, ℕ, zero, suc, ◌+◌, ◌-◌, ◌*◌, ◌≤◌, ◌<◌, Bool, true, false, List, sym, refl, ap, ◌∙◌, arith}
 use Rattle.timestamp.specs.declared.Timestamp.{Timestamp}
+use Rattle.tape.specs.declared.Tape.{Tape}
 use Rattle.client.specs.declared.Scene.{Scene}
 use Rattle.client.specs.Sides.{new_stamp_of, still, and_then, Plays}
 use Rattle.client_frame.specs.Frame.{caught_up_of, stepped_new, caught_of}
 use Rattle.client.proofs.Happening.{plays_still, plays_as, plays_then}
 
 -- after k steps: whatever the rest gives from here, the whole gives from where the loop began
-pub record Catching (m : ℕ) (o : Timestamp) (from : Scene) (was : List ℕ) (place : ℕ) (tape : List ℕ) (s : Scene) (p k : ℕ) : Type 0 where
+pub record Catching (m : ℕ) (o : Timestamp) (from : Scene) (was tape : Tape) (s : Scene) (k : ℕ) : Type 0 where
   pub bound : k ≤ m
-  pub at : p ≤ place + k * 65
-  pub rest : (u : Scene) (next : ℕ) (last : List ℕ) → Plays (caught_of (m - k) o s) tape p u next last → Plays (caught_of m o from) was place u next last
+  pub at : tape.at ≤ was.at + k * 65
+  pub rest : (u : Scene) (now : Tape) → Plays (caught_of (m - k) o s) tape u now → Plays (caught_of m o from) was u now
 
 -- before the first step
-pub catching_start : (m : ℕ) (o : Timestamp) (from : Scene) (was : List ℕ) (place : ℕ) → Catching m o from was place was from place 0
-catching_start m o from was place =
+pub catching_start : (m : ℕ) (o : Timestamp) (from : Scene) (was : Tape) → Catching m o from was was from 0
+catching_start m o from was =
     let e : m - 0 ≡ m = omega arith in
-    record { bound = omega arith; at = omega arith; rest = λ u next last h. plays_as (ap (λ (n : ℕ). caught_of n o from) e) h }
+    record { bound = omega arith; at = omega arith; rest = λ u now h. plays_as (ap (λ (n : ℕ). caught_of n o from) e) h }
 
 -- where the new world has not caught up, a step and the rest are one more turn
 pub turn : (n : ℕ) (o : Timestamp) (s : Scene) → caught_up_of (new_stamp_of s.worlds) o ≡ false → and_then (stepped_new s) (caught_of n o) ≡ caught_of (suc
@@ -35,11 +36,11 @@ none : (o : Timestamp) (s : Scene) → still s ≡ caught_of 0 o s
 unfolding caught_of
 none o s = refl
 
-module _ {m : ℕ} {o : Timestamp} {from : Scene} {was : List ℕ} {place : ℕ} {tape : List ℕ} {s : Scene} {p k : ℕ}
-    (c : Catching m o from was place tape s p k) where
+module _ {m : ℕ} {o : Timestamp} {from : Scene} {was tape : Tape} {s : Scene} {k : ℕ}
+    (c : Catching m o from was tape s k) where
   -- a step
-  pub catching_step : {n : Timestamp} {b : Bool} {t : Scene} {q : ℕ} {mid : List ℕ} → k < m → n ≡ new_stamp_of s.worlds → b ≡ caught_up_of n o
-      → b ≡ false → Plays (stepped_new s) tape p t q mid → q ≤ p + 65 → Catching m o from was place mid t q (k + 1)
+  pub catching_step : {n : Timestamp} {b : Bool} {t : Scene} {mid : Tape} → k < m → n ≡ new_stamp_of s.worlds → b ≡ caught_up_of n o
+      → b ≡ false → Plays (stepped_new s) tape t mid → mid.at ≤ tape.at + 65 → Catching m o from was mid t (k + 1)
   catching_step l hn hb f h few =
       let no : caught_up_of (new_stamp_of s.worlds) o ≡ false = ap (λ (x : Timestamp). caught_up_of x o) (sym hn) ∙ sym hb ∙ f in
       let e : m - k ≡ suc (m - (k + 1)) = omega arith in
@@ -48,22 +49,22 @@ module _ {m : ℕ} {o : Timestamp} {from : Scene} {was : List ℕ} {place : ℕ}
       record {
         bound = omega arith;
         at = omega (arith, c.at, few);
-        rest = λ u next last r. c.rest u next last (plays_as one (plays_then (caught_of (m - (k + 1)) o) h r));
+        rest = λ u now r. c.rest u now (plays_as one (plays_then (caught_of (m - (k + 1)) o) h r));
       }
 
   -- the new world has caught up
-  pub caught_up : {n : Timestamp} {b : Bool} → n ≡ new_stamp_of s.worlds → b ≡ caught_up_of n o → b ≡ true → Plays (caught_of m o from) was place s p tape
+  pub caught_up : {n : Timestamp} {b : Bool} → n ≡ new_stamp_of s.worlds → b ≡ caught_up_of n o → b ≡ true → Plays (caught_of m o from) was s tape
   caught_up hn hb f =
       let yes : caught_up_of (new_stamp_of s.worlds) o ≡ true = ap (λ (x : Timestamp). caught_up_of x o) (sym hn) ∙ sym hb ∙ f in
-      c.rest s p tape (plays_as (stop (m - k) o s yes) (plays_still s tape p))
+      c.rest s tape (plays_as (stop (m - k) o s yes) (plays_still s tape))
 
   -- it has made all its steps
-  pub caught_end : m ≤ k → Plays (caught_of m o from) was place s p tape
+  pub caught_end : m ≤ k → Plays (caught_of m o from) was s tape
   caught_end l =
       let z : m - k ≡ 0 = omega arith in
-      c.rest s p tape (plays_as (none o s ∙ ap (λ (x : ℕ). caught_of x o s) (sym z)) (plays_still s tape p))
+      c.rest s tape (plays_as (none o s ∙ ap (λ (x : ℕ). caught_of x o s) (sym z)) (plays_still s tape))
 
 -- by the stamp's other name
-pub caught_as : (m : ℕ) {o q : Timestamp} (s : Scene) {was last : List ℕ} {place next : ℕ} {u : Scene} → o ≡ q
-    → Plays (caught_of m o s) was place u next last → Plays (caught_of m q s) was place u next last
+pub caught_as : (m : ℕ) {o q : Timestamp} (s : Scene) {was now : Tape} {u : Scene} → o ≡ q
+    → Plays (caught_of m o s) was u now → Plays (caught_of m q s) was u now
 caught_as m s e h = plays_as (ap (λ (x : Timestamp). caught_of m x s) e) h

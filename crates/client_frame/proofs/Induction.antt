@@ -10,6 +10,7 @@ use Rattle.client.specs.declared.ReconciliationStatus.{ReconciliationStatus}
 use Rattle.client.specs.declared.ReconciliationStatus.TheVariants.{AwaitingSnapshot, Fastforwarding, Blending}
 use Rattle.client.specs.declared.ClientWorldSimulations.{ClientWorldSimulations}
 use Rattle.client.specs.declared.Scene.{Scene}
+use Rattle.tape.specs.Sides.{is_left}
 use Rattle.client.specs.Sides.{new_side_of, old_side_of, world_of, with_weight, with_worlds, old_stamp_of, new_stamp_of, Played, still, and_then, done_at}
 use Rattle.client.specs.Status.{status_of}
 use Rattle.client_publish.proofs.Telling.{Telling, publishes, old_by, blended_by_lem}
@@ -72,7 +73,7 @@ either_by P false p q x y = y
 -- both sides are 0 or 1
 pub new_below : (w : ClientWorldSimulations) → new_side_of w < 2
 unfolding new_side_of
-new_below w = go (eqb w.new 0)
+new_below w = go (is_left w.new)
   where
     go : (b : Bool) → cond b 0 1 < 2
     go true = omega arith
@@ -80,7 +81,7 @@ new_below w = go (eqb w.new 0)
 
 pub old_below : (w : ClientWorldSimulations) → old_side_of w < 2
 unfolding old_side_of
-old_below w = go (eqb w.new 0)
+old_below w = go (is_left w.new)
   where
     go : (b : Bool) → cond b 1 0 < 2
     go true = omega arith

@@ -7,7 +7,8 @@ use Rattle.std.specs.Float.Ieee.{add}
 use Rattle.timestamp.specs.Floats.{clamped_of}
 use Rattle.timestamp.specs.declared.Timestamp.{Timestamp}
 use Rattle.timestamp.specs.Timestamps.{order_of, difference_of}
-use Rattle.tape.specs.Tape.{Puts}
+use Rattle.tape.specs.declared.Tape.{Tape}
+use Rattle.tape.specs.Tape.{PutsOn}
 use Rattle.simulation.specs.World.{step_of, reset_of}
 use Rattle.client.specs.declared.FastforwardingHealth.TheVariants.{Healthy, Obsolete, Overshot}
 use Rattle.client.specs.declared.ReconciliationStatus.{ReconciliationStatus}
@@ -15,7 +16,6 @@ use Rattle.client.specs.declared.ReconciliationStatus.TheVariants.{AwaitingSnaps
 use Rattle.client.specs.declared.QueuedSnapshot.{QueuedSnapshot}
 use Rattle.client.specs.declared.ClientWorldSimulations.{ClientWorldSimulations}
 use Rattle.client.specs.declared.Scene.{Scene}
-use Rattle.client_frame.specs.declared.Framed.{Framed}
 use Rattle.client.specs.Sides.{new_side_of, old_side_of, world_of, with_weight, with_worlds, old_stamp_of, new_stamp_of, Played, still}
 use Rattle.client.specs.Sides.{and_then, done_at, with_steps}
 use Rattle.client.specs.Status.{status_of}
@@ -142,7 +142,7 @@ unfoldable pub frame_stops : Rules → Scene → Bool
 frame_stops rules s = stops_of (status_of s.worlds) (snapshot_of s) s.worlds (frame_of rules s).scene.worlds
 
 -- a frame as the code leaves it, with the scene s
-pub record Frames (p : Played) (stops : Bool) (was : List ℕ) (place : ℕ) (s : Scene) (r : Framed) (last : List ℕ) : Type 0 where
+pub record Frames (p : Played) (stops : Bool) (was : Tape) (s : Scene) (at_stop : Bool) (now : Tape) : Type 0 where
   pub scene : s ≡ p.scene
-  pub stopped : r.stops ≡ stops
-  pub puts : Puts was place p.words r.at last
+  pub stopped : at_stop ≡ stops
+  pub puts : PutsOn was p.words now

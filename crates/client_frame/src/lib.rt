@@ -4,6 +4,7 @@
 
 ghost use Rattle.std.specs.Prelude.{◌≡◌, ◌+◌, ◌*◌, ◌<◌, ◌≤◌};
 ghost use Rattle.refusals.specs.Limits.{most_steps, buffer_room};
+ghost use Rattle.tape.specs.Sides.{side_number};
 ghost use Rattle.client.specs.Sides.{Plays, old_stamp_of};
 ghost use Rattle.client_publish.specs.Inner.{States};
 ghost use Rattle.client_frame.specs.Frame.{loads_of, loaded_queued, blended_on, reset_new, opened_of, caught_up_of, caught_of, simulated_of};
@@ -14,7 +15,7 @@ ghost use Rattle.client_frame.specs.Inner.{stops_by};
 use client::{
     ClientWorldSimulations, FastforwardingHealth, QueuedSnapshot, ReconciliationStatus, Scene,
 };
-use client_publish::Stated;
+use tape::{Side, Tape};
 use timestamp::Timestamp;
 
 // What a frame goes by: the most steps of the new world to catch up, and how far a blend's weight moves on.
@@ -22,13 +23,6 @@ use timestamp::Timestamp;
 pub struct Rules {
     pub m: u32,
     pub progress: f64,
-}
-
-// What a frame came to: the next place on the tape, and whether the Rust would have stopped in it.
-#[derive(Clone, Copy)]
-pub struct Framed {
-    pub at: usize,
-    pub stops: bool,
 }
 
 // The snapshot that a frame of this status loads.
@@ -66,67 +60,61 @@ pub(crate) fn blend_on(scene: &mut Scene, progress: f64)
     scene.worlds.weight = clamp(scene.worlds.weight + progress);
 }
 
-// The new world is set to the old one's stamp. Gives the next place on the tape.
-pub(crate) fn reset_new(scene: &mut Scene, tape: &mut [u32], at: usize) -> usize
-    requires { at < 3000000000 }
-    ensures plays { Plays (reset_new scene.old) tape.old at scene.new result tape.new }
-    ensures few { result ≤ at + buffer_room }
+// The new world is set to the old one's stamp.
+pub(crate) fn reset_new(scene: &mut Scene, tape: &mut Tape<'_>)
+    requires { tape.old.at < 3000000000 }
+    ensures plays { Plays (reset_new scene.old) tape.old scene.new tape.new }
+    ensures few { tape.new.at ≤ tape.old.at + buffer_room }
 {
     let side = scene.worlds.new_side();
     let old = scene.worlds.last_completed_timestamp();
-    scene.reset_side(side, old, tape, at)
+    scene.reset_side(side, old, tape);
 }
 
-// The queued snapshot is loaded into a side, where there is one. Gives the next place on the tape.
+// The queued snapshot is loaded into a side, where there is one.
 #[tactic(auto, unfolding(crate::specs::Frame::loaded_queued))]
 pub(crate) fn load_queued(
     scene: &mut Scene,
     queued: Option<QueuedSnapshot>,
-    side: u32,
-    tape: &mut [u32],
-    at: usize,
-) -> usize
-    requires { at < 3000000000 }
-    ensures plays { Plays (loaded_queued scene.old queued side) tape.old at scene.new result tape.new }
-    ensures few { result ≤ at + 1 }
+    side: Side,
+    tape: &mut Tape<'_>,
+)
+    requires { tape.old.at < 3000000000 }
+    ensures plays { Plays (loaded_queued scene.old queued (side_number side)) tape.old scene.new tape.new }
+    ensures few { tape.new.at ≤ tape.old.at + 1 }
 {
     match queued {
-        None => at,
-        Some(q) => client_load::load_snapshot(scene, side, q.stamp, q.handle, tape, at),
+        None => {}
+        Some(snapshot) => client_load::load_snapshot(scene, side, snapshot, tape),
     }
 }
 
 // What a frame begins with: awaiting, the sides are swapped for the queued snapshot; obsolete, it is loaded; overshot, the new world is reset.
-// Gives the next place on the tape.
 #[tactic(auto, unfolding(crate::specs::Frame::opened_of))]
 pub(crate) fn open(
     scene: &mut Scene,
     t: ReconciliationStatus,
     q: Option<QueuedSnapshot>,
     progress: f64,
-    tape: &mut [u32],
-    at: usize,
-) -> usize
-    requires { at < 3000000000 }
-    ensures plays { Plays (opened_of t q progress scene.old) tape.old at scene.new result tape.new }
-    ensures few { result ≤ at + buffer_room }
+    tape: &mut Tape<'_>,
+)
+    requires { tape.old.at < 3000000000 }
+    ensures plays { Plays (opened_of t q progress scene.old) tape.old scene.new tape.new }
+    ensures few { tape.new.at ≤ tape.old.at + buffer_room }
 {
     match t {
         ReconciliationStatus::AwaitingSnapshot => {
             let side = scene.worlds.old_side();
-            load_queued(scene, q, side, tape, at)
+            load_queued(scene, q, side, tape);
         }
-        ReconciliationStatus::Blending(_) => {
-            blend_on(scene, progress);
-            at
-        }
+        ReconciliationStatus::Blending(_) => blend_on(scene, progress),
         ReconciliationStatus::Fastforwarding(h) => match h {
-            FastforwardingHealth::Healthy => at,
+            FastforwardingHealth::Healthy => {}
             FastforwardingHealth::Obsolete => {
                 let side = scene.worlds.new_side();
-                load_queued(scene, q, side, tape, at)
+                load_queued(scene, q, side, tape);
             }
-            FastforwardingHealth::Overshot => reset_new(scene, tape, at),
+            FastforwardingHealth::Overshot => reset_new(scene, tape),
         },
     }
 }
@@ -138,34 +126,32 @@ pub(crate) fn has_caught_up(new: Timestamp, old: Timestamp) -> bool
     new.cmp(old).is_ge()
 }
 
-// The new world steps until it has reached the old one's stamp, m times at most. Gives the next place on the tape.
-pub(crate) fn catch_up(scene: &mut Scene, m: u32, tape: &mut [u32], at: usize) -> usize
-    requires { (at < 2500000000) × (m ≤ most_steps) }
-    ensures plays { Plays (caught_of m (old_stamp_of scene.old.worlds) scene.old) tape.old at scene.new result tape.new }
-    ensures few { result ≤ at + m * 65 }
+// The new world steps until it has reached the old one's stamp, m times at most.
+pub(crate) fn catch_up(scene: &mut Scene, m: u32, tape: &mut Tape<'_>)
+    requires { (tape.old.at < 2500000000) × (m ≤ most_steps) }
+    ensures plays { Plays (caught_of m (old_stamp_of scene.old.worlds) scene.old) tape.old scene.new tape.new }
+    ensures few { tape.new.at ≤ tape.old.at + m * 65 }
 {
     let old = scene.worlds.last_completed_timestamp();
-    let mut next = at;
     for _ in 0..m {
         if has_caught_up(scene.worlds.new_timestamp(), old) {
-            return next;
+            return;
         }
         let side = scene.worlds.new_side();
-        next = scene.step_side(side, tape, next);
+        scene.step_side(side, tape);
         scene.steps = scene.steps.wrapping_add(1);
     }
-    next
 }
 
-// The old world steps, and then the new one catches up. Gives the next place on the tape.
-pub(crate) fn simulate_next_frame(scene: &mut Scene, m: u32, tape: &mut [u32], at: usize) -> usize
-    requires { (at < 2100000000) × (m ≤ most_steps) }
-    ensures plays { Plays (simulated_of m scene.old) tape.old at scene.new result tape.new }
-    ensures few { result ≤ at + 65 + m * 65 }
+// The old world steps, and then the new one catches up.
+pub(crate) fn simulate_next_frame(scene: &mut Scene, m: u32, tape: &mut Tape<'_>)
+    requires { (tape.old.at < 2100000000) × (m ≤ most_steps) }
+    ensures plays { Plays (simulated_of m scene.old) tape.old scene.new tape.new }
+    ensures few { tape.new.at ≤ tape.old.at + 65 + m * 65 }
 {
     let side = scene.worlds.old_side();
-    let next = scene.step_side(side, tape, at);
-    catch_up(scene, m, tape, next)
+    scene.step_side(side, tape);
+    catch_up(scene, m, tape);
 }
 
 // Whether a frame of this status, that loads q, publishes by the weight and not the old world.
@@ -184,25 +170,24 @@ pub fn is_blended(t: ReconciliationStatus, q: Option<QueuedSnapshot>) -> bool
 }
 
 // The state that the frame publishes: by the weight, or the old world.
-pub(crate) fn publish_state(scene: &Scene, blended: bool, tape: &mut [u32], at: usize) -> Stated
-    requires { at < 3000000000 }
-    ensures { States (published_by blended scene.now) scene.now tape.old at result tape.new }
+pub(crate) fn publish_state(scene: &Scene, blended: bool, tape: &mut Tape<'_>) -> Option<Timestamp>
+    requires { tape.old.at < 3000000000 }
+    ensures { States (published_by blended scene.now) scene.now tape.old result tape.new }
 {
     if blended {
-        return client_publish::publish_blended_state(scene, tape, at);
+        return client_publish::publish_blended_state(scene, tape);
     }
-    client_publish::publish_old_state(scene, tape, at)
+    client_publish::publish_old_state(scene, tape)
 }
 
-// What the frame publishes. Gives the next place on the tape.
-pub(crate) fn publish(scene: &mut Scene, blended: bool, tape: &mut [u32], at: usize) -> usize
-    requires { at < 3000000000 }
-    ensures plays { Plays (published_by blended scene.old) tape.old at scene.new result tape.new }
-    ensures few { result ≤ at + 4 }
+// What the frame publishes.
+pub(crate) fn publish(scene: &mut Scene, blended: bool, tape: &mut Tape<'_>)
+    requires { tape.old.at < 3000000000 }
+    ensures plays { Plays (published_by blended scene.old) tape.old scene.new tape.new }
+    ensures few { tape.new.at ≤ tape.old.at + 4 }
 {
-    let stated = publish_state(scene, blended, tape, at);
-    client_publish::with_state(scene, stated.state);
-    stated.at
+    let state = publish_state(scene, blended, tape);
+    client_publish::with_state(scene, state);
 }
 
 // Whether a status is Fastforwarding with Obsolete.
@@ -258,30 +243,27 @@ pub(crate) fn stops(
     }
 }
 
-// The worlds' steps and what is published. Gives the next place on the tape.
-pub(crate) fn show(scene: &mut Scene, m: u32, blended: bool, tape: &mut [u32], at: usize) -> usize
-    requires { (at < 2100000000) × (m ≤ most_steps) }
-    ensures plays { Plays (shown_of m blended scene.old) tape.old at scene.new result tape.new }
-    ensures few { result ≤ at + 69 + m * 65 }
+// The worlds' steps and what is published.
+pub(crate) fn show(scene: &mut Scene, m: u32, blended: bool, tape: &mut Tape<'_>)
+    requires { (tape.old.at < 2100000000) × (m ≤ most_steps) }
+    ensures plays { Plays (shown_of m blended scene.old) tape.old scene.new tape.new }
+    ensures few { tape.new.at ≤ tape.old.at + 69 + m * 65 }
 {
-    let next = simulate_next_frame(scene, m, tape, at);
-    publish(scene, blended, tape, next)
+    simulate_next_frame(scene, m, tape);
+    publish(scene, blended, tape);
 }
 
-// One frame.
-pub fn step(scene: &mut Scene, rules: Rules, tape: &mut [u32], at: usize) -> Framed
-    requires { (at < 2000000000) × (rules.m ≤ most_steps) }
-    ensures frames { Frames (frame_of rules scene.old) (frame_stops rules scene.old) tape.old at scene.new result tape.new }
-    ensures few { result.at ≤ at + 5000 }
+// One frame. Gives whether the Rust would have stopped in it.
+pub fn step(scene: &mut Scene, rules: Rules, tape: &mut Tape<'_>) -> bool
+    requires { (tape.old.at < 2000000000) × (rules.m ≤ most_steps) }
+    ensures frames { Frames (frame_of rules scene.old) (frame_stops rules scene.old) tape.old scene.new result tape.new }
+    ensures few { tape.new.at ≤ tape.old.at + 5000 }
 {
     let t = scene.worlds.infer_current_reconciliation_status();
     let q = loads(t, scene.worlds.snapshots.queued);
     let old = scene.worlds.last_completed_timestamp();
     let new = scene.worlds.new_timestamp();
-    let opened = open(scene, t, q, rules.progress, tape, at);
-    let shown = show(scene, rules.m, is_blended(t, q), tape, opened);
-    Framed {
-        at: shown,
-        stops: stops(t, q, old, new, &scene.worlds),
-    }
+    open(scene, t, q, rules.progress, tape);
+    show(scene, rules.m, is_blended(t, q), tape);
+    stops(t, q, old, new, &scene.worlds)
 }

@@ -4,4 +4,4 @@ use Rattle.client_frame.proofs.Framing.{publishes_few}
 use Rattle.client_frame.proofs.publish.Goals as goal
 
 pub returns-clause-few : goal.returns-clause-few
-returns-clause-few c = omega (arith, c.publish_state-stated.ensures.puts.at, publishes_few c.args.blended c.args.scene.now)
+returns-clause-few c = omega (arith, c.publish_state-state.ensures.puts.at, publishes_few c.args.blended c.args.scene.now)

@@ -3,4 +3,4 @@ use Rattle.client_frame.proofs.Framing.{show_plays}
 use Rattle.client_frame.proofs.show.Goals as goal
 
 pub returns-clause-plays : goal.returns-clause-plays
-returns-clause-plays c = show_plays c.args.m c.args.blended c.args.scene.now c.simulate_next_frame-next.ensures.plays c.publish.ensures.plays
+returns-clause-plays c = show_plays c.args.m c.args.blended c.args.scene.now c.simulate_next_frame.ensures.plays c.publish.ensures.plays
