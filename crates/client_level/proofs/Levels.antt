@@ -59,7 +59,7 @@ module _ (c : Settings) (s : Scene) (o : Float) (single : is_single o c.timestep
 
   -- the run as the code leaves it
   pub level_advances : {u : Scene} {next : ℕ} {x : Float} {was last : List ℕ} → Plays (frame c s) was 0 u next last → x ≡ add binary64 o c.timestep
-      → Advances (run_of 65 c s o) was (record { scene = u; overshoot = x; frames = 1; at = next; stop = Done }) last
+      → Advances (run_of 65 c s o) was u (record { overshoot = x; frames = 1; at = next; stop = Done }) last
   unfolding framed
   level_advances h hx =
       record {
@@ -71,29 +71,29 @@ module _ (c : Settings) (s : Scene) (o : Float) (single : is_single o c.timestep
       }
 
   -- it ended by itself
-  pub level_done : {was last : List ℕ} {a : Advanced} → Advances (run_of 65 c s o) was a last → a.stop ≡ Done
+  pub level_done : {was last : List ℕ} {u : Scene} {a : Advanced} → Advances (run_of 65 c s o) was u a last → a.stop ≡ Done
   unfolding framed
   level_done h = h.stop ∙ ap (λ (r : Run). r.stop) single_run
 
   -- and there is no skip after it
-  pub level_stays : {was last : List ℕ} {a : Advanced} {t : Timestamp} {server : Float} → t ≡ old_stamp_of s.worlds
+  pub level_stays : {was last : List ℕ} {u : Scene} {a : Advanced} {t : Timestamp} {server : Float} → t ≡ old_stamp_of s.worlds
       → skips_of (next_stamp t) (add binary64 o c.timestep) server c ≡ false
-      → Advances (run_of 65 c s o) was a last → Skips a server c last a last
+      → Advances (run_of 65 c s o) was u a last → Skips u a server c last u a last
   unfolding framed
-  level_stays {was} {last} {a} {t} {server} ht hk h =
-      let e : a.scene ≡ (frame c s).scene = h.scene ∙ ap (λ (r : Run). r.played.scene) single_run in
+  level_stays {was} {last} {u} {a} {t} {server} ht hk h =
+      let e : u ≡ (frame c s).scene = h.scene ∙ ap (λ (r : Run). r.played.scene) single_run in
       let x : a.overshoot ≡ add binary64 o c.timestep = h.overshoot ∙ ap (λ (r : Run). r.overshoot) single_run in
-      let n : old_stamp_of a.scene.worlds ≡ next_stamp t = ap (λ (y : Scene). old_stamp_of y.worlds) e
+      let n : old_stamp_of u.worlds ≡ next_stamp t = ap (λ (y : Scene). old_stamp_of y.worlds) e
       ∙ (λ i. record { 0 = level_stamp (rules_of c) s level i }) ∙ ap next_stamp (sym ht) in
-      skip_none a server c last ((λ i. skips_of (n i) (x i) server c) ∙ hk)
+      skip_none u a server c last ((λ i. skips_of (n i) (x i) server c) ∙ hk)
 
 -- ---- an update
 
 module _ (c : Settings) (s : Scene) (o delta server : Float) {start d : Float} {stamp : Timestamp} (hs : stamp ≡ old_stamp_of s.worlds)
     (hd : d ≡ compensated_of stamp o delta server c) (ht : start ≡ sub binary64 o d) where
   -- one level frame, and no skip after it
-  pub update_level : {a : Advanced} {was last : List ℕ} → is_single start c.timestep ≡ true → is_level s.worlds c.m ≡ true
+  pub update_level : {u : Scene} {a : Advanced} {was last : List ℕ} → is_single start c.timestep ≡ true → is_level s.worlds c.m ≡ true
       → skips_of (next_stamp stamp) (add binary64 start c.timestep) server c ≡ false
-      → Advances (run_of 65 c s start) was a last → Advances (unended_of c s o delta server) was a last
+      → Advances (run_of 65 c s start) was u a last → Advances (unended_of c s o delta server) was u a last
   update_level single level k h =
       update_done c s o delta server hs hd ht h (level_done c s start single level h) (level_stays c s start single level hs k h)

@@ -35,10 +35,10 @@ pub skip_told : (stamp : Timestamp) (overshoot server : Float) (c : Settings) {o
 skip_told stamp overshoot server c ho ha hb = ap (λ (t : Timestamp). skips_of t overshoot server c) (sym ho) ∙ sym ha ∙ hb
 
 -- an answer, by what the skip after the frames is
-by_run : (a : Advanced) (server : Float) (c : Settings) (q : Run) {was last : List ℕ} {r : Advanced} → q ≡ maybe_skipped (run_by a []) server c
-    → r.scene ≡ q.played.scene → r.overshoot ≡ q.overshoot → r.frames ≡ a.frames → r.stop ≡ q.stop
-    → Puts was a.at q.played.words r.at last → Skips a server c was r last
-by_run a server c q e hs ho hf hp hw =
+by_run : (s : Scene) (a : Advanced) (server : Float) (c : Settings) (q : Run) {was last : List ℕ} {u : Scene} {r : Advanced}
+    → q ≡ maybe_skipped (run_by s a []) server c → u ≡ q.played.scene → r.overshoot ≡ q.overshoot → r.frames ≡ a.frames → r.stop ≡ q.stop
+    → Puts was a.at q.played.words r.at last → Skips s a server c was u r last
+by_run s a server c q e hs ho hf hp hw =
     record {
       scene = hs ∙ ap (λ (x : Run). x.played.scene) e;
       overshoot = ho ∙ ap (λ (x : Run). x.overshoot) e;
@@ -48,39 +48,39 @@ by_run a server c q e hs ho hf hp hw =
     }
 
 -- the run where there is a skip
-is_skipped : (a : Advanced) (server : Float) (c : Settings) → skips_of (old_stamp_of a.scene.worlds) a.overshoot server c ≡ true
-    → skipped (run_by a []) server c ≡ maybe_skipped (run_by a []) server c
+is_skipped : (s : Scene) (a : Advanced) (server : Float) (c : Settings) → skips_of (old_stamp_of s.worlds) a.overshoot server c ≡ true
+    → skipped (run_by s a []) server c ≡ maybe_skipped (run_by s a []) server c
 unfolding maybe_skipped
-is_skipped a server c h = ap (λ (b : Bool). cond b (skipped (run_by a []) server c) (run_by a [])) (sym h)
+is_skipped s a server c h = ap (λ (b : Bool). cond b (skipped (run_by s a []) server c) (run_by s a [])) (sym h)
 
 -- and where there is none
-not_skipped : (a : Advanced) (server : Float) (c : Settings) → skips_of (old_stamp_of a.scene.worlds) a.overshoot server c ≡ false
-    → run_by a [] ≡ maybe_skipped (run_by a []) server c
+not_skipped : (s : Scene) (a : Advanced) (server : Float) (c : Settings) → skips_of (old_stamp_of s.worlds) a.overshoot server c ≡ false
+    → run_by s a [] ≡ maybe_skipped (run_by s a []) server c
 unfolding maybe_skipped
-not_skipped a server c h = ap (λ (b : Bool). cond b (skipped (run_by a []) server c) (run_by a [])) (sym h)
+not_skipped s a server c h = ap (λ (b : Bool). cond b (skipped (run_by s a []) server c) (run_by s a [])) (sym h)
 
 -- a skip, by the calls that make it
-pub skip_made : (a : Advanced) (server : Float) (c : Settings) {was last : List ℕ} {target from difference overshoot : Float} {corrected : Timestamp}
-    {u : Scene} {next : ℕ}
-    → skips_of (old_stamp_of a.scene.worlds) a.overshoot server c ≡ true
+pub skip_made : (s : Scene) (a : Advanced) (server : Float) (c : Settings) {was last : List ℕ} {target from difference overshoot : Float}
+    {corrected : Timestamp} {u : Scene} {next : ℕ}
+    → skips_of (old_stamp_of s.worlds) a.overshoot server c ≡ true
     → target ≡ from_seconds server c.timestep → corrected.0 ≡ bits_of (ceil_stamp_of target) → from ≡ float_of corrected.0
     → difference ≡ float_difference_of from target → overshoot ≡ as_seconds difference c.timestep
-    → Plays (skipped_of a.scene corrected) was a.at u next last
-    → Skips a server c was (record { scene = u; overshoot = overshoot; frames = a.frames; at = next; stop = a.stop }) last
+    → Plays (skipped_of s corrected) was a.at u next last
+    → Skips s a server c was u (record { overshoot = overshoot; frames = a.frames; at = next; stop = a.stop }) last
 unfolding skipped and_then corrected_of corrected_overshoot
-skip_made a server c {was} {last} {target} {from} {difference} {overshoot} {corrected} h ht hc hf hd ho p =
+skip_made s a server c {was} {last} {target} {from} {difference} {overshoot} {corrected} h ht hc hf hd ho p =
     let e : corrected ≡ corrected_of server c.timestep = ap (λ (n : ℕ). record { 0 = n }) (hc ∙ ap (λ (x : Float). bits_of (ceil_stamp_of x)) ht) in
-    by_run a server c (skipped (run_by a []) server c) (is_skipped a server c h)
-    (p.scene ∙ ap (λ (t : Timestamp). (skipped_of a.scene t).scene) e)
+    by_run s a server c (skipped (run_by s a []) server c) (is_skipped s a server c h)
+    (p.scene ∙ ap (λ (t : Timestamp). (skipped_of s t).scene) e)
     (ho ∙ ap (λ (x : Float). as_seconds x c.timestep) (hd ∙ (λ i. float_difference_of ((hf ∙ ap (λ (t : Timestamp). float_of t.0) e) i) (ht i))))
     refl
     refl
-    (puts_as (ap (λ (t : Timestamp). (skipped_of a.scene t).words) e) p.puts)
+    (puts_as (ap (λ (t : Timestamp). (skipped_of s t).words) e) p.puts)
 
 -- no skip
-pub skip_none : (a : Advanced) (server : Float) (c : Settings) (was : List ℕ) → skips_of (old_stamp_of a.scene.worlds) a.overshoot server c ≡ false
-    → Skips a server c was a was
-skip_none a server c was h = by_run a server c (run_by a []) (not_skipped a server c h) refl refl refl refl (puts_none was a.at)
+pub skip_none : (s : Scene) (a : Advanced) (server : Float) (c : Settings) (was : List ℕ)
+    → skips_of (old_stamp_of s.worlds) a.overshoot server c ≡ false → Skips s a server c was s a was
+skip_none s a server c was h = by_run s a server c (run_by s a []) (not_skipped s a server c h) refl refl refl refl (puts_none was a.at)
 
 -- what an update ends with, by the calls that make it
 pub ended_is : (c : Settings) (w : ClientWorldSimulations) (o : Float) {x t : Float} {lag : ℕ} {v : ClientWorldSimulations}

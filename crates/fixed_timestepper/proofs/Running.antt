@@ -4,7 +4,7 @@ use mathlib.Core.Bool.{Bool, true, false}
 use mathlib.Core.List.{List}
 use Prim.Native.Nat.{ℕ, zero, suc, ◌+◌, ◌-◌, ◌*◌, ◌≤◌, ◌<◌}
 use native.Mathlib.Omega.{arith}
-use lib.ListN.{length, length-append}
+use lib.ListN.{length}
 use lib.Ieee.{Float, binary64, add, lt}
 use Rattle.tape.specs.Tape.{Puts}
 use Rattle.tape.proofs.Writing.{puts_none, puts_then, puts_as, puts-length}
@@ -14,18 +14,16 @@ use Rattle.client.specs.declared.Scene.{Scene}
 use Rattle.client_frame.specs.declared.Framed.{Framed}
 use Rattle.client_frame.specs.declared.Rules.{Rules}
 use Rattle.client_frame.specs.Frame.{frame_of, frame_stops, Frames}
-use Rattle.client_frame.proofs.Bounds.{Few, frame_short}
 use Rattle.refusals.specs.declared.Stop.{Stop}
 use Rattle.refusals.specs.declared.Stop.TheVariants.{Done, TooManyFrames, StatusStops}
 use Rattle.fixed_timestepper.specs.TimeKeeper.{rules_of, Run, ended, framed, goes_on, while_below, run_of, Advances}
 use Rattle.timestamp.specs.Floats.{zero64}
-use Rattle.fixed_timestepper.proofs.Induction.{frame, Runs, run_by}
+use Rattle.fixed_timestepper.proofs.Induction.{frame}
 
 -- n frames were played from the scene `from`; the run q is what is left, from the scene s and the place p on
 pub record Running (c : Settings) (from : Scene) (start : Float) (was tape : List ℕ) (s : Scene) (o : Float) (p n : ℕ) : Type 0 where
   pub bound : n ≤ 65
-  pub held : Few s.worlds
-  pub at : p ≤ n * 4293
+  pub at : p ≤ n * 5000
   pub len : length tape ≡ length was
   pub scene : (run_of (65 - n) c s o).played.scene ≡ (run_of 65 c from start).played.scene
   pub overshoot : (run_of (65 - n) c s o).overshoot ≡ (run_of 65 c from start).overshoot
@@ -34,11 +32,10 @@ pub record Running (c : Settings) (from : Scene) (start : Float) (was tape : Lis
   pub puts : (q : ℕ) (last : List ℕ) → Puts tape p (run_of (65 - n) c s o).played.words q last → Puts was 0 (run_of 65 c from start).played.words q last
 
 -- before the first frame
-pub running_start : (c : Settings) (from : Scene) (start : Float) (was : List ℕ) → Few from.worlds → Running c from start was was from start 0 0
-running_start c from start was h =
+pub running_start : (c : Settings) (from : Scene) (start : Float) (was : List ℕ) → Running c from start was was from start 0 0
+running_start c from start was =
     record {
       bound = omega arith;
-      held = h;
       at = omega arith;
       len = refl;
       scene = refl;
@@ -51,7 +48,7 @@ running_start c from start was h =
 -- the run is over: q is what is left, and it puts nothing more
 over_with : (c : Settings) (from : Scene) (start : Float) {was tape : List ℕ} {s : Scene} {o : Float} {p n : ℕ} (x : Stop)
     → Running c from start was tape s o p n → run_of (65 - n) c s o ≡ ended x s o
-    → Advances (run_of 65 c from start) was (record { scene = s; overshoot = o; frames = n; at = p; stop = x }) tape
+    → Advances (run_of 65 c from start) was s (record { overshoot = o; frames = n; at = p; stop = x }) tape
 over_with c from start {was} {tape} {s} {o} {p} {n} x r e =
     record {
       scene = sym (ap (λ (y : Run). y.played.scene) e) ∙ r.scene;
@@ -74,7 +71,7 @@ done_at_lem (suc k) c s o h = ap (λ (b : Bool). while_below b s o (onward k c s
 
 pub running_done : (c : Settings) (from : Scene) (start : Float) {was tape : List ℕ} {s : Scene} {o : Float} {p n : ℕ}
     → Running c from start was tape s o p n → lt o zero64 ≡ false
-    → Advances (run_of 65 c from start) was (record { scene = s; overshoot = o; frames = n; at = p; stop = Done }) tape
+    → Advances (run_of 65 c from start) was s (record { overshoot = o; frames = n; at = p; stop = Done }) tape
 running_done c from start {was} {tape} {s} {o} {p} {n} r h = over_with c from start Done r (done_at_lem (65 - n) c s o h)
 
 -- a 66th frame
@@ -84,7 +81,7 @@ full_at c s o h = ap (λ (b : Bool). while_below b s o (ended TooManyFrames s o)
 
 pub running_full : (c : Settings) (from : Scene) (start : Float) {was tape : List ℕ} {s : Scene} {o : Float} {p n : ℕ}
     → Running c from start was tape s o p n → lt o zero64 ≡ true → n ≡ 65
-    → Advances (run_of 65 c from start) was (record { scene = s; overshoot = o; frames = n; at = p; stop = TooManyFrames }) tape
+    → Advances (run_of 65 c from start) was s (record { overshoot = o; frames = n; at = p; stop = TooManyFrames }) tape
 running_full c from start {was} {tape} {s} {o} {p} {n} r h e =
     let z : 65 - n ≡ 0 = omega arith in
     over_with c from start TooManyFrames r (ap (λ (k : ℕ). run_of k c s o) z ∙ full_at c s o h)
@@ -98,8 +95,8 @@ unfolding run_of
 goes_at k c s o h = ap (λ (b : Bool). while_below b s o (onward k c s o)) h
 
 module _ (c : Settings) (from : Scene) (start : Float) {was tape mid : List ℕ} {s u : Scene} {o : Float} {p n : ℕ} {f : Framed}
-    (r : Running c from start was tape s o p n) (below : lt o zero64 ≡ true) (few : n < 65) (small : c.m ≤ 64)
-    (h : Frames (frame c s) (frame_stops (rules_of c) s) tape p u f mid) where
+    (r : Running c from start was tape s o p n) (below : lt o zero64 ≡ true) (few : n < 65)
+    (h : Frames (frame c s) (frame_stops (rules_of c) s) tape p u f mid) (near : f.at ≤ p + 5000) where
   -- what is left after the frame
   after : Bool → Run
   after b = goes_on b (frame c s).scene (add binary64 o c.timestep) (run_of (65 - (n + 1)) c (frame c s).scene (add binary64 o c.timestep))
@@ -111,8 +108,8 @@ module _ (c : Settings) (from : Scene) (start : Float) {was tape mid : List ℕ}
       ap (λ (k : ℕ). run_of k c s o) e ∙ goes_at (65 - (n + 1)) c s o below
 
   -- after the frame the place is within its bound
-  place : f.at ≤ (n + 1) * 4293
-  place = omega (arith, h.puts.at, (frame_short (rules_of c) s r.held).words, r.at)
+  place : f.at ≤ (n + 1) * 5000
+  place = omega (arith, near, r.at)
 
   -- the frame, and then a run q, in place of what was left
   joined : (q : Run) → run_of (65 - n) c s o ≡ framed (rules_of c) s q
@@ -130,7 +127,7 @@ module _ (c : Settings) (from : Scene) (start : Float) {was tape mid : List ℕ}
 
   -- a frame that the Rust stops in
   pub running_stops : {x : Float} → f.stops ≡ true → x ≡ add binary64 o c.timestep
-      → Advances (run_of 65 c from start) was (record { scene = u; overshoot = x; frames = n + 1; at = f.at; stop = StatusStops }) mid
+      → Advances (run_of 65 c from start) was u (record { overshoot = x; frames = n + 1; at = f.at; stop = StatusStops }) mid
   unfolding after
   running_stops hs hx =
       let j = joined (ended StatusStops (frame c s).scene (add binary64 o c.timestep))
@@ -152,8 +149,7 @@ module _ (c : Settings) (from : Scene) (start : Float) {was tape mid : List ℕ}
       let e : run_of (65 - (n + 1)) c u x ≡ q = λ i. run_of (65 - (n + 1)) c (h.scene i) (hx i) in
       record {
         bound = omega arith;
-        held = subst (λ (y : Scene). Few y.worlds) (sym h.scene) (frame_short (rules_of c) s r.held).few;
-        at = place;
+          at = place;
         len = puts-length h.puts ∙ r.len;
         scene = ap (λ (y : Run). y.played.scene) e ∙ j.0;
         overshoot = ap (λ (y : Run). y.overshoot) e ∙ j.1;
@@ -174,19 +170,3 @@ rules_as c e = λ i. record { m = c.m; progress = e i }
 pub framed_as : (c : Settings) (s : Scene) {rules : Rules} {was last : List ℕ} {place : ℕ} {u : Scene} {f : Framed} → rules ≡ rules_of c
     → Frames (frame_of rules s) (frame_stops rules s) was place u f last → Frames (frame c s) (frame_stops (rules_of c) s) was place u f last
 framed_as c s {rules} {was} {last} {place} {u} {f} e h = subst (λ (r : Rules). Frames (frame_of r s) (frame_stops r s) was place u f last) e h
-
--- ---- how many words a run puts
-
--- at most 4,293 words a frame
-short_runs : (c : Settings) → c.m ≤ 64 → Runs c (λ n s o r. Few s.worlds → length r.played.words ≤ n * 4293)
-unfolding framed
-short_runs c m =
-    record {
-      full = λ s o e h. omega arith;
-      done = λ n s o e h. omega arith;
-      stops = λ n s o e h. simp length-append (omega (arith, (frame_short (rules_of c) s h).words));
-      goes = λ n s o r e k h. simp length-append (omega (arith, (frame_short (rules_of c) s h).words, k (frame_short (rules_of c) s h).few));
-    }
-
-pub run_few : (n : ℕ) (c : Settings) → c.m ≤ 64 → (s : Scene) (o : Float) → Few s.worlds → length (run_of n c s o).played.words ≤ n * 4293
-run_few n c m s o = run_by (short_runs c m) n s o

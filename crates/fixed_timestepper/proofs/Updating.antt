@@ -19,44 +19,44 @@ use Rattle.fixed_timestepper.specs.Inner.{run_by, Skips}
 -- ---- the skip turns on the scene and the overshoot of a run alone
 
 -- a run that has the scene and the overshoot of an answer
-module _ (a : Advanced) (q : Run) (server : Float) (c : Settings) (hs : a.scene ≡ q.played.scene) (ho : a.overshoot ≡ q.overshoot)
+module _ (s : Scene) (a : Advanced) (q : Run) (server : Float) (c : Settings) (hs : s ≡ q.played.scene) (ho : a.overshoot ≡ q.overshoot)
     (hf : a.frames ≡ q.frames) (hp : a.stop ≡ q.stop) where
   -- the same run, its scene and the rest written as the answer has them
   same : Run
-  same = record { played = record { scene = a.scene; words = q.played.words }; overshoot = a.overshoot; frames = a.frames; stop = a.stop }
+  same = record { played = record { scene = s; words = q.played.words }; overshoot = a.overshoot; frames = a.frames; stop = a.stop }
 
   same_is : same ≡ q
   unfolding same
   same_is = λ i. record { played = record { scene = hs i; words = q.played.words }; overshoot = ho i; frames = hf i; stop = hp i }
 
   -- what the skip after it has in common with the skip after the answer
-  common_by : (b : Bool) → ((cond b (skipped same server c) same).played.scene ≡ (cond b (skipped (run_by a []) server c) (run_by a [])).played.scene)
-      × ((cond b (skipped same server c) same).overshoot ≡ (cond b (skipped (run_by a []) server c) (run_by a [])).overshoot)
+  common_by : (b : Bool) → ((cond b (skipped same server c) same).played.scene ≡ (cond b (skipped (run_by s a []) server c) (run_by s a [])).played.scene)
+      × ((cond b (skipped same server c) same).overshoot ≡ (cond b (skipped (run_by s a []) server c) (run_by s a [])).overshoot)
       × ((cond b (skipped same server c) same).frames ≡ a.frames)
-      × (q.played.words ++ (cond b (skipped (run_by a []) server c) (run_by a [])).played.words ≡ (cond b (skipped same server c) same).played.words)
+      × (q.played.words ++ (cond b (skipped (run_by s a []) server c) (run_by s a [])).played.words ≡ (cond b (skipped same server c) same).played.words)
   unfolding same skipped and_then
   common_by true = (refl, refl, refl, refl)
   common_by false = (refl, refl, refl, append-nil q.played.words)
 
-  common : ((maybe_skipped same server c).played.scene ≡ (maybe_skipped (run_by a []) server c).played.scene)
-      × ((maybe_skipped same server c).overshoot ≡ (maybe_skipped (run_by a []) server c).overshoot) × ((maybe_skipped same server c).frames ≡ a.frames)
-      × (q.played.words ++ (maybe_skipped (run_by a []) server c).played.words ≡ (maybe_skipped same server c).played.words)
+  common : ((maybe_skipped same server c).played.scene ≡ (maybe_skipped (run_by s a []) server c).played.scene)
+      × ((maybe_skipped same server c).overshoot ≡ (maybe_skipped (run_by s a []) server c).overshoot) × ((maybe_skipped same server c).frames ≡ a.frames)
+      × (q.played.words ++ (maybe_skipped (run_by s a []) server c).played.words ≡ (maybe_skipped same server c).played.words)
   unfolding maybe_skipped same
-  common = common_by (skips_of (old_stamp_of a.scene.worlds) a.overshoot server c)
+  common = common_by (skips_of (old_stamp_of s.worlds) a.overshoot server c)
 
-  stop_by : (b : Bool) → (cond b (skipped same server c) same).stop ≡ (cond b (skipped (run_by a []) server c) (run_by a [])).stop
+  stop_by : (b : Bool) → (cond b (skipped same server c) same).stop ≡ (cond b (skipped (run_by s a []) server c) (run_by s a [])).stop
   unfolding same skipped
   stop_by true = refl
   stop_by false = refl
 
-  stop_is : (maybe_skipped same server c).stop ≡ (maybe_skipped (run_by a []) server c).stop
+  stop_is : (maybe_skipped same server c).stop ≡ (maybe_skipped (run_by s a []) server c).stop
   unfolding maybe_skipped same
-  stop_is = stop_by (skips_of (old_stamp_of a.scene.worlds) a.overshoot server c)
+  stop_is = stop_by (skips_of (old_stamp_of s.worlds) a.overshoot server c)
 
   -- the skip after the frames
-  pub skips_well : {k : Advanced} {was mid last : List ℕ} → Puts was 0 q.played.words a.at mid → Skips a server c mid k last
-      → Advances (maybe_skipped q server c) was k last
-  skips_well {k} {was} {mid} {last} hw h =
+  pub skips_well : {u : Scene} {k : Advanced} {was mid last : List ℕ} → Puts was 0 q.played.words a.at mid → Skips s a server c mid u k last
+      → Advances (maybe_skipped q server c) was u k last
+  skips_well {u} {k} {was} {mid} {last} hw h =
       let m : maybe_skipped same server c ≡ maybe_skipped q server c = ap (λ (y : Run). maybe_skipped y server c) same_is in
       record {
         scene = h.scene ∙ sym common.0 ∙ ap (λ (y : Run). y.played.scene) m;
@@ -76,20 +76,21 @@ module _ (c : Settings) (s : Scene) (o delta server : Float) {start d : Float} {
   starts = ap (run_of 65 c s) (ht ∙ ap (sub binary64 o) (hd ∙ ap (λ (t : Timestamp). compensated_of t o delta server c) hs))
 
   -- what comes after the frames, by why they ended
-  update_by_lem : (x : Stop) {r : Advanced} {was last : List ℕ} → (run_of 65 c s start).stop ≡ x
-      → Advances (skipped_by x (run_of 65 c s start) server c) was r last → Advances (unended_of c s o delta server) was r last
+  update_by_lem : (x : Stop) {u : Scene} {r : Advanced} {was last : List ℕ} → (run_of 65 c s start).stop ≡ x
+      → Advances (skipped_by x (run_of 65 c s start) server c) was u r last → Advances (unended_of c s o delta server) was u r last
   unfolding unended_of
-  update_by_lem x {r} {was} {last} e h =
-      subst (λ (y : Run). Advances y was r last) ((λ i. skipped_by (sym e i) (run_of 65 c s start) server c)
+  update_by_lem x {u} {r} {was} {last} e h =
+      subst (λ (y : Run). Advances y was u r last) ((λ i. skipped_by (sym e i) (run_of 65 c s start) server c)
       ∙ ap (λ (q : Run). skipped_by q.stop q server c) starts) h
 
   -- the frames ended by themselves
-  pub update_done : {a k : Advanced} {was mid last : List ℕ} → Advances (run_of 65 c s start) was a mid → a.stop ≡ Done → Skips a server c mid k last
-      → Advances (unended_of c s o delta server) was k last
-  update_done {a} h e hk = update_by_lem Done (sym h.stop ∙ e)
-      (skips_well a (run_of 65 c s start) server c h.scene h.overshoot h.frames h.stop h.puts hk)
+  pub update_done : {v u : Scene} {a k : Advanced} {was mid last : List ℕ} → Advances (run_of 65 c s start) was v a mid → a.stop ≡ Done
+      → Skips v a server c mid u k last → Advances (unended_of c s o delta server) was u k last
+  update_done {v} {u} {a} h e hk = update_by_lem Done (sym h.stop ∙ e)
+      (skips_well v a (run_of 65 c s start) server c h.scene h.overshoot h.frames h.stop h.puts hk)
 
   -- the frames were stopped
-  pub update_stopped : {a : Advanced} {was mid : List ℕ} (x : Stop) → Advances (run_of 65 c s start) was a mid → a.stop ≡ x
-      → ((r : Run) → skipped_by x r server c ≡ r) → Advances (unended_of c s o delta server) was a mid
-  update_stopped {a} {was} {mid} x h e k = update_by_lem x (sym h.stop ∙ e) (subst (λ (y : Run). Advances y was a mid) (sym (k (run_of 65 c s start))) h)
+  pub update_stopped : {v : Scene} {a : Advanced} {was mid : List ℕ} (x : Stop) → Advances (run_of 65 c s start) was v a mid → a.stop ≡ x
+      → ((r : Run) → skipped_by x r server c ≡ r) → Advances (unended_of c s o delta server) was v a mid
+  update_stopped {v} {a} {was} {mid} x h e k =
+      update_by_lem x (sym h.stop ∙ e) (subst (λ (y : Run). Advances y was v a mid) (sym (k (run_of 65 c s start))) h)

@@ -161,9 +161,9 @@ finished_of c r = ends_with r (ended_of c r.played.scene.worlds r.overshoot)
 unfoldable pub updated_of : Settings → Scene → Float → Float → Float → Run
 updated_of c s o delta server = finished_of c (unended_of c s o delta server)
 
--- a run as the code leaves it: its words are on the tape from its start on
-pub record Advances (r : Run) (was : List ℕ) (a : Advanced) (last : List ℕ) : Type 0 where
-  pub scene : a.scene ≡ r.played.scene
+-- a run as the code leaves it, and the scene u after it: its words are on the tape from its start on
+pub record Advances (r : Run) (was : List ℕ) (u : Scene) (a : Advanced) (last : List ℕ) : Type 0 where
+  pub scene : u ≡ r.played.scene
   pub overshoot : a.overshoot ≡ r.overshoot
   pub frames : a.frames ≡ r.frames
   pub stop : a.stop ≡ r.stop

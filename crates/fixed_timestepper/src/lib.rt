@@ -2,7 +2,7 @@
 // in its order.
 #![tactic(auto)]
 
-ghost use Rattle.std.specs.Prelude.{◌≡◌, true, ◌≤◌, ◌<◌};
+ghost use Rattle.std.specs.Prelude.{◌≡◌, true, ◌≤◌, ◌<◌, ◌*◌};
 ghost use Rattle.fixed_timestepper.specs.TimeKeeper.{at_least_zero, logical_of, drift_of, beyond_deadband, compensated_of, rules_of, run_of, skips_of};
 ghost use Rattle.fixed_timestepper.specs.TimeKeeper.{Advances};
 ghost use Rattle.fixed_timestepper.specs.TimeKeeper.{ended_of, unended_of};
@@ -19,7 +19,6 @@ use timestamp::{FloatTimestamp, Timestamp};
 // Frames that were played: how many, the overshoot after them, the next place on the tape, and why they ended.
 #[derive(Clone, Copy)]
 pub struct Advanced {
-    pub scene: Scene,
     pub overshoot: f64,
     pub frames: u32,
     pub at: usize,
@@ -116,36 +115,34 @@ pub fn frame_rules(settings: Settings) -> Rules
 
 // Frames while the overshoot is negative, 65 at most.
 pub(crate) fn advance(
-    scene: Scene,
+    scene: &mut Scene,
     overshoot: f64,
     settings: Settings,
     tape: &mut [u32],
 ) -> Advanced
     requires { settings.m ≤ most_steps }
-    ensures { Advances (run_of most_frames settings scene overshoot) tape.old result tape.new }
+    ensures advances { Advances (run_of most_frames settings scene.old overshoot) tape.old scene.new result tape.new }
+    ensures few { result.at ≤ most_frames * 5000 }
 {
     let rules = frame_rules(settings);
-    let mut s = scene;
     let mut o = overshoot;
     let mut p: usize = 0;
     let mut n: u32 = 0;
     while o < 0.0 {
         if n == refusals::MOST_FRAMES {
             return Advanced {
-                scene: s,
                 overshoot: o,
                 frames: n,
                 at: p,
                 stop: Stop::TooManyFrames,
             };
         }
-        let f = client_frame::step(&mut s, rules, tape, p);
+        let f = client_frame::step(scene, rules, tape, p);
         p = f.at;
         n += 1;
         o = o + settings.timestep;
         if f.stops {
             return Advanced {
-                scene: s,
                 overshoot: o,
                 frames: n,
                 at: p,
@@ -154,7 +151,6 @@ pub(crate) fn advance(
         }
     }
     Advanced {
-        scene: s,
         overshoot: o,
         frames: n,
         at: p,
@@ -170,52 +166,46 @@ pub fn skips(stamp: Timestamp, overshoot: f64, server: f64, settings: Settings) 
 }
 
 // The skip where the drift is at or beyond the threshold: to the server's frame, rounded up.
-pub(crate) fn timeskip(a: Advanced, server: f64, settings: Settings, tape: &mut [u32]) -> Advanced
+pub(crate) fn timeskip(
+    scene: &mut Scene,
+    a: Advanced,
+    server: f64,
+    settings: Settings,
+    tape: &mut [u32],
+) -> Advanced
     requires { a.at < 2500000000 }
-    ensures { Skips a server settings tape.old result tape.new }
+    ensures { Skips scene.old a server settings tape.old scene.new result tape.new }
 {
     let t = settings.timestep;
-    let stamp = a.scene.worlds.last_completed_timestamp();
+    let stamp = scene.worlds.last_completed_timestamp();
     if skips(stamp, a.overshoot, server, settings) {
         let target = FloatTimestamp::from_seconds(server, t);
         let corrected = target.ceil();
         let overshoot = FloatTimestamp::from_timestamp(corrected)
             .sub(target)
             .as_seconds(t);
-        let mut scene = a.scene;
-        let at = client_skip::reset_last_completed_timestamp(&mut scene, corrected, tape, a.at);
-        return Advanced {
-            scene,
-            overshoot,
-            at,
-            ..a
-        };
+        let at = client_skip::reset_last_completed_timestamp(scene, corrected, tape, a.at);
+        return Advanced { overshoot, at, ..a };
     }
     a
 }
 
-// The worlds that an update ends with: its tween weight is shaped, and the time to display is worked out with it.
-pub fn ended(
-    worlds: ClientWorldSimulations,
-    overshoot: f64,
-    settings: Settings,
-) -> ClientWorldSimulations
-    ensures { result ≡ ended_of settings worlds overshoot }
+// What every update ends with: the tween weight is shaped, and the time to display is worked out with it.
+pub fn ended(worlds: &mut ClientWorldSimulations, overshoot: f64, settings: Settings)
+    ensures { worlds.exit.now ≡ ended_of settings worlds.entry.now overshoot }
 {
     let w = client_publish::ending::tween_weight(overshoot, settings.timestep);
-    let mut ended = worlds;
     client_publish::ending::post_update(
-        &mut ended,
+        worlds,
         settings.method.shape_interpolation_t(w),
         settings.lag_compensation_frame_count(),
     );
-    ended
 }
 
 // The frames and the skip of an update, by the delta and the server's time. What it ends with is left to the caller, who first looks at
-// all refusals: so no way out of here copies the worlds for a refusal.
+// all refusals.
 pub fn update(
-    scene: Scene,
+    scene: &mut Scene,
     overshoot: f64,
     delta: f64,
     server: f64,
@@ -223,7 +213,7 @@ pub fn update(
     tape: &mut [u32],
 ) -> Advanced
     requires { settings.m ≤ most_steps }
-    ensures { Advances (unended_of settings scene overshoot delta server) tape.old result tape.new }
+    ensures { Advances (unended_of settings scene.old overshoot delta server) tape.old scene.new result tape.new }
 {
     let stamp = scene.worlds.last_completed_timestamp();
     let c = compensated_delta(stamp, overshoot, delta, server, settings);
@@ -231,7 +221,7 @@ pub fn update(
     let a = advance(scene, start, settings, tape);
     let stop = a.stop;
     match stop {
-        Stop::Done => timeskip(a, server, settings, tape),
+        Stop::Done => timeskip(scene, a, server, settings, tape),
         Stop::TooManyFrames => a,
         Stop::StatusStops => a,
     }

@@ -1,1 +1,2 @@
 pub mod Scanning
+pub mod Arriving

@@ -1,32 +1,34 @@
--- What open and update come to, over plain values: each way that an update ends, from what its parts answered. Assumes nothing.
+-- What update comes to, over plain values: each way that an update ends, from what its parts answered. Assumes nothing.
 use mathlib.Core.Path.{◌≡◌, refl, ap, sym, ◌∙◌, subst}
-use mathlib.Core.Bool.{Bool, true}
+use mathlib.Core.Bool.{Bool, true, false, cond}
 use mathlib.Core.List.{List, ◌++◌}
 use Prim.Native.Nat.{ℕ, ◌-◌, ◌≤◌}
 use native.Mathlib.Omega.{arith}
-use lib.Dec.{leb}
+use lib.Dec.{leb, ltb}
 use lib.ListN.{length, replicate}
 use lib.Ieee.{Float, binary64, add}
-use borrow.Author.Tests.{leb-true}
+use borrow.Author.Tests.{leb-true, ltb-true}
 use Rattle.timestamp.proofs.Tests.{apart}
-use Rattle.refusals.specs.Limits.{most_steps}
+use Rattle.refusals.specs.Limits.{most_steps, most_words}
 use Rattle.std.specs.Prelude.{Ok, Err}
 use Rattle.refusals.specs.declared.Refusal.{Refusal}
+use Rattle.refusals.specs.declared.Refusal.TheVariants.{Length}
 use Rattle.refusals.specs.Refusals.{Verdict, accepted, once_verdict_by, syncing_verdict_by, arrival_verdict_by, end_verdict_by}
-use Rattle.refusals.proofs.Accepted.{once_accepted, end_accepted}
+use Rattle.refusals.proofs.Accepted.{turned_down, once_accepted, end_accepted}
+use Rattle.settings.specs.declared.Settings.{Settings}
 use Rattle.settings.specs.Settings.{passes_of}
 use Rattle.settings.proofs.Limits.{steps_few}
 use Rattle.clocksync.specs.declared.Clock.{Clock}
 use Rattle.clocksync.specs.declared.Heard.{Heard}
 use Rattle.clocksync.specs.declared.Ticked.{Ticked}
 use Rattle.clocksync.specs.Clock.{ticked_of, listen_of, settled_of, server_seconds_of}
+use Rattle.inbox_refusal.proofs.Refusals.{refusal_long}
 use Rattle.inbox_refusal.specs.Refusal.{refusal_of}
 use Rattle.tape.specs.Tape.{cleared}
 use Rattle.tape.proofs.Writing.{puts-length, cleared_after}
-use Rattle.client.specs.declared.ClientWorldSimulations.{ClientWorldSimulations}
 use Rattle.client_receive.specs.Receive.{Received}
 use Rattle.client.specs.declared.Scene.{Scene}
-use Rattle.client.specs.Sides.{with_worlds}
+use Rattle.client.specs.Sides.{old_stamp_of, with_worlds, with_snapshots}
 use Rattle.client_receive.specs.Receive.{none_received}
 use Rattle.client_publish.specs.Ending.{weight_ok}
 use Rattle.timestamp.specs.Floats.{tween_of}
@@ -35,7 +37,11 @@ use Rattle.fixed_timestepper.specs.TimeKeeper.{Run, ended_of, finished_of, unend
 use Rattle.session_state.specs.declared.Session.{Session}
 use Rattle.session_state.specs.Session.{has_worlds, session_with}
 use Rattle.session_state.specs.Sound.{sound_of}
-use Rattle.inbox_passes.specs.Passes.{has_for_worlds, heard_in, received_in, noted_in}
+use Rattle.inbox_passes.specs.Passes.{has_for_worlds, heard_in, received_in}
+use Rattle.inbox_scan.specs.declared.Scan.{Scan}
+use Rattle.inbox_scan.specs.Scan.{has_command, kept_in, Scans}
+use Rattle.inbox_scan.proofs.Arriving.{received_noted}
+use Rattle.client.specs.declared.Snapshots.{Snapshots}
 use Rattle.session_answers.specs.declared.UpdateAnswer.{UpdateAnswer}
 use Rattle.session_answers.specs.Answers.{Reply, unplayed_of, refused_with, unless_refused, accepted_of, Updates}
 use Rattle.session_stage.specs.Stage.{synced_of, stage_after}
@@ -43,9 +49,9 @@ use Rattle.session_state.specs.Session.{scene_of}
 use Rattle.client.specs.Ledgers.{closed_of}
 use Rattle.session_answers.specs.Inner.{accepted_by}
 use Rattle.std.specs.Prelude.{unwrap_or}
-use Rattle.session.specs.Calls.{times_ok, heard_other, clock_after, request_of, clock_moved_of, clock_update_of, concluded_of, verdict_at_once}
+use Rattle.session.specs.Calls.{times_ok, heard_other, clock_after, request_of, clock_update_of, concluded_of, verdict_at_once}
 use Rattle.session.specs.Calls.{lagged_of, unreceived, scene_after, played_of, worlds_update_of, update_by, update_of}
-use Rattle.session.specs.Inner.{end_verdict_of, unended_with}
+use Rattle.session.specs.Inner.{Scanned, clock_moved_by, arrived_in, end_verdict_of}
 
 -- ---- refused or not
 
@@ -78,46 +84,67 @@ once_few s delta seconds inbox hn e =
     let k = once_accepted (times_ok delta seconds) (refusal_of inbox) (sound_of s) (sym hn ∙ e) in
     (steps_few s.settings (apart (passes_of s.settings) _ k.2).0).1
 
+-- ---- what an inbox holds
+
+-- an inbox that is not refused is not too long
+not_long : (words : List ℕ) → refusal_of words ≡ accepted → ltb most_words (length words) ≡ false
+not_long words h = go (ltb most_words (length words)) refl
+  where
+    go : (x : Bool) → ltb most_words (length words) ≡ x → x ≡ false
+    go true e = turned_down Length (refusal_long words (ltb-true most_words (length words) e) ∙ h)
+    go false e = refl
+
+-- so all of it was read
+pub scanned : (s : Session) (seconds : Float) (words : List ℕ) {r : Scan}
+    → Scans words seconds (listen_of s.clock) s.worlds.snapshots (old_stamp_of s.worlds) r → r.verdict ≡ accepted → Scanned s seconds words r
+scanned s seconds words h e =
+    let k = not_long words (sym h.verdict ∙ e) in
+    record {
+      worldly = h.worldly ∙ (λ i. cond (k i) false (has_for_worlds words));
+      commands = h.commands ∙ (λ i. cond (k i) false (has_command words));
+      heard = h.heard ∙ (λ i. cond (k i) (listen_of s.clock) (heard_in seconds words (listen_of s.clock)));
+      snapshots = h.snapshots ∙ (λ i. cond (k i) s.worlds.snapshots (kept_in (old_stamp_of s.worlds) words s.worlds.snapshots));
+    }
+
+-- what arrives: the commands, and then the snapshots that were found
+pub arrives : (words : List ℕ) (s : Scene) {got : Received} {n : Snapshots} → got ≡ received_in words (none_received s)
+    → n ≡ kept_in (old_stamp_of s.worlds) words s.worlds.snapshots
+    → ◌≡◌ {A = Received} (record { scene = with_worlds got.scene (with_snapshots got.scene.worlds n); full = got.full }) (arrived_in words (none_received s))
+arrives words s {got} {n} hg hn =
+    let r : Received = received_in words (none_received s) in
+    (λ i. record { scene = with_worlds (hg i).scene (with_snapshots (hg i).scene.worlds (hn i)); full = (hg i).full })
+    ∙ (λ i. record { scene = with_worlds r.scene (sym (received_noted words (none_received s)) i); full = r.full })
+
 -- ---- an update of the clock alone
 
--- the clock after the timer and the messages
-clock_is : (s : Session) (delta seconds : Float) (inbox : List ℕ) {start h : Heard} {t : Ticked} {c : Clock} → start ≡ listen_of s.clock
-    → h ≡ heard_in seconds inbox start → t ≡ ticked_of s.clock s.settings.period delta → c ≡ settled_of s.settings t.clock h
-    → c ≡ clock_after s delta seconds inbox
-clock_is s delta seconds inbox hl hh ht hc = hc ∙ (λ i. settled_of s.settings (ht i).clock ((hh ∙ ap (heard_in seconds inbox) hl) i))
+-- by what was heard, it is the update by the inbox
+pub clock_heard : (s : Session) (delta seconds : Float) (inbox : List ℕ) (len : ℕ) {scan : Scan} {r : UpdateAnswer} {last : List ℕ}
+    → Scanned s seconds inbox scan → Updates (clock_moved_by s delta seconds scan.worldly scan.heard len) r last
+    → Updates (clock_update_of s delta seconds inbox len) r last
+unfolding clock_update_of
+clock_heard s delta seconds inbox len h u = updates_as (λ i. clock_moved_by s delta seconds (h.worldly i) (h.heard i) len) u
 
--- whether a message of another client was heard
-other_is : (s : Session) (seconds : Float) (inbox : List ℕ) {start h : Heard} → start ≡ listen_of s.clock → h ≡ heard_in seconds inbox start
-    → h.other ≡ heard_other s seconds inbox
-other_is s seconds inbox hl hh = ap (λ (x : Heard). x.other) (hh ∙ ap (heard_in seconds inbox) hl)
+module _ (s : Session) (delta seconds : Float) (worldly : Bool) (heard : Heard) (len : ℕ) {n : Verdict} {r : UpdateAnswer} {last : List ℕ}
+    (hn : n ≡ syncing_verdict_by worldly heard.other) where
+  pub clock_refused : {e : Refusal} → n ≡ Err e → Updates (refused_with e s len) r last → Updates (clock_moved_by s delta seconds worldly heard len) r last
+  clock_refused k h = refused_is s len _ hn k h
 
-module _ (s : Session) (delta seconds : Float) (inbox : List ℕ) {start heard : Heard} {p : Bool} {n : Verdict} (hl : start ≡ listen_of s.clock)
-    (hh : heard ≡ heard_in seconds inbox start) (hp : p ≡ has_for_worlds inbox) (hn : n ≡ syncing_verdict_by p heard.other) where
-  -- the verdict by what arrived
-  syncing_is : n ≡ syncing_verdict_by (has_for_worlds inbox) (heard_other s seconds inbox)
-  syncing_is = hn ∙ (λ i. syncing_verdict_by (hp i) (other_is s seconds inbox hl hh i))
-
-  pub clock_refused : (len : ℕ) {e : Refusal} {r : UpdateAnswer} {last : List ℕ} → n ≡ Err e → Updates (refused_with e s len) r last
-      → Updates (clock_update_of s delta seconds inbox len) r last
-  unfolding clock_update_of
-  clock_refused len k h = refused_is s len (clock_moved_of s delta seconds inbox len) syncing_is k h
-
-  pub clock_moved : (len : ℕ) {t : Ticked} {c : Clock} {next : Session} {r : UpdateAnswer} {last : List ℕ} → n ≡ accepted
-      → t ≡ ticked_of s.clock s.settings.period delta → c ≡ settled_of s.settings t.clock heard → next ≡ synced_of s c seconds
-      → Updates (unplayed_of accepted next t.request len) r last → Updates (clock_update_of s delta seconds inbox len) r last
-  unfolding clock_update_of
-  clock_moved len k ht hc hx h =
-      accepted_by_lem s len (clock_moved_of s delta seconds inbox len) syncing_is k
-      (updates_as (λ i. unplayed_of accepted ((hx ∙ (λ j. synced_of s (clock_is s delta seconds inbox hl hh ht hc j) seconds)) i) (ht i).request len) h)
+  pub clock_moved : {t : Ticked} {c : Clock} {next : Session} → n ≡ accepted → t ≡ ticked_of s.clock s.settings.period delta
+      → c ≡ settled_of s.settings t.clock heard → next ≡ synced_of s c seconds
+      → Updates (unplayed_of accepted next t.request len) r last → Updates (clock_moved_by s delta seconds worldly heard len) r last
+  clock_moved k ht hc hx h =
+      accepted_by_lem s len _ hn k
+      (updates_as (λ i. unplayed_of accepted
+      ((hx ∙ (λ j. synced_of s ((hc ∙ ap (λ (x : Ticked). settled_of s.settings x.clock heard) ht) j) seconds)) i) (ht i).request len) h)
 
 -- ---- an update of the worlds
 
--- the reply to an update once its frames have ended
-unfoldable concluded_by : Session → Clock → Bool → Advanced → List ℕ → Reply
-concluded_by s c request a tape = unless_refused (end_verdict_of s a (length tape)) s (length tape) (accepted_by s c request a tape)
+-- the reply to an update once its frames have ended and left the scene v
+unfoldable concluded_by : Session → Clock → Bool → Scene → Advanced → List ℕ → Reply
+concluded_by s c request v a tape = unless_refused (end_verdict_of s.settings a (length tape)) s (length tape) (accepted_by s c request v a tape)
 
 -- a run before its end, as the code holds it
-module _ (s : Session) (c : Clock) (request : Bool) (u : Run) {was mid : List ℕ} {a : Advanced} (h : Advances u was a mid) where
+module _ (s : Session) (c : Clock) (request : Bool) (u : Run) {was mid : List ℕ} {v : Scene} {a : Advanced} (h : Advances u was v a mid) where
   place : a.at ≡ length u.played.words
   place = omega (arith, h.puts.at)
 
@@ -128,18 +155,18 @@ module _ (s : Session) (c : Clock) (request : Bool) (u : Run) {was mid : List �
   verdict : Verdict
   verdict = end_verdict_by u.stop (weight_ok (tween_of u.overshoot s.settings.timestep)) (leb (length u.played.words) (length was))
 
-  verdict_is : end_verdict_of s a (length mid) ≡ verdict
+  verdict_is : end_verdict_of s.settings a (length mid) ≡ verdict
   unfolding verdict
   verdict_is = λ i. end_verdict_by (h.stop i) (weight_ok (tween_of (h.overshoot i) s.settings.timestep)) (leb (place i) (long i))
 
   -- the accepted reply to a run is the one to the run as the code holds it
   accepted_is : leb (length u.played.words) (length was) ≡ true
-      → accepted_by s c request a mid ≡ accepted_of s c request (finished_of s.settings u) (length was)
+      → accepted_by s c request v a mid ≡ accepted_of s c request (finished_of s.settings u) (length was)
   unfolding accepted_by accepted_of
   accepted_is e =
       let t : cleared mid a.at ≡ u.played.words ++ replicate (length was - length u.played.words) 0 =
       (λ i. cleared (h.puts.tape i) (place i)) ∙ cleared_after u.played.words was (leb-true _ _ e) in
-      let w : ended_of s.settings a.scene.worlds a.overshoot ≡ ended_of s.settings u.played.scene.worlds u.overshoot =
+      let w : ended_of s.settings v.worlds a.overshoot ≡ ended_of s.settings u.played.scene.worlds u.overshoot =
       λ i. ended_of s.settings (h.scene i).worlds (h.overshoot i) in
       λ i. record {
         refusal = accepted;
@@ -154,78 +181,72 @@ module _ (s : Session) (c : Clock) (request : Bool) (u : Run) {was mid : List �
       }
 
   -- by its verdict
-  concluded_by_lem : (v : Verdict) → verdict ≡ v
-      → unless_refused v s (length mid) (accepted_by s c request a mid)
-      ≡ unless_refused v s (length was) (accepted_of s c request (finished_of s.settings u) (length was))
+  concluded_by_lem : (x : Verdict) → verdict ≡ x
+      → unless_refused x s (length mid) (accepted_by s c request v a mid)
+      ≡ unless_refused x s (length was) (accepted_of s c request (finished_of s.settings u) (length was))
   unfolding verdict
   concluded_by_lem (Ok x) e =
       accepted_is (end_accepted u.stop (weight_ok (tween_of u.overshoot s.settings.timestep)) (leb (length u.played.words) (length was)) e).2
   concluded_by_lem (Err q) e = λ i. refused_with q s (long i)
 
   -- the reply to a run as the code holds it is the reply to the run with its end
-  concluded_is : concluded_by s c request a mid ≡ concluded_of s c request (finished_of s.settings u) (length was)
+  concluded_is : concluded_by s c request v a mid ≡ concluded_of s c request (finished_of s.settings u) (length was)
   unfolding concluded_by concluded_of verdict
-  concluded_is = (λ i. unless_refused (verdict_is i) s (length mid) (accepted_by s c request a mid)) ∙ concluded_by_lem verdict refl
-
--- the frames, from the parts that the code has
-pub played_by : (s : Session) (got : Received) (c : Clock) (delta seconds : Float) (inbox : List ℕ) {w : ClientWorldSimulations} {x : Float}
-    {was last : List ℕ} {a : Advanced} → w ≡ noted_in inbox got.scene.worlds → x ≡ unwrap_or (server_seconds_of c.offset seconds) seconds
-    → Advances (unended_of s.settings (with_worlds got.scene w) s.overshoot delta (add binary64 x s.settings.lag)) was a last
-    → Advances (unended_with s got c delta seconds inbox) was a last
-played_by s got c delta seconds inbox {w} {x} {was} {last} {a} hw hx h =
-    subst (λ (z : Run). Advances z was a last) (λ i. unended_of s.settings (with_worlds got.scene (hw i)) s.overshoot delta
-    (add binary64 (hx i) s.settings.lag)) h
+  concluded_is = (λ i. unless_refused (verdict_is i) s (length mid) (accepted_by s c request v a mid)) ∙ concluded_by_lem verdict refl
 
 -- the verdict at the end, from the parts that the code has
-pub end_is : (s : Session) (a : Advanced) (len : ℕ) {x : Float} {w f : Bool} {n : Verdict} → x ≡ tween_of a.overshoot s.settings.timestep
-    → w ≡ weight_ok x → f ≡ leb a.at len → n ≡ end_verdict_by a.stop w f → n ≡ end_verdict_of s a len
-end_is s a len hx hw hf h = h ∙ (λ i. end_verdict_by a.stop ((hw ∙ ap weight_ok hx) i) (hf i))
+pub end_is : (c : Settings) (a : Advanced) (len : ℕ) {x : Float} {w f : Bool} {n : Verdict} → x ≡ tween_of a.overshoot c.timestep
+    → w ≡ weight_ok x → f ≡ leb a.at len → n ≡ end_verdict_by a.stop w f → n ≡ end_verdict_of c a len
+end_is c a len hx hw hf h = h ∙ (λ i. end_verdict_by a.stop ((hw ∙ ap weight_ok hx) i) (hf i))
 
-module _ (s : Session) (delta seconds : Float) (inbox : List ℕ) {start heard : Heard} {scene : Scene} {got : Received} {n : Verdict}
-    (hl : start ≡ listen_of s.clock) (hh : heard ≡ heard_in seconds inbox start) (hs : scene ≡ scene_of s)
-    (hg : got ≡ received_in inbox (none_received scene)) (hn : n ≡ arrival_verdict_by heard.other got.full) where
+module _ (s : Session) (delta seconds : Float) (inbox : List ℕ) {scan : Scan} {scene : Scene} {got : Received} {n : Verdict}
+    (hz : Scanned s seconds inbox scan) (hs : scene ≡ scene_of s) (hg : got ≡ arrived_in inbox (none_received scene))
+    (hn : n ≡ arrival_verdict_by scan.heard.other got.full) where
   -- what was received
-  received_is : got ≡ received_in inbox (unreceived s)
-  received_is = hg ∙ (λ i. received_in inbox (none_received (hs i)))
+  received_is : got ≡ arrived_in inbox (unreceived s)
+  received_is = hg ∙ (λ i. arrived_in inbox (none_received (hs i)))
 
   -- the verdict by what arrived
   arrival_is : n ≡ arrival_verdict_by (heard_other s seconds inbox) (received_in inbox (unreceived s)).full
-  arrival_is = hn ∙ (λ i. arrival_verdict_by (other_is s seconds inbox hl hh i) (received_is i).full)
+  arrival_is = hn ∙ (λ i. arrival_verdict_by (hz.heard i).other (received_is i).full)
 
   pub worlds_refused : (len : ℕ) {e : Refusal} {r : UpdateAnswer} {last : List ℕ} → n ≡ Err e → Updates (refused_with e s len) r last
       → Updates (worlds_update_of s delta seconds inbox len) r last
   unfolding worlds_update_of
   worlds_refused len k h = refused_is s len _ arrival_is k h
 
-  module _ {was mid last : List ℕ} {t : Ticked} {c : Clock} {a : Advanced} {r : UpdateAnswer} (z : n ≡ accepted)
-      (ht : t ≡ ticked_of s.clock s.settings.period delta) (hc : c ≡ settled_of s.settings t.clock heard)
-      (ha : Advances (unended_with s got c delta seconds inbox) was a mid) where
-    worlds_played : Updates (concluded_by s c t.request a mid) r last → Updates (worlds_update_of s delta seconds inbox (length was)) r last
+  module _ {was mid last : List ℕ} {t : Ticked} {c : Clock} {x : Float} {v : Scene} {a : Advanced} {r : UpdateAnswer} (z : n ≡ accepted)
+      (ht : t ≡ ticked_of s.clock s.settings.period delta) (hc : c ≡ settled_of s.settings t.clock scan.heard)
+      (hx : x ≡ unwrap_or (server_seconds_of c.offset seconds) seconds)
+      (ha : Advances (unended_of s.settings got.scene s.overshoot delta (add binary64 x s.settings.lag)) was v a mid) where
+    worlds_played : Updates (concluded_by s c t.request v a mid) r last → Updates (worlds_update_of s delta seconds inbox (length was)) r last
     unfolding worlds_update_of played_of updated_of
     worlds_played h =
-        let k : c ≡ clock_after s delta seconds inbox = clock_is s delta seconds inbox hl hh ht hc in
         let d : Clock = clock_after s delta seconds inbox in
+        let k : c ≡ d = hc ∙ (λ i. settled_of s.settings (ht i).clock (hz.heard i)) in
+        let y : x ≡ unwrap_or (server_seconds_of d.offset seconds) seconds = hx ∙ (λ i. unwrap_or (server_seconds_of (k i).offset seconds) seconds) in
         let u : Run = unended_of s.settings (scene_after s inbox) s.overshoot delta (lagged_of s d seconds) in
-        let v : Advances u was a mid = subst (λ (x : Run). Advances x was a mid) (λ i. unended_with s (received_is i) (k i) delta seconds inbox) ha in
-        accepted_by_lem s (length was) _ arrival_is z (updates_as ((λ i. concluded_by s (k i) (ht i).request a mid) ∙ concluded_is s d (request_of s delta)
-        u v) h)
+        let b : Advances u was v a mid = subst (λ (q : Run). Advances q was v a mid)
+        (λ i. unended_of s.settings (received_is i).scene s.overshoot delta (add binary64 (y i) s.settings.lag)) ha in
+        accepted_by_lem s (length was) _ arrival_is z
+        (updates_as ((λ i. concluded_by s (k i) (ht i).request v a mid) ∙ concluded_is s d (request_of s delta) u b) h)
 
     -- refused at its end
-    pub worlds_stopped : {m : Verdict} {len : ℕ} {e : Refusal} → m ≡ end_verdict_of s a len → len ≡ length mid → m ≡ Err e
+    pub worlds_stopped : {m : Verdict} {len : ℕ} {e : Refusal} → m ≡ end_verdict_of s.settings a len → len ≡ length mid → m ≡ Err e
         → Updates (refused_with e s len) r last → Updates (worlds_update_of s delta seconds inbox (length was)) r last
     unfolding concluded_by
-    worlds_stopped {m} {len} {e} hm hx k h =
-        let q : Err e ≡ end_verdict_of s a (length mid) = sym k ∙ hm ∙ ap (end_verdict_of s a) hx in
+    worlds_stopped {m} {len} {e} hm hl k h =
+        let q : Err e ≡ end_verdict_of s.settings a (length mid) = sym k ∙ hm ∙ ap (end_verdict_of s.settings a) hl in
         worlds_played
-        (updates_as ((λ i. refused_with e s (hx i)) ∙ (λ i. unless_refused (q i) s (length mid) (accepted_by s c t.request a mid))) h)
+        (updates_as ((λ i. refused_with e s (hl i)) ∙ (λ i. unless_refused (q i) s (length mid) (accepted_by s c t.request v a mid))) h)
 
     -- accepted
-    pub worlds_accepted : {m : Verdict} {len : ℕ} → m ≡ end_verdict_of s a len → len ≡ length mid → m ≡ accepted
-        → Updates (accepted_by s c t.request a mid) r last → Updates (worlds_update_of s delta seconds inbox (length was)) r last
+    pub worlds_accepted : {m : Verdict} {len : ℕ} → m ≡ end_verdict_of s.settings a len → len ≡ length mid → m ≡ accepted
+        → Updates (accepted_by s c t.request v a mid) r last → Updates (worlds_update_of s delta seconds inbox (length was)) r last
     unfolding concluded_by
-    worlds_accepted {m} {len} hm hx k h =
-        let q : accepted ≡ end_verdict_of s a (length mid) = sym k ∙ hm ∙ ap (end_verdict_of s a) hx in
-        worlds_played (updates_as (λ i. unless_refused (q i) s (length mid) (accepted_by s c t.request a mid)) h)
+    worlds_accepted {m} {len} hm hl k h =
+        let q : accepted ≡ end_verdict_of s.settings a (length mid) = sym k ∙ hm ∙ ap (end_verdict_of s.settings a) hl in
+        worlds_played (updates_as (λ i. unless_refused (q i) s (length mid) (accepted_by s c t.request v a mid)) h)
 
 -- ---- update
 

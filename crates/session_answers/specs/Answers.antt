@@ -11,6 +11,7 @@ use Rattle.session_state.specs.declared.Session.{Session}
 use Rattle.session_stage.specs.Stage.{stage_after}
 use Rattle.session_state.specs.Session.{session_with}
 use Rattle.session_answers.specs.declared.UpdateAnswer.{UpdateAnswer}
+use Rattle.session_answers.specs.declared.Updated.{Updated}
 
 -- the answer of an update, and its tape
 pub record Reply : Type 0 where
@@ -38,10 +39,28 @@ answer_of a =
       words = a.words;
     }
 
+-- the answer with this session
+abbrev pub answer_with : Session → Updated → UpdateAnswer
+answer_with s a =
+    record {
+      refusal = a.refusal;
+      session = s;
+      frames = a.frames;
+      steps = a.steps;
+      request = a.request;
+      left = a.left;
+      right = a.right;
+      words = a.words;
+    }
+
 -- an update as the code leaves it: its whole answer, and every word of its tape
 pub record Updates (a : Reply) (r : UpdateAnswer) (last : List ℕ) : Type 0 where
   pub answer : r ≡ answer_of a
   pub tape : last ≡ a.tape
+
+-- an update that leaves the session as it is, whichever it is
+pub record Leaves (reply : Session → Reply) (a : Updated) (last : List ℕ) : Type 0 where
+  pub updates : (s : Session) → Updates (reply s) (answer_with s a) last
 
 -- the reply of an update that played nothing: the tape (of so many words) is zeroed
 abbrev pub unplayed_of : Verdict → Session → Bool → ℕ → Reply

@@ -1,11 +1,11 @@
 // The records of what open and update answer, and each way to fill that of update. It answers to `Client::update` of src/client.rs of crystalorb.
 #![tactic(auto)]
 
-ghost use Rattle.std.specs.Prelude.{length};
-ghost use Rattle.session_answers.specs.Answers.{unplayed_of, refused_with, Updates};
+ghost use Rattle.std.specs.Prelude.{◌≡◌, length};
+ghost use Rattle.session_answers.specs.Answers.{unplayed_of, refused_with, answer_with, Leaves, Updates};
 ghost use Rattle.session_answers.specs.Inner.{accepted_by};
 
-use client::Ledger;
+use client::{Ledger, Scene};
 use clocksync::Clock;
 use fixed_timestepper::Advanced;
 use refusals::{Refusal, Verdict};
@@ -31,14 +31,43 @@ pub struct UpdateAnswer {
     pub words: usize,
 }
 
-// The answer of an update that played nothing: the tape is zeroed.
-pub fn unplayed(refusal: Verdict, session: Session, request: bool, tape: &mut [u32]) -> UpdateAnswer
-    ensures { Updates (unplayed_of refusal session request (length tape.old)) result tape.new }
+// What an update tells beside the session: its answer without the session, which is changed in place.
+#[derive(Clone, Copy)]
+pub struct Updated {
+    pub refusal: Verdict,
+    pub frames: u32,
+    pub steps: u32,
+    pub request: bool,
+    pub left: Ledger,
+    pub right: Ledger,
+    pub words: usize,
+}
+
+impl Updated {
+    // The answer with the session by value.
+    pub fn with_session(self, session: Session) -> UpdateAnswer
+        ensures { result ≡ answer_with session self }
+    {
+        UpdateAnswer {
+            refusal: self.refusal,
+            session,
+            frames: self.frames,
+            steps: self.steps,
+            request: self.request,
+            left: self.left,
+            right: self.right,
+            words: self.words,
+        }
+    }
+}
+
+// An update that played nothing: the tape is zeroed.
+pub fn unplayed(refusal: Verdict, request: bool, tape: &mut [u32]) -> Updated
+    ensures { Leaves (λ s. unplayed_of refusal s request (length tape.old)) result tape.new }
 {
     tape::clear(tape, 0);
-    UpdateAnswer {
+    Updated {
         refusal,
-        session,
         frames: 0,
         steps: 0,
         request,
@@ -48,40 +77,37 @@ pub fn unplayed(refusal: Verdict, session: Session, request: bool, tape: &mut [u
     }
 }
 
-// A refused update: the session unchanged, the tape zeroed, everything else 0.
-pub fn refuse(refusal: Refusal, session: Session, tape: &mut [u32]) -> UpdateAnswer
-    ensures { Updates (refused_with refusal session (length tape.old)) result tape.new }
+// A refused update: the tape zeroed, everything else 0. The session is left as it is.
+pub fn refuse(refusal: Refusal, tape: &mut [u32]) -> Updated
+    ensures { Leaves (λ s. refused_with refusal s (length tape.old)) result tape.new }
 {
-    unplayed(Err(refusal), session, false, tape)
+    unplayed(Err(refusal), false, tape)
 }
 
-// An update that nothing refuses: its end, its session, and zeros on the rest of the tape.
+// An update that nothing refuses: the session that its scene leaves, with the end of the worlds, and zeros on the rest of the tape.
 pub fn accept(
-    session: Session,
+    session: &mut Session,
     clock: Clock,
     request: bool,
+    scene: &Scene,
     a: Advanced,
     tape: &mut [u32],
-) -> UpdateAnswer
-    ensures { Updates (accepted_by session clock request a tape.old) result tape.new }
+) -> Updated
+    ensures { Updates (accepted_by session.old clock request scene.now a tape.old) (answer_with session.new result) tape.new }
 {
     tape::clear(tape, a.at);
-    let scene = a.scene;
-    let worlds = fixed_timestepper::ended(scene.worlds, a.overshoot, session.settings);
-    UpdateAnswer {
+    session.worlds = scene.worlds;
+    fixed_timestepper::ended(&mut session.worlds, a.overshoot, session.settings);
+    session.stage = session_stage::stage_after(session.stage, session.worlds.published.time);
+    session.clock = clock;
+    session.overshoot = a.overshoot;
+    Updated {
         refusal: Ok(()),
-        session: Session {
-            settings: session.settings,
-            stage: session_stage::stage_after(session.stage, worlds.published.time),
-            clock,
-            worlds,
-            overshoot: a.overshoot,
-        },
         frames: a.frames,
         steps: scene.steps,
         request,
-        left: scene.left.closed(&worlds.left.commands),
-        right: scene.right.closed(&worlds.right.commands),
+        left: scene.left.closed(&session.worlds.left.commands),
+        right: scene.right.closed(&session.worlds.right.commands),
         words: a.at,
     }
 }

@@ -15,8 +15,13 @@ use Rattle.session_state.specs.declared.Session.{Session}
 use Rattle.session_state.specs.Session.{has_worlds, is_ready, with_worlds_of, scene_of}
 use Rattle.session_state.specs.Sound.{sound_of}
 use Rattle.session_issue.specs.declared.IssueAnswer.{IssueAnswer}
+use Rattle.session_issue.specs.declared.Issued.{Issued}
 
 -- ---- its answer
+
+-- the answer with this session
+abbrev pub issue_with : Session → Issued → IssueAnswer
+issue_with s a = record { refusal = a.refusal; session = s; stamp = a.stamp; left = a.left; right = a.right }
 
 -- a refused issue: the session unchanged, all else 0
 abbrev pub unissued : Refusal → Session → IssueAnswer

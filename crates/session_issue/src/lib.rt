@@ -2,11 +2,10 @@
 #![tactic(auto)]
 
 ghost use Rattle.std.specs.Prelude.{◌≡◌};
-ghost use Rattle.session_issue.specs.Issue.{unissued, issued_of, issue_of};
-ghost use Rattle.client_receive.specs.Receive.{none_received};
+ghost use Rattle.session_issue.specs.Issue.{issue_with, issue_of};
 
-use client::{Ledger, Scene};
-use refusals::{Refusal, Verdict};
+use client::Ledger;
+use refusals::Verdict;
 use session_state::Session;
 use timestamp::Timestamp;
 
@@ -20,51 +19,57 @@ pub struct IssueAnswer {
     pub right: Ledger,
 }
 
-// A refused issue: the session unchanged, everything else 0.
-pub fn refuse_issue(refusal: Refusal, session: Session) -> IssueAnswer
-    ensures { result ≡ unissued refusal session }
-{
-    IssueAnswer {
-        refusal: Err(refusal),
-        session,
-        stamp: Timestamp(0),
-        left: Ledger::empty(),
-        right: Ledger::empty(),
+// What an issue tells beside the session: its answer without the session, which is changed in place.
+#[derive(Clone, Copy)]
+pub struct Issued {
+    pub refusal: Verdict,
+    pub stamp: Timestamp,
+    pub left: Ledger,
+    pub right: Ledger,
+}
+
+impl Issued {
+    // The answer with the session by value.
+    pub fn with_session(self, session: Session) -> IssueAnswer
+        ensures { result ≡ issue_with session self }
+    {
+        IssueAnswer {
+            refusal: self.refusal,
+            session,
+            stamp: self.stamp,
+            left: self.left,
+            right: self.right,
+        }
     }
 }
 
-// The answer to a command that the worlds of a ready session received.
-fn accept_issue(session: Session, stamp: Timestamp, after: Scene) -> IssueAnswer
-    ensures { result ≡ issued_of session stamp (none_received after) }
-{
-    IssueAnswer {
-        refusal: Ok(()),
-        session: Session {
-            worlds: after.worlds,
-            ..session
-        },
-        stamp,
-        left: after.left.closed(&after.worlds.left.commands),
-        right: after.right.closed(&after.worlds.right.commands),
-    }
-}
-
-// A command of this client, for the frame that is played next.
-pub fn issue(session: Session, handle: u32) -> IssueAnswer
-    ensures { result ≡ issue_of session handle }
+// A command of this client, for the frame that is played next. Refused, it leaves the session as it is, and everything else is 0.
+pub fn issue(session: &mut Session, handle: u32) -> Issued
+    ensures { issue_with session.new result ≡ issue_of session.old handle }
 {
     let stamp = session.worlds.last_completed_timestamp().add(1);
-    let mut scene = session_state::scene_of(session);
+    let mut scene = session.scene();
     let full = client_receive::receive_command(&mut scene, command::entry_of(stamp, handle));
     let verdict = refusals::of_issue(
         handle < refusals::HANDLE_ROOM,
-        session_state::is_sound(session),
+        session.is_sound(),
         session_state::has_worlds(session.stage),
         full,
         session_state::is_ready(session.stage),
     );
-    match verdict {
-        Ok(()) => accept_issue(session, stamp, scene),
-        Err(refusal) => refuse_issue(refusal, session),
+    if let Err(refusal) = verdict {
+        return Issued {
+            refusal: Err(refusal),
+            stamp: Timestamp(0),
+            left: Ledger::empty(),
+            right: Ledger::empty(),
+        };
+    }
+    session.worlds = scene.worlds;
+    Issued {
+        refusal: Ok(()),
+        stamp,
+        left: scene.left.closed(&scene.worlds.left.commands),
+        right: scene.right.closed(&scene.worlds.right.commands),
     }
 }

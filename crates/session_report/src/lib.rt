@@ -21,7 +21,7 @@ pub struct ReportAnswer {
 }
 
 // A refused report.
-pub fn refuse_report(refusal: Refusal) -> ReportAnswer
+fn refuse_report(refusal: Refusal) -> ReportAnswer
     ensures { result ≡ unreported refusal }
 {
     ReportAnswer {
@@ -35,10 +35,10 @@ pub fn refuse_report(refusal: Refusal) -> ReportAnswer
 }
 
 // Where a session with worlds stands.
-fn report_worlds(session: Session) -> ReportAnswer
-    ensures { result ≡ reported_of session }
+fn report_worlds(session: &Session) -> ReportAnswer
+    ensures { result ≡ reported_of session.now }
 {
-    let worlds = session.worlds;
+    let worlds = &session.worlds;
     ReportAnswer {
         refusal: Ok(()),
         stage: session.stage,
@@ -50,11 +50,11 @@ fn report_worlds(session: Session) -> ReportAnswer
 }
 
 // Where a session stands.
-pub fn report(session: Session) -> ReportAnswer
-    ensures { result ≡ report_of session }
+pub fn report(session: &Session) -> ReportAnswer
+    ensures { result ≡ report_of session.now }
 {
     let verdict = refusals::of_report(
-        session_state::is_sound(session),
+        session.is_sound(),
         session_state::has_worlds(session.stage),
     );
     match verdict {

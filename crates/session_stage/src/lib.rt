@@ -10,24 +10,24 @@ use clocksync::Clock;
 use session_state::{Session, Stage};
 use timestamp::Timestamp;
 
-// The session after an update in the first stage: the worlds are made where the clock is ready.
-pub fn synced(session: Session, clock: Clock, seconds: f64) -> Session
-    ensures { result ≡ synced_of session clock seconds }
+// A session after an update in the first stage: it has this clock, and the worlds are made where that is ready.
+#[tactic(auto, unfolding(crate::specs::Stage::synced_of))]
+pub fn synced(session: &mut Session, clock: Clock, seconds: f64)
+    ensures { session.new ≡ synced_of session.old clock seconds }
 {
-    if clock.is_ready() {
-        let Some(server) = clock.server_seconds(seconds) else {
-            return session;
-        };
-        let stage = Stage::SyncingInitialState;
-        let worlds = ClientWorldSimulations::new(Timestamp::from_seconds(
-            server,
-            session.settings.timestep,
-        ));
-        return session_state::session_with(session, stage, clock, worlds, 0.0);
+    if !clock.is_ready() {
+        session.clock = clock;
+        return;
     }
-    let mut s = session;
-    s.clock = clock;
-    s
+    // a ready clock tells the server's time
+    let Some(server) = clock.server_seconds(seconds) else {
+        return;
+    };
+    let stamp = Timestamp::from_seconds(server, session.settings.timestep);
+    session.stage = Stage::SyncingInitialState;
+    session.clock = clock;
+    session.worlds = ClientWorldSimulations::new(stamp);
+    session.overshoot = 0.0;
 }
 
 // The stage after an update: Ready once there is something to display.

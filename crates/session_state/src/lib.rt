@@ -1,15 +1,13 @@
-// The session of a client, all of its state by value, and whether it is sound: what calls leave, as document 01 lists it. It answers to `Client` and the stages
+// The session of a client, all of its state, and whether it is sound: what calls leave, as document 01 lists it. It answers to `Client` and the stages
 // of src/client/stage*.rs of crystalorb.
 #![tactic(auto)]
 
 ghost use Rattle.std.specs.Prelude.{◌≡◌};
-ghost use Rattle.command.specs.Soundness.{sound_buffer};
-ghost use Rattle.session_state.specs.Session.{has_worlds, is_ready, starting_of, session_with, scene_of};
+ghost use Rattle.session_state.specs.Session.{has_worlds, is_ready, starting_of, scene_of};
 ghost use Rattle.session_state.specs.Sound.{queued_sound, weight_sound, init_sound, buffers_sound, worlds_sound, overshoot_sound, connected_of, sound_of};
 
 use client::{ClientWorldSimulations, Ledger, QueuedSnapshot, Scene};
 use clocksync::Clock;
-use command::CommandBuffer;
 use settings::Settings;
 
 // How far the client is connected. Worlds exist in every stage but the first.
@@ -53,6 +51,7 @@ pub fn is_ready(stage: Stage) -> bool
 }
 
 // A queued snapshot's handle is within 24 bits.
+#[tactic(auto, unfolding(crate::specs::Sound::queued_sound))]
 pub fn queued_sound(queued: Option<QueuedSnapshot>) -> bool
     ensures { result ≡ queued_sound queued }
 {
@@ -60,8 +59,8 @@ pub fn queued_sound(queued: Option<QueuedSnapshot>) -> bool
 }
 
 // The blend weight is 0 to 1, and 0 where the stamps differ.
-pub(crate) fn weight_sound(w: ClientWorldSimulations) -> bool
-    ensures { result ≡ weight_sound w }
+pub(crate) fn weight_sound(w: &ClientWorldSimulations) -> bool
+    ensures { result ≡ weight_sound w.now }
 {
     let t = w.weight;
     let old = w.last_completed_timestamp();
@@ -76,8 +75,8 @@ pub(crate) fn weight_sound(w: ClientWorldSimulations) -> bool
 }
 
 // The old world is initialised only if the new one is.
-pub(crate) fn init_sound(w: ClientWorldSimulations) -> bool
-    ensures { result ≡ init_sound w }
+pub(crate) fn init_sound(w: &ClientWorldSimulations) -> bool
+    ensures { result ≡ init_sound w.now }
 {
     let old = w.get_side(w.old_side());
     let new = w.get_side(w.new_side());
@@ -87,46 +86,20 @@ pub(crate) fn init_sound(w: ClientWorldSimulations) -> bool
     true
 }
 
-// A buffer is sound. One that holds nothing is not handed on, which would copy its slots.
-pub(crate) fn buffer_sound(b: CommandBuffer) -> bool
-    ensures { result ≡ sound_buffer b }
-{
-    let n = b.len;
-    if n == 0 {
-        return true;
-    }
-    b.is_sound()
-}
-
 // The three buffers are sound.
-pub(crate) fn buffers_sound(w: ClientWorldSimulations) -> bool
-    ensures { result ≡ buffers_sound w }
+#[tactic(auto, unfolding(crate::specs::Sound::buffers_sound))]
+pub(crate) fn buffers_sound(w: &ClientWorldSimulations) -> bool
+    ensures { result ≡ buffers_sound w.now }
 {
-    let left = w.left;
-    let right = w.right;
-    if !buffer_sound(left.commands) {
-        return false;
-    }
-    if !buffer_sound(right.commands) {
-        return false;
-    }
-    buffer_sound(w.base)
+    w.left.commands.is_sound() && w.right.commands.is_sound() && w.base.is_sound()
 }
 
 // The worlds are sound.
-pub(crate) fn worlds_sound(w: ClientWorldSimulations) -> bool
-    ensures { result ≡ worlds_sound w }
+#[tactic(auto, unfolding(crate::specs::Sound::worlds_sound))]
+pub(crate) fn worlds_sound(w: &ClientWorldSimulations) -> bool
+    ensures { result ≡ worlds_sound w.now }
 {
-    if !buffers_sound(w) {
-        return false;
-    }
-    if !queued_sound(w.snapshots.queued) {
-        return false;
-    }
-    if !weight_sound(w) {
-        return false;
-    }
-    init_sound(w)
+    buffers_sound(w) && queued_sound(w.snapshots.queued) && weight_sound(w) && init_sound(w)
 }
 
 // The overshoot is 0 to the timestep.
@@ -140,81 +113,52 @@ pub fn overshoot_sound(overshoot: f64, timestep: f64) -> bool
 }
 
 // Once worlds exist there is an offset and an id; before, there is no offset.
+#[tactic(auto, unfolding(crate::specs::Sound::connected_of))]
 pub(crate) fn connected(stage: Stage, c: Clock) -> bool
     ensures { result ≡ connected_of stage c }
 {
     match stage {
         Stage::SyncingClock => c.offset.is_none(),
-        Stage::SyncingInitialState => c.is_ready(),
-        Stage::Ready => c.is_ready(),
+        Stage::SyncingInitialState | Stage::Ready => c.is_ready(),
     }
 }
 
-// The session is sound.
-pub fn is_sound(s: Session) -> bool
-    ensures { result ≡ sound_of s }
-{
-    let settings = s.settings;
-    let clock = s.clock;
-    let stage = s.stage;
-    if !settings.passes() {
-        return false;
+impl Session {
+    // A session as settings start it, with this clock and these worlds.
+    pub fn starting(settings: Settings, clock: Clock, worlds: ClientWorldSimulations) -> Session
+        ensures { result ≡ starting_of settings clock worlds }
+    {
+        let stage = Stage::SyncingClock;
+        Session {
+            settings,
+            stage,
+            clock,
+            worlds,
+            overshoot: 0.0,
+        }
     }
-    if !clock.is_sound(settings) {
-        return false;
-    }
-    if !connected(stage, clock) {
-        return false;
-    }
-    if !worlds_sound(s.worlds) {
-        return false;
-    }
-    overshoot_sound(s.overshoot, settings.timestep)
-}
 
-// The scene of worlds before anything happened to them.
-pub fn scene_of(session: Session) -> Scene
-    ensures { result ≡ scene_of session }
-{
-    let worlds = session.worlds;
-    Scene {
-        worlds,
-        left: Ledger::empty(),
-        right: Ledger::empty(),
-        steps: 0,
+    // The session is sound.
+    #[tactic(auto, unfolding(crate::specs::Sound::sound_of))]
+    pub fn is_sound(&self) -> bool
+        ensures { result ≡ sound_of self.now }
+    {
+        self.settings.passes()
+            && self.clock.is_sound(self.settings)
+            && connected(self.stage, self.clock)
+            && worlds_sound(&self.worlds)
+            && overshoot_sound(self.overshoot, self.settings.timestep)
     }
-}
 
-// A session as settings start it, with this clock and these worlds.
-pub fn starting(settings: Settings, clock: Clock, worlds: ClientWorldSimulations) -> Session
-    ensures { result ≡ starting_of settings clock worlds }
-{
-    let stage = Stage::SyncingClock;
-    Session {
-        settings,
-        stage,
-        clock,
-        worlds,
-        overshoot: 0.0,
-    }
-}
-
-// The session with another stage, clock and overshoot and with other worlds.
-pub fn session_with(
-    session: Session,
-    stage: Stage,
-    clock: Clock,
-    worlds: ClientWorldSimulations,
-    overshoot: f64,
-) -> Session
-    ensures { result ≡ session_with session stage clock worlds overshoot }
-{
-    let settings = session.settings;
-    Session {
-        settings,
-        stage,
-        clock,
-        worlds,
-        overshoot,
+    // The scene of worlds before anything happened to them.
+    pub fn scene(&self) -> Scene
+        ensures { result ≡ scene_of self.now }
+    {
+        Scene {
+            worlds: self.worlds,
+            left: Ledger::empty(),
+            right: Ledger::empty(),
+            steps: 0,
+        }
     }
 }

@@ -1,9 +1,9 @@
 -- `accept` meets its contract: the end of the run, and the tape. Assumes nothing.
-use Rattle.session_answers.proofs.Filling.{accept_is}
+use mathlib.Core.Path.{refl}
+use Rattle.session_answers.specs.Inner.{accepted_by}
 use Rattle.session_answers.proofs.accept.Goals as goal
 
 pub returns : goal.returns
+unfolding accepted_by
 returns c =
-    let a = c.args in
-    accept_is a.session a.clock a.request a.a _ c.clear.ensures c.ended-worlds.ensures
-    c.stage_after.ensures c.closed.ensures c.closed-2.ensures
+    record { answer = rw (c.closed.ensures, c.closed-2.ensures, c.stage_after-session.ensures, c.ended.ensures) refl; tape = c.clear.ensures }

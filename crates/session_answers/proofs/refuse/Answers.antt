@@ -1,6 +1,7 @@
 -- `refuse` meets its contract: an update that played nothing, without a request. Assumes nothing.
-use Rattle.session_answers.proofs.Filling.{refuse_is}
+use Rattle.session_answers.specs.Answers.{refused_with}
 use Rattle.session_answers.proofs.refuse.Goals as goal
 
 pub returns : goal.returns
-returns c = refuse_is _ _ _ c.unplayed.ensures
+unfolding refused_with
+returns c = record { updates = c.unplayed.ensures.updates }

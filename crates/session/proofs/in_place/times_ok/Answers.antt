@@ -2,7 +2,7 @@
 use lib.Ieee.{of_bits, neg}
 use Rattle.session.specs.Calls.{times_ok}
 use Rattle.timestamp.proofs.Tests.{row_fails, row_holds}
-use Rattle.session.proofs.calls.times_ok.Goals as goal
+use Rattle.session.proofs.in_place.times_ok.Goals as goal
 
 pub returns-then-within : goal.returns-then-within
 unfolding times_ok of_bits neg

@@ -1,0 +1,151 @@
+// The calls in place: update here, and issue and report, which have crates of their own. Each hands what its tests found to `refusals`, which knows
+// their order. A refused call leaves the session as it is.
+ghost use Rattle.std.specs.Prelude.{◌≡◌, ◌≤◌, length, unwrap_or};
+ghost use Rattle.refusals.specs.Limits.{most_steps};
+ghost use Rattle.clocksync.specs.Clock.{listen_of, server_seconds_of};
+ghost use Rattle.client.specs.Sides.{old_stamp_of};
+ghost use Rattle.client_receive.specs.Receive.{none_received};
+ghost use Rattle.inbox_passes.specs.Passes.{received_in};
+ghost use Rattle.inbox_scan.specs.Scan.{has_command, kept_in, Scans};
+ghost use Rattle.session_answers.specs.Answers.{answer_with, Updates};
+ghost use Rattle.session.specs.Inner.{arrived_in, clock_moved_by, end_verdict_of, Scanned};
+ghost use Rattle.session.specs.Calls.{times_ok, worlds_update_of, update_of};
+
+use client::Scene;
+use clocksync::{Clock, Heard};
+use fixed_timestepper::Advanced;
+use inbox_scan::Scan;
+use refusals::Verdict;
+use session_answers::Updated;
+pub use session_issue::issue;
+pub use session_report::report;
+use session_state::Session;
+use settings::Settings;
+
+// Whether delta and seconds are in their ranges; false for a NaN.
+pub fn times_ok(delta: f64, seconds: f64) -> bool
+    ensures { result ≡ times_ok delta seconds }
+{
+    settings::within(-refusals::HOUR, refusals::HOUR, delta)
+        && settings::within(-refusals::LONGEST_TIME, refusals::LONGEST_TIME, seconds)
+}
+
+// What an inbox holds for a session: it is read once.
+fn scan(session: &Session, seconds: f64, inbox: &[u32]) -> Scan
+    ensures { Scans inbox.now seconds (listen_of session.now.clock) session.now.worlds.snapshots (old_stamp_of session.now.worlds) result }
+{
+    let old = session.worlds.last_completed_timestamp();
+    inbox_scan::scan_inbox(inbox, seconds, session.clock.listen(), session.worlds.snapshots, old)
+}
+
+// An update while the clock syncs.
+fn update_clock(
+    session: &mut Session,
+    delta: f64,
+    seconds: f64,
+    worldly: bool,
+    heard: Heard,
+    tape: &mut [u32],
+) -> Updated
+    ensures { Updates (clock_moved_by session.old delta seconds worldly heard (length tape.old)) (answer_with session.new result) tape.new }
+{
+    if let Err(refusal) = refusals::while_syncing(worldly, heard.other) {
+        return session_answers::refuse(refusal, tape);
+    }
+    let t = session.clock.tick(session.settings, delta);
+    session_stage::synced(session, t.clock.settle(session.settings, heard), seconds);
+    session_answers::unplayed(Ok(()), t.request, tape)
+}
+
+// The commands of an inbox are received, which are looked for only where there is any. Gives whether a buffer that takes one was full.
+fn receive_commands(any: bool, inbox: &[u32], scene: &mut Scene) -> bool
+    requires { any ≡ has_command inbox.now }
+    ensures { record { scene = scene.new; full = result } ≡ received_in inbox.now (none_received scene.old) }
+{
+    if any {
+        return inbox_passes::receive_commands(inbox, scene);
+    }
+    false
+}
+
+// The commands of an inbox are received, and after them the snapshots that were found. Gives whether a buffer that takes a command was full.
+fn receive(scan: Scan, inbox: &[u32], scene: &mut Scene) -> bool
+    requires { (scan.commands ≡ has_command inbox.now) × (scan.snapshots ≡ kept_in (old_stamp_of scene.old.worlds) inbox.now scene.old.worlds.snapshots) }
+    ensures { record { scene = scene.new; full = result } ≡ arrived_in inbox.now (none_received scene.old) }
+{
+    let full = receive_commands(scan.commands, inbox, scene);
+    scene.worlds.snapshots = scan.snapshots;
+    full
+}
+
+// The server's time at a time of this client; the client's own time where there is no offset.
+fn server_time(clock: Clock, seconds: f64) -> f64
+    ensures { result ≡ unwrap_or (server_seconds_of clock.offset seconds) seconds }
+{
+    clock.server_seconds(seconds).unwrap_or(seconds)
+}
+
+// The verdict on an update whose frames have ended; the tape has room for `room` words.
+fn verdict_at_end(settings: Settings, a: Advanced, room: usize) -> Verdict
+    ensures { result ≡ end_verdict_of settings a room }
+{
+    let weight = client_publish::ending::tween_weight(a.overshoot, settings.timestep);
+    refusals::at_end(
+        a.stop,
+        client_publish::ending::is_weight(weight),
+        a.at <= room,
+    )
+}
+
+// An update once worlds exist. The frames are played on a copy of the worlds, which an accepted update leaves in the session.
+fn update_worlds(
+    session: &mut Session,
+    delta: f64,
+    seconds: f64,
+    inbox: &[u32],
+    scan: Scan,
+    tape: &mut [u32],
+) -> Updated
+    requires { (session.old.settings.m ≤ most_steps) × (Scanned session.old seconds inbox.now scan) }
+    ensures { Updates (worlds_update_of session.old delta seconds inbox.now (length tape.old)) (answer_with session.new result) tape.new }
+{
+    let settings = session.settings;
+    let mut scene = session.scene();
+    let full = receive(scan, inbox, &mut scene);
+    if let Err(refusal) = refusals::by_arrivals(scan.heard.other, full) {
+        return session_answers::refuse(refusal, tape);
+    }
+    let t = session.clock.tick(settings, delta);
+    let clock = t.clock.settle(settings, scan.heard);
+    let server = server_time(clock, seconds) + settings.lag;
+    let a = fixed_timestepper::update(&mut scene, session.overshoot, delta, server, settings, tape);
+    if let Err(refusal) = verdict_at_end(settings, a, tape.len()) {
+        return session_answers::refuse(refusal, tape);
+    }
+    session_answers::accept(session, clock, t.request, &scene, a, tape)
+}
+
+// One update: time moves on by delta seconds to `seconds`, the inbox is read, and the words of what happens are put on the tape. While the
+// clock syncs there are no worlds.
+pub fn update(
+    session: &mut Session,
+    delta: f64,
+    seconds: f64,
+    inbox: &[u32],
+    tape: &mut [u32],
+) -> Updated
+    ensures { Updates (update_of session.old delta seconds inbox.now (length tape.old)) (answer_with session.new result) tape.new }
+{
+    let found = scan(session, seconds, inbox);
+    if let Err(refusal) = refusals::at_once(
+        times_ok(delta, seconds),
+        found.verdict,
+        session.is_sound(),
+    ) {
+        return session_answers::refuse(refusal, tape);
+    }
+    if session_state::has_worlds(session.stage) {
+        return update_worlds(session, delta, seconds, inbox, found, tape);
+    }
+    update_clock(session, delta, seconds, found.worldly, found.heard, tape)
+}

@@ -1,5 +1,0 @@
--- `scene_of` meets its contract: the worlds with empty ledgers. Assumes nothing.
-use Rattle.session_state.proofs.scene_of.Goals as goal
-
-pub returns : goal.returns
-returns c = rw (c.empty.ensures, c.empty-2.ensures)
