@@ -12,7 +12,7 @@ ghost use Rattle.timestamp.specs.FloatTimestamps.{from_unwrapped, from_seconds, 
 
 use std::cmp::Ordering;
 
-// The stamp of a frame: 16 bits, read as a signed number by `value` alone.
+// The stamp of a frame: 16 bits, read as a signed number by `i16::from` alone.
 #[derive(Clone, Copy, PartialEq, Eq)]
 pub struct Timestamp(pub u16);
 
@@ -60,34 +60,30 @@ impl Timestamp {
         d <= 16382 || d >= 49153
     }
 
-    // The stamp as a signed number.
-    pub fn value(self) -> i16
-        ensures { result ≡ signed_of self.0 }
-    {
-        let n = self.0;
-        if n < 32768 {
-            n as i16
-        } else {
-            -1 - ((65535 - n) as i16)
-        }
-    }
-
-    // The stamp of a signed number.
-    pub fn from_value(v: i16) -> Timestamp
-        ensures { result.0 ≡ bits_of v }
-    {
-        if v >= 0 {
-            Timestamp(v as u16)
-        } else {
-            Timestamp(65535 - ((-1 - v) as u16))
-        }
-    }
-
     // The stamp of a time, its frame count cut toward zero.
     pub fn from_seconds(seconds: f64, timestep: f64) -> Timestamp
         ensures { result.0 ≡ bits_of (stamp_of (from_seconds seconds timestep)) }
     {
         FloatTimestamp::from_seconds(seconds, timestep).trunc()
+    }
+}
+
+// The stamp as a signed number.
+impl From<Timestamp> for i16 {
+    ghost from_gives = { λ t v. v ≡ signed_of t.0 };
+
+    #[tactic(auto, unfolding(crate::specs::Timestamps::signed_of))]
+    fn from(t: Timestamp) -> i16 {
+        t.0.cast_signed()
+    }
+}
+
+// The stamp of a signed number.
+impl From<i16> for Timestamp {
+    ghost from_gives = { λ v t. t.0 ≡ bits_of v };
+
+    fn from(v: i16) -> Timestamp {
+        Timestamp(v.cast_unsigned())
     }
 }
 
@@ -115,13 +111,6 @@ impl FloatTimestamp {
         }
     }
 
-    // The frame count of a stamp.
-    pub fn from_timestamp(t: Timestamp) -> FloatTimestamp
-        ensures { result.0 ≡ float_of t.0 }
-    {
-        FloatTimestamp(t.value() as f64)
-    }
-
     // The difference of two frame counts, wrapped.
     pub fn sub(self, other: FloatTimestamp) -> FloatTimestamp
         ensures { result.0 ≡ float_difference_of self.0 other.0 }
@@ -145,7 +134,7 @@ impl FloatTimestamp {
             return Timestamp(32767);
         }
         if x > -32768.0 {
-            return Timestamp::from_value(std::num::truncating_f64_to_i64(x) as i16);
+            return Timestamp::from(std::num::truncating_f64_to_i64(x) as i16);
         }
         if x != x {
             return Timestamp(0);
@@ -158,6 +147,15 @@ impl FloatTimestamp {
         ensures { result.0 ≡ bits_of (ceil_stamp_of self.0) }
     {
         FloatTimestamp(ceil(self.0)).trunc()
+    }
+}
+
+// The frame count of a stamp.
+impl From<Timestamp> for FloatTimestamp {
+    ghost from_gives = { λ t x. x.0 ≡ float_of t.0 };
+
+    fn from(t: Timestamp) -> FloatTimestamp {
+        FloatTimestamp(i16::from(t) as f64)
     }
 }
 

@@ -45,7 +45,7 @@ overflow_cast-truncating_f64_to_i64 c = subst (λ (z : ℤ). SFits w16 z) (sym (
 pub returns-then-x-2 : goal.returns-then-x-2
 unfolding stamp_of
 returns-then-x-2 c =
-    c.from_value.ensures
+    c.from.ensures
     ∙ ap bits_of (ap (λ (z : ℤ). to_z w16 (of_z w16 z)) (back c.before) ∙ to_z-of_z {w = w16} (narrow c.before) ∙ whole c.before
     ∙ same c.before.before.before.before)
 
