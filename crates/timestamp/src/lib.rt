@@ -93,6 +93,7 @@ pub struct FloatTimestamp(pub f64);
 
 impl FloatTimestamp {
     // The frame count of a time.
+    #[tactic(auto, unfolding(crate::specs::FloatTimestamps::from_seconds))]
     pub fn from_seconds(seconds: f64, timestep: f64) -> FloatTimestamp
         ensures { result.0 ≡ from_seconds seconds timestep }
     {
@@ -129,20 +130,11 @@ impl FloatTimestamp {
     pub fn trunc(self) -> Timestamp
         ensures { result.0 ≡ bits_of (stamp_of self.0) }
     {
-        let x = trunc(self.0);
-        if x >= 32767.0 {
-            return Timestamp(32767);
-        }
-        if x > -32768.0 {
-            return Timestamp::from(std::num::truncating_f64_to_i64(x) as i16);
-        }
-        if x != x {
-            return Timestamp(0);
-        }
-        Timestamp(32768)
+        Timestamp::from(std::num::saturating_f64_to_i16(trunc(self.0)))
     }
 
     // The stamp of the frame count rounded up, at most 32,767 and at least -32,768; 0 for a NaN.
+    #[tactic(auto, unfolding(crate::specs::FloatTimestamps::stamp_of, crate::specs::FloatTimestamps::ceil_stamp_of))]
     pub fn ceil(self) -> Timestamp
         ensures { result.0 ≡ bits_of (ceil_stamp_of self.0) }
     {
