@@ -9,6 +9,8 @@ ghost use Rattle.timestamp.specs.Floats.{between};
 ghost use Rattle.settings.specs.Settings.{lag_frame_count_of, blend_progress_of, samples_to_discard_of, samples_to_store_of};
 ghost use Rattle.settings.specs.Tweening.{method_of, known_of, shaped_of};
 
+use refusals::{LONGEST_LATENCY, LONGEST_TIMESTEP, SHORTEST_TIMESTEP};
+
 // How the displayed state is chosen between the two frames next to the present time.
 #[derive(Clone, Copy)]
 pub enum TweeningMethod {
@@ -168,15 +170,9 @@ const MOST_TIMESTEPS: f64 = 64.0;
 fn seconds_pass(s: Settings) -> bool
     ensures { result ≡ seconds_pass s }
 {
-    within(
-        refusals::SHORTEST_TIMESTEP,
-        refusals::LONGEST_TIMESTEP,
-        s.timestep,
-    ) && within(
-        refusals::SHORTEST_TIMESTEP,
-        refusals::LONGEST_LATENCY,
-        s.blend,
-    ) && within(0.0, refusals::LONGEST_LATENCY, s.lag)
+    within(SHORTEST_TIMESTEP, LONGEST_TIMESTEP, s.timestep)
+        && within(SHORTEST_TIMESTEP, LONGEST_LATENCY, s.blend)
+        && within(0.0, LONGEST_LATENCY, s.lag)
         && lag_frames(s.lag, s.timestep) <= refusals::MOST_LAG_FRAMES
         && within(0.0, MOST_TIMESTEPS * s.timestep, s.max)
 }
