@@ -19,7 +19,7 @@ pub fn mean_of(samples: &[f64], discard: usize) -> f64
     let end = n.saturating_sub(discard);
     let start = discard.min(end);
     let sum = sum(&ordered[start..end]);
-    sum / std::num::nearest_u64_to_f64((end - start) as u64)
+    sum / std::num::nearest_usize_to_f64(end - start)
 }
 
 // Puts samples in order, the least first, one by one among those before it. The library's sorts do not serve: the one that keeps equal

@@ -144,7 +144,7 @@ pub(crate) fn lag_frames(lag: f64, timestep: f64) -> i16
 pub fn discard_count(needed: u32, rate: f64) -> usize
     ensures { result ≡ discard_of needed rate }
 {
-    let half = std::num::nearest_u64_to_f64(needed as u64) * rate / 2.0;
+    let half = f64::from(needed) * rate / 2.0;
     usize::from(std::num::saturating_f64_to_u16(timestamp::ceil(at_least_one(half))))
 }
 

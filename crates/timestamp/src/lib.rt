@@ -147,7 +147,7 @@ impl From<Timestamp> for FloatTimestamp {
     ghost from_gives = { λ t x. x.0 ≡ float_of t.0 };
 
     fn from(t: Timestamp) -> FloatTimestamp {
-        FloatTimestamp(i16::from(t) as f64)
+        FloatTimestamp(f64::from(i16::from(t)))
     }
 }
 

@@ -7,4 +7,4 @@ use Rattle.mean.proofs.mean_of.Goals as goal
 pub returns : goal.returns
 returns c =
     mean_is c.args.samples.now c.args.discard c.min-n.ensures (c.insertion_sort.ensures ∙ ap sorted_of c.copy_from_slice.ensures.after)
-    c.saturating_sub-end.ensures c.min-start.ensures c.sum-sum.ensures c.nearest_u64_to_f64.ensures
+    c.saturating_sub-end.ensures c.min-start.ensures c.sum-sum.ensures c.nearest_usize_to_f64.ensures

@@ -9,7 +9,7 @@ use Rattle.settings.proofs.discard_count.Goals as goal
 pub returns : goal.returns
 unfolding discard_of of_bits
 returns c =
-    c.from.ensures
+    c.from-2.ensures
     ∙ c.saturating_f64_to_u16.ensures
     ∙ ap (to_unsigned 16) (c.ceil.ensures ∙ ap ceil_of (c.at_least_one.ensures
-    ∙ ap (λ (x : Float). at_least_one (div binary64 (mul binary64 x c.args.rate) two64)) c.nearest_u64_to_f64.ensures))
+    ∙ ap (λ (x : Float). at_least_one (div binary64 (mul binary64 x c.args.rate) two64)) c.from.ensures))
