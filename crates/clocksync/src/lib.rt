@@ -115,7 +115,7 @@ impl Clock {
                 ..self
             };
         }
-        let mean = mean::mean_of(all, count, settings.samples_to_discard());
+        let mean = mean::mean_of(&all[..count], settings.samples_to_discard());
         Clock {
             offset: synced(self.offset, mean, settings.deviation),
             samples: laid(&all[1..count]),
@@ -150,8 +150,7 @@ impl Clock {
         if n > refusals::MOST_SAMPLES {
             return false;
         }
-        let samples = self.samples;
-        if !mean::samples_sound(samples, n) {
+        if !mean::all_sound(&self.samples[..n]) {
             return false;
         }
         if !timer_sound(self.timer) {

@@ -4,7 +4,8 @@
 
 ghost use Rattle.std.specs.Prelude.{◌≡◌};
 ghost use Rattle.timestamp.specs.Timestamps.{bits_of};
-ghost use Rattle.settings.specs.Settings.{lag_frames_of, at_least_one, discard_of, store_of, seconds_pass, thresholds_pass, samples_pass, counts_pass, passes_of};
+ghost use Rattle.settings.specs.Settings.{lag_frames_of, at_least_one, discard_of, store_of};
+ghost use Rattle.settings.specs.Settings.{seconds_pass, thresholds_pass, samples_pass, counts_pass, passes_of};
 ghost use Rattle.timestamp.specs.Floats.{between};
 ghost use Rattle.settings.specs.Settings.{lag_frame_count_of, blend_progress_of, samples_to_discard_of, samples_to_store_of};
 ghost use Rattle.settings.specs.Tweening.{method_of, known_of, shaped_of};

@@ -18,17 +18,17 @@ returns-then-n-gt-MOST_SAMPLES c =
     let a = c.args in
     verdict_many a.settings a.self below c.if-n-gt-MOST_SAMPLES.true
 
-pub returns-then-not-samples_sound : goal.returns-then-not-samples_sound
-returns-then-not-samples_sound c =
+pub returns-then-not-all_sound : goal.returns-then-not-all_sound
+returns-then-not-all_sound c =
     let below : c.args.self.len < samples_to_store_of c.args.settings = omega (arith, c.samples_to_store.ensures, c.if-n-samples_to_store.false) in
     let a = c.args in
-    verdict_samples a.settings a.self below c.if-n-gt-MOST_SAMPLES.false (fails c.if-not-samples_sound.true c.samples_sound.ensures)
+    verdict_samples a.settings a.self below c.if-n-gt-MOST_SAMPLES.false (fails c.if-not-all_sound.true c.all_sound.ensures)
 
 pub returns-then-not-timer_sound : goal.returns-then-not-timer_sound
 returns-then-not-timer_sound c =
     let below : c.args.self.len < samples_to_store_of c.args.settings = omega (arith, c.samples_to_store.ensures, c.if-n-samples_to_store.false) in
     let a = c.args in
-    verdict_timer a.settings a.self below c.if-n-gt-MOST_SAMPLES.false (holds c.if-not-samples_sound.false c.samples_sound.ensures)
+    verdict_timer a.settings a.self below c.if-n-gt-MOST_SAMPLES.false (holds c.if-not-all_sound.false c.all_sound.ensures)
     (fails c.if-not-timer_sound.true c.timer_sound.ensures)
 
 pub returns : goal.returns
@@ -36,5 +36,5 @@ returns c =
     let below : c.args.self.len < samples_to_store_of c.args.settings = omega (arith, c.samples_to_store.ensures, c.if-n-samples_to_store.false) in
     let a = c.args in
     let offset : c.is_none_or.result ≡ offset_ok a.self.offset = search rules in
-    offset ∙ verdict_offset a.settings a.self below c.if-n-gt-MOST_SAMPLES.false (holds c.if-not-samples_sound.false c.samples_sound.ensures)
+    offset ∙ verdict_offset a.settings a.self below c.if-n-gt-MOST_SAMPLES.false (holds c.if-not-all_sound.false c.all_sound.ensures)
     (holds c.if-not-timer_sound.false c.timer_sound.ensures)
