@@ -1,7 +1,6 @@
 pub mod Rfc
 pub mod Lists
 pub mod Tests
-pub mod Verdict
 pub mod Samples
 pub mod Sound
 pub mod Ready

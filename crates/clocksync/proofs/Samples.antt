@@ -6,7 +6,7 @@ use Prim.Native.Nat.{ℕ, ◌+◌, ◌≤◌, ◌<◌, min}
 use native.Mathlib.Omega.{arith}
 use lib.Dec.{ltb}
 use lib.ListN.{length, take, drop, set, length-append, length-take, length-drop}
-use lib.Seq.{slice}
+use lib.Seq.{slice, take_all}
 use lib.Ieee.{Float}
 use borrow.Author.Tests.{lt-ltb, le-ltb}
 use Rattle.settings.specs.declared.Settings.{Settings}
@@ -60,14 +60,15 @@ module _ (s : Settings) (c : Clock) (x : Float) {n : ℕ} {laid : List Float} (f
 
   -- as many as are stored
   pub added_full : {store discard : ℕ} {mean : Float} {offset : Option Float} {rest : List Float} → store ≡ samples_to_store_of s → store ≤ n + 1
-      → discard ≡ samples_to_discard_of s → mean ≡ mean_of discard (take (n + 1) (set laid n x)) → offset ≡ offset_after c.offset mean s.deviation
+      → discard ≡ samples_to_discard_of s → mean ≡ mean_of discard (take 64 (take (n + 1) (set laid n x))) → offset ≡ offset_after c.offset mean s.deviation
       → rest ≡ laid_out (slice 1 (n + 1) (set laid n x)) → ◌≡◌ {A = Clock}
       (record { offset = offset; samples = rest; len = n; timer = c.timer; id = c.id }) (added_of s c x)
   unfolding filled_of
   added_full {store} {discard} {mean} {offset} {rest} e h d m o r =
       let xs = held_of c ++ (x ∷ []) in
       let t : ltb (length xs) (samples_to_store_of s) ≡ false = le-ltb (length xs) (samples_to_store_of s) (omega (arith, all_length, e)) in
-      let M : mean ≡ mean_of (samples_to_discard_of s) xs = m ∙ ap (mean_of discard) all_back ∙ ap (λ (k : ℕ). mean_of k xs) d in
+      let M : mean ≡ mean_of (samples_to_discard_of s) xs = m ∙ ap (mean_of discard) (ap (take 64) all_back
+      ∙ take_all 64 xs (omega (arith, all_length, cut))) ∙ ap (λ (k : ℕ). mean_of k xs) d in
       let O : offset ≡ offset_after c.offset (mean_of (samples_to_discard_of s) xs) s.deviation = o
       ∙ ap (λ (y : Float). offset_after c.offset y s.deviation) M in
       let R : rest ≡ laid_out (drop 1 xs) = r ∙ ap (λ (l : List Float). laid_out (drop 1 l)) all_back in

@@ -17,7 +17,7 @@ pub struct Clock {
     // server_seconds_offset: from the client's to the server's clock in seconds, or none yet
     pub offset: Option<f64>,
     // server_seconds_offset_samples, oldest first
-    pub samples: [f64; 64],
+    pub samples: [f64; refusals::SAMPLE_ROOM],
     // how many samples there are
     pub len: usize,
     // seconds_since_last_request_sent
@@ -49,7 +49,7 @@ impl Clock {
     {
         Clock {
             offset: None,
-            samples: [0.0; 64],
+            samples: [0.0; refusals::SAMPLE_ROOM],
             len: 0,
             timer: 0.0,
             id: None,
@@ -86,6 +86,7 @@ impl Clock {
     }
 
     // The clock after all clock messages of an inbox: the client's number is kept, and the last message's offset is a sample.
+    #[tactic(auto, unfolding(crate::specs::Clock::settled_of))]
     pub fn settle(self, settings: Settings, heard: Heard) -> Clock
         ensures { result ≡ settled_of settings self heard }
     {
@@ -115,7 +116,7 @@ impl Clock {
                 ..self
             };
         }
-        let mean = mean::mean_of(all, count, settings.samples_to_discard());
+        let mean = mean::mean_of(&all[..count], settings.samples_to_discard());
         Clock {
             offset: synced(self.offset, mean, settings.deviation),
             samples: laid(&all[1..count]),
@@ -140,29 +141,22 @@ impl Clock {
 
     // Whether the clock is as calls leave it: fewer samples than are stored, samples and offset within 2^33, and the timer finite and at
     // most 3,600.
+    #[tactic(auto, unfolding(crate::specs::Clock::sound_clock))]
     pub fn is_sound(self, settings: Settings) -> bool
         ensures { result ≡ sound_clock settings self }
     {
         let n = self.len;
-        if n >= settings.samples_to_store() {
-            return false;
-        }
-        if n > refusals::MOST_SAMPLES {
-            return false;
-        }
-        let samples = self.samples;
-        if !mean::samples_sound(samples, n) {
-            return false;
-        }
-        if !timer_sound(self.timer) {
-            return false;
-        }
-        self.offset.is_none_or(mean::sample_sound)
+        n < settings.samples_to_store()
+            && n <= refusals::MOST_SAMPLES
+            && mean::all_sound(&self.samples[..n])
+            && timer_sound(self.timer)
+            && self.offset.is_none_or(mean::sample_sound)
     }
 }
 
 impl Heard {
     // One clock message more: its client number, its send time and the server's time, received at this client's time `seconds`.
+    #[tactic(auto, unfolding(crate::specs::Clock::heard_of))]
     pub fn hear(self, id: u32, send: f64, server: f64, seconds: f64) -> Heard
         ensures { result ≡ heard_of seconds self id send server }
     {
@@ -196,11 +190,11 @@ pub(crate) fn measured_offset(send: f64, server: f64, seconds: f64) -> f64
 }
 
 // Samples laid out from the front, the slots after them at 0.
-pub fn laid(samples: &[f64]) -> [f64; 64]
+pub fn laid(samples: &[f64]) -> [f64; refusals::SAMPLE_ROOM]
     requires { length samples.now ≤ sample_room }
     ensures { result ≡ laid_out samples.now }
 {
-    let mut out = [0.0; 64];
+    let mut out = [0.0; refusals::SAMPLE_ROOM];
     out[..samples.len()].copy_from_slice(samples);
     out
 }

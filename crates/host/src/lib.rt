@@ -2,9 +2,7 @@
 // The header include/kadwunge.h declares them. Every argument is answered; none is required to be anything.
 #![tactic(auto)]
 
-ghost use Rattle.std.specs.Prelude.{◌≡◌, ◌+◌, ◌*◌, ◌≤◌, length, take, replicate};
-ghost use Rattle.std.specs.Float.{binary64};
-ghost use Rattle.std.specs.Float.Ieee.{of_bits};
+ghost use Rattle.std.specs.Prelude.{◌≡◌, ◌+◌, ◌*◌, ◌≤◌, length, replicate};
 ghost use Rattle.timestamp.specs.Timestamps.{bits_of, order_of, order_number};
 ghost use Rattle.refusals.specs.Limits.{sample_room};
 ghost use Rattle.film_rate.specs.Spans.{span_frames_of};
@@ -12,7 +10,7 @@ ghost use Rattle.host.specs.Host.{frame_stamp_of};
 ghost use Rattle.host.specs.Mean.{word_at, floats_of, bytes_of, judged_mean, mean_answer_of, AnswersMean};
 ghost use Rattle.host.specs.Spans.{host_span_of};
 
-use refusals::{Refusal, require};
+use refusals::{LONGEST_TIME, LONGEST_TIMESTEP, Refusal, SAMPLE_ROOM, SHORTEST_TIMESTEP, require};
 use std::cmp::Ordering;
 use timestamp::Timestamp;
 
@@ -26,11 +24,17 @@ pub struct HostSpanFrames {
     pub spare: u32,
 }
 
+// What is answered for a timestep out of range, in place of a stamp.
+const TIMESTEP_OUT_OF_RANGE: i32 = 65537;
+
+// What is answered for seconds out of range.
+const SECONDS_OUT_OF_RANGE: i32 = 65538;
+
 // The order of two stamps, the first against the second: -1, 0 or 1.
 pub fn kadwunge_stamp_order(first: i16, second: i16) -> i32
     ensures { result ≡ order_number (order_of (bits_of first) (bits_of second)) }
 {
-    match Timestamp::from_value(first).cmp(Timestamp::from_value(second)) {
+    match Timestamp::from(first).cmp(Timestamp::from(second)) {
         Ordering::Less => -1,
         Ordering::Equal => 0,
         Ordering::Greater => 1,
@@ -41,13 +45,13 @@ pub fn kadwunge_stamp_order(first: i16, second: i16) -> i32
 pub fn kadwunge_frame_stamp(seconds: f64, timestep: f64) -> i32
     ensures { result ≡ frame_stamp_of seconds timestep }
 {
-    if !settings::within(0.0009765625, 1.0, timestep) {
-        return 65537;
+    if !settings::within(SHORTEST_TIMESTEP, LONGEST_TIMESTEP, timestep) {
+        return TIMESTEP_OUT_OF_RANGE;
     }
-    if !settings::within(-refusals::LONGEST_TIME, refusals::LONGEST_TIME, seconds) {
-        return 65538;
+    if !settings::within(-LONGEST_TIME, LONGEST_TIME, seconds) {
+        return SECONDS_OUT_OF_RANGE;
     }
-    Timestamp::from_seconds(seconds, timestep).value() as i32
+    i32::from(i16::from(Timestamp::from_seconds(seconds, timestep)))
 }
 
 // The whole frames of a span of microseconds at p over q frames a second, and the remainder; or 31, both being 0 then.
@@ -64,7 +68,7 @@ pub fn kadwunge_frames_of_span(span: u64, p: u32, q: u32) -> HostSpanFrames
         Err(refusal) => HostSpanFrames {
             frames: 0,
             remainder: 0,
-            refusal: refusal.number(),
+            refusal: u32::from(refusal),
             spare: 0,
         },
     }
@@ -77,12 +81,12 @@ pub fn kadwunge_mean_of_samples(needed: u32, rate: f64, samples: &[u8], answer: 
 {
     match mean_of_bytes(needed, rate, samples, answer.len()) {
         Ok(mean) => {
-            put(answer, tape::bits_of(mean));
+            put(answer, std::num::f64_to_bits_with_nan(mean));
             0
         }
         Err(refusal) => {
             clear(answer);
-            refusal.number()
+            u32::from(refusal)
         }
     }
 }
@@ -103,31 +107,21 @@ fn mean_of_first(samples: &[u8], n: usize, discard: usize) -> Result<f64, Refusa
     requires { (n ≤ sample_room) × (8 * n ≤ length samples.now) }
     ensures { result ≡ judged_mean discard (floats_of samples.now n) }
 {
-    let floats = floats_of(samples, n);
-    require(mean::samples_sound(floats, n), Refusal::Samples)?;
-    Ok(mean::mean_of(floats, n, discard))
+    let mut room = [0.0; SAMPLE_ROOM];
+    let floats = &mut room[..n];
+    read_floats(samples, floats);
+    require(mean::all_sound(floats), Refusal::Samples)?;
+    Ok(mean::mean_of(floats, discard))
 }
 
-// The first n floats of bytes, at the front of an array.
-fn floats_of(bytes: &[u8], n: usize) -> [f64; 64]
-    requires { (n ≤ sample_room) × (8 * n ≤ length bytes.now) }
-    ensures { take n result ≡ floats_of bytes.now n }
+// Reads as many floats of bytes as there is room for.
+fn read_floats(bytes: &[u8], out: &mut [f64])
+    requires { 8 * length out.old ≤ length bytes.now }
+    ensures { out.new ≡ floats_of bytes.now (length out.old) }
 {
-    let mut out = [0.0; 64];
-    for i in 0..n {
-        out[i] = float_of(word_at(bytes, 8 * i));
+    for i in 0..out.len() {
+        out[i] = std::num::f64_from_bits_with_nan(word_at(bytes, 8 * i));
     }
-    out
-}
-
-// The float of a bit pattern. The pattern of a NaN is tested for, since no float may be made of it; its float is the one NaN.
-fn float_of(bits: u64) -> f64
-    ensures { result ≡ of_bits binary64 bits }
-{
-    if bits % 9223372036854775808 > 9218868437227405312 {
-        return 0.0 / 0.0;
-    }
-    f64::from_bits(bits)
 }
 
 // The number in the 8 bytes at a place, low byte first.

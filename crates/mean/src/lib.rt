@@ -2,22 +2,24 @@
 // in range.
 #![tactic(auto)]
 
-ghost use Rattle.std.specs.Prelude.{◌≡◌, ◌-◌, ◌<◌, ◌≤◌, length, min, take};
+ghost use Rattle.std.specs.Prelude.{◌≡◌, ◌-◌, ◌<◌, ◌≤◌, length, take};
 ghost use Rattle.mean.specs.Mean.{sample_inserted, place_of, sorted_of, sum_from, mean_of, samples_ok};
 ghost use Rattle.timestamp.specs.Floats.{zero64, sample_ok};
 ghost use Rattle.refusals.specs.Limits.{sample_room};
 
-// The mean of the first `len` samples (of as many as a clock has slots): sorted, `discard` of them left out at each end, summed upward from +0.0.
-pub fn mean_of(samples: [f64; 64], len: usize, discard: usize) -> f64
-    ensures { result ≡ mean_of discard (take len samples) }
+// The mean of samples, of the first 64 where there are more: sorted, `discard` of them left out at each end, summed upward from +0.0.
+pub fn mean_of(samples: &[f64], discard: usize) -> f64
+    ensures { result ≡ mean_of discard (take sample_room samples.now) }
 {
-    let n = len.min(refusals::SAMPLE_ROOM);
-    let mut ordered = samples;
-    insertion_sort(&mut ordered[..n]);
+    let n = samples.len().min(refusals::SAMPLE_ROOM);
+    let mut room = [0.0; refusals::SAMPLE_ROOM];
+    let ordered = &mut room[..n];
+    ordered.copy_from_slice(&samples[..n]);
+    insertion_sort(ordered);
     let end = n.saturating_sub(discard);
     let start = discard.min(end);
     let sum = sum(&ordered[start..end]);
-    sum / std::num::nearest_u64_to_f64((end - start) as u64)
+    sum / std::num::nearest_usize_to_f64(end - start)
 }
 
 // Puts samples in order, the least first, one by one among those before it. The library's sorts do not serve: the one that keeps equal
@@ -60,13 +62,6 @@ fn sum(samples: &[f64]) -> f64
     samples.iter().fold(0.0, |sum, x| sum + *x)
 }
 
-// The smaller of two counts.
-pub fn least(a: usize, b: usize) -> usize
-    ensures { result ≡ min a b }
-{
-    a.min(b)
-}
-
 // Whether a sample, or an offset, is finite and within 2^33.
 pub fn sample_sound(x: f64) -> bool
     ensures { result ≡ sample_ok x }
@@ -79,12 +74,4 @@ pub fn all_sound(samples: &[f64]) -> bool
     ensures { result ≡ samples_ok samples.now }
 {
     samples.iter().all(|x| sample_sound(*x))
-}
-
-// Whether each of the first n is.
-pub fn samples_sound(samples: [f64; 64], n: usize) -> bool
-    requires { n ≤ sample_room }
-    ensures { result ≡ samples_ok (take n samples) }
-{
-    all_sound(&samples[..n])
 }

@@ -33,20 +33,20 @@ pub extern "C" fn probe_in_range(t: u16, midpoint: u16) -> bool
     Timestamp(t).in_comparable_range(Timestamp(midpoint))
 }
 
-// Timestamp::value
+// i16::from(Timestamp)
 #[unsafe(no_mangle)]
 pub extern "C" fn probe_value(t: u16) -> i16
     ensures { result ≡ signed_of t }
 {
-    Timestamp(t).value()
+    i16::from(Timestamp(t))
 }
 
-// Timestamp::from_value
+// Timestamp::from(i16)
 #[unsafe(no_mangle)]
 pub extern "C" fn probe_from_value(v: i16) -> u16
     ensures { result ≡ bits_of v }
 {
-    Timestamp::from_value(v).0
+    Timestamp::from(v).0
 }
 
 // FloatTimestamp::from_unwrapped
@@ -65,12 +65,12 @@ pub extern "C" fn probe_from_seconds(seconds: f64, timestep: f64) -> f64
     FloatTimestamp::from_seconds(seconds, timestep).0
 }
 
-// FloatTimestamp::from_timestamp
+// FloatTimestamp::from(Timestamp)
 #[unsafe(no_mangle)]
 pub extern "C" fn probe_from_timestamp(t: u16) -> f64
     ensures { result ≡ float_of t }
 {
-    FloatTimestamp::from_timestamp(Timestamp(t)).0
+    FloatTimestamp::from(Timestamp(t)).0
 }
 
 // FloatTimestamp::sub

@@ -1,6 +1,6 @@
 -- What it says of its tests that a call is accepted. Assumes nothing.
 use Rattle.std.proofs.Common.{◌≡◌, refl, Bool, true, false, rules}
-use Rattle.std.specs.Prelude.{Ok, Err, is_ok}
+use Rattle.std.specs.Prelude.{Ok, Err}
 use Rattle.refusals.specs.declared.Refusal.{Refusal}
 use Rattle.refusals.specs.declared.Stop.{Stop}
 use Rattle.refusals.specs.declared.Stop.TheVariants.{Done, TooManyFrames, StatusStops}
@@ -9,11 +9,6 @@ use Rattle.refusals.specs.Refusals.{Verdict, accepted, required, open_verdict_by
 -- a call that is turned down is not accepted
 pub turned_down : {A : Type 0} (e : Refusal) → Err e ≡ accepted → A
 turned_down e h = absurd (search rules)
-
--- a verdict that is no refusal accepts
-pub is_accepted : (v : Verdict) → is_ok v ≡ true → v ≡ accepted
-is_accepted (Ok x) h = refl
-is_accepted (Err e) h = absurd (search rules)
 
 -- a fact that was required holds where the verdict accepts
 pub required_holds : (fact : Bool) (e : Refusal) {x : Unit {0}} → required fact e ≡ Ok x → fact ≡ true

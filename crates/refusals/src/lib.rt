@@ -50,12 +50,12 @@ pub enum Refusal {
 // What a call is judged to be: accepted, or turned down.
 pub type Verdict = Result<(), Refusal>;
 
-impl Refusal {
-    // The number under which hosts are told of it.
-    pub fn number(self) -> u32
-        ensures { result ≡ number_of self }
-    {
-        match self {
+// The number under which hosts are told of it.
+impl From<Refusal> for u32 {
+    ghost from_gives = { λ refusal n. n ≡ number_of refusal };
+
+    fn from(refusal: Refusal) -> u32 {
+        match refusal {
             Refusal::Settings => 1,
             Refusal::Times => 2,
             Refusal::Length => 3,
@@ -84,7 +84,7 @@ pub fn number(verdict: Verdict) -> u32
 {
     match verdict {
         Ok(()) => 0,
-        Err(refusal) => refusal.number(),
+        Err(refusal) => u32::from(refusal),
     }
 }
 
@@ -118,6 +118,12 @@ pub const LONGEST_SPAN: u64 = 1099511627776;
 // Each of the two parts of a frame rate is at most this.
 pub const MOST_RATE_PART: u32 = 65535;
 
+// The shortest timestep and the shortest blend latency, in seconds: 1/1024.
+pub const SHORTEST_TIMESTEP: f64 = 0.0009765625;
+// The longest timestep, in seconds.
+pub const LONGEST_TIMESTEP: f64 = 1.0;
+// The longest latency, in seconds.
+pub const LONGEST_LATENCY: f64 = 60.0;
 // The seconds of an hour: the limit of a delta, of the request timer and of thresholds.
 pub const HOUR: f64 = 3600.0;
 // Times are within 2^32 seconds on both sides of 0.
@@ -141,6 +147,7 @@ pub fn of_open(passes: bool) -> Verdict
 }
 
 // The verdict on an update before anything of it is played.
+#[tactic(auto, unfolding(crate::specs::Refusals::once_verdict_by))]
 pub fn at_once(times: bool, inbox: Verdict, sound: bool) -> Verdict
     ensures { result ≡ once_verdict_by times inbox sound }
 {

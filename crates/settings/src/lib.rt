@@ -4,12 +4,13 @@
 
 ghost use Rattle.std.specs.Prelude.{◌≡◌};
 ghost use Rattle.timestamp.specs.Timestamps.{bits_of};
-ghost use Rattle.settings.specs.Settings.{lag_frames_of, discard_of, store_of, seconds_pass, thresholds_pass, samples_pass, counts_pass, passes_of};
+ghost use Rattle.settings.specs.Settings.{lag_frames_of, at_least_one, discard_of, store_of};
+ghost use Rattle.settings.specs.Settings.{seconds_pass, thresholds_pass, samples_pass, counts_pass, passes_of};
 ghost use Rattle.timestamp.specs.Floats.{between};
 ghost use Rattle.settings.specs.Settings.{lag_frame_count_of, blend_progress_of, samples_to_discard_of, samples_to_store_of};
 ghost use Rattle.settings.specs.Tweening.{method_of, known_of, shaped_of};
 
-use timestamp::{FloatTimestamp, Timestamp};
+use refusals::{LONGEST_LATENCY, LONGEST_TIMESTEP, SHORTEST_TIMESTEP};
 
 // How the displayed state is chosen between the two frames next to the present time.
 #[derive(Clone, Copy)]
@@ -24,12 +25,12 @@ pub enum TweeningMethod {
     Unknown,
 }
 
-impl TweeningMethod {
-    // The method that a number names.
+// The method that a number names.
+impl From<u32> for TweeningMethod {
+    ghost from_gives = { λ n method. method ≡ method_of n };
+
     #[tactic(auto, unfolding(crate::specs::Tweening::method_of))]
-    pub fn from_number(n: u32) -> TweeningMethod
-        ensures { result ≡ method_of n }
-    {
+    fn from(n: u32) -> TweeningMethod {
         match n {
             0 => TweeningMethod::MostRecentlyPassed,
             1 => TweeningMethod::Nearest,
@@ -37,7 +38,9 @@ impl TweeningMethod {
             _ => TweeningMethod::Unknown,
         }
     }
+}
 
+impl TweeningMethod {
     // Whether it is one of the three methods.
     pub(crate) fn is_known(self) -> bool
         ensures { result ≡ known_of self }
@@ -89,7 +92,7 @@ impl Settings {
     pub fn lag_compensation_frame_count(self) -> u16
         ensures { result ≡ bits_of (lag_frame_count_of self) }
     {
-        Timestamp::from_value(lag_frames(self.lag, self.timestep)).0
+        lag_frames(self.lag, self.timestep).cast_unsigned()
     }
 
     // How far one frame moves the blend weight.
@@ -130,12 +133,11 @@ pub fn within(lo: f64, hi: f64, x: f64) -> bool
 }
 
 // How many frames of the timestep a lag is.
+#[tactic(auto, unfolding(crate::specs::Settings::lag_frames_of, timestamp::specs::FloatTimestamps::stamp_of))]
 pub(crate) fn lag_frames(lag: f64, timestep: f64) -> i16
     ensures { result ≡ lag_frames_of lag timestep }
 {
-    FloatTimestamp(timestamp::round(lag / timestep))
-        .trunc()
-        .value()
+    std::num::saturating_f64_to_i16(timestamp::round(lag / timestep))
 }
 
 // How many samples are left out at each end of those sorted: half of the outliers that are to be expected, rounded up, and at least 1.
@@ -143,16 +145,15 @@ pub(crate) fn lag_frames(lag: f64, timestep: f64) -> i16
 pub fn discard_count(needed: u32, rate: f64) -> usize
     ensures { result ≡ discard_of needed rate }
 {
-    let half = std::num::nearest_u64_to_f64(needed as u64) * rate / 2.0;
-    // a NaN is not above 1
-    if half > 1.0 {
-        let whole = timestamp::ceil(half);
-        if whole >= 65535.0 {
-            return 65535;
-        }
-        return std::num::truncating_f64_to_u64(whole) as usize;
-    }
-    1
+    let half = f64::from(needed) * rate / 2.0;
+    usize::from(std::num::saturating_f64_to_u16(timestamp::ceil(at_least_one(half))))
+}
+
+// The larger of x and 1; 1 for a NaN.
+fn at_least_one(x: f64) -> f64
+    ensures { result ≡ at_least_one x }
+{
+    if x > 1.0 { x } else { 1.0 }
 }
 
 // How many samples are stored: those needed and those left out at both ends.
@@ -163,20 +164,21 @@ pub fn store_count(needed: u32, rate: f64) -> usize
     (needed as usize) + n * 2
 }
 
-// The timestep, the latencies and the longest update.
+// The update maximum is at most so many timesteps.
+const MOST_TIMESTEPS: f64 = 64.0;
 
+// The timestep, the latencies and the longest update.
 fn seconds_pass(s: Settings) -> bool
     ensures { result ≡ seconds_pass s }
 {
-    within(0.0009765625, 1.0, s.timestep)
-        && within(0.0009765625, 60.0, s.blend)
-        && within(0.0, 60.0, s.lag)
+    within(SHORTEST_TIMESTEP, LONGEST_TIMESTEP, s.timestep)
+        && within(SHORTEST_TIMESTEP, LONGEST_LATENCY, s.blend)
+        && within(0.0, LONGEST_LATENCY, s.lag)
         && lag_frames(s.lag, s.timestep) <= refusals::MOST_LAG_FRAMES
-        && within(0.0, 64.0 * s.timestep, s.max)
+        && within(0.0, MOST_TIMESTEPS * s.timestep, s.max)
 }
 
 // The request period, the clock's tolerable deviation and the skip's threshold.
-
 fn thresholds_pass(s: Settings) -> bool
     ensures { result ≡ thresholds_pass s }
 {

@@ -12,7 +12,7 @@ ghost use Rattle.timestamp.specs.FloatTimestamps.{from_unwrapped, from_seconds, 
 
 use std::cmp::Ordering;
 
-// The stamp of a frame: 16 bits, read as a signed number by `value` alone.
+// The stamp of a frame: 16 bits, read as a signed number by `i16::from` alone.
 #[derive(Clone, Copy, PartialEq, Eq)]
 pub struct Timestamp(pub u16);
 
@@ -60,34 +60,30 @@ impl Timestamp {
         d <= 16382 || d >= 49153
     }
 
-    // The stamp as a signed number.
-    pub fn value(self) -> i16
-        ensures { result ≡ signed_of self.0 }
-    {
-        let n = self.0;
-        if n < 32768 {
-            n as i16
-        } else {
-            -1 - ((65535 - n) as i16)
-        }
-    }
-
-    // The stamp of a signed number.
-    pub fn from_value(v: i16) -> Timestamp
-        ensures { result.0 ≡ bits_of v }
-    {
-        if v >= 0 {
-            Timestamp(v as u16)
-        } else {
-            Timestamp(65535 - ((-1 - v) as u16))
-        }
-    }
-
     // The stamp of a time, its frame count cut toward zero.
     pub fn from_seconds(seconds: f64, timestep: f64) -> Timestamp
         ensures { result.0 ≡ bits_of (stamp_of (from_seconds seconds timestep)) }
     {
         FloatTimestamp::from_seconds(seconds, timestep).trunc()
+    }
+}
+
+// The stamp as a signed number.
+impl From<Timestamp> for i16 {
+    ghost from_gives = { λ t v. v ≡ signed_of t.0 };
+
+    #[tactic(auto, unfolding(crate::specs::Timestamps::signed_of))]
+    fn from(t: Timestamp) -> i16 {
+        t.0.cast_signed()
+    }
+}
+
+// The stamp of a signed number.
+impl From<i16> for Timestamp {
+    ghost from_gives = { λ v t. t.0 ≡ bits_of v };
+
+    fn from(v: i16) -> Timestamp {
+        Timestamp(v.cast_unsigned())
     }
 }
 
@@ -97,6 +93,7 @@ pub struct FloatTimestamp(pub f64);
 
 impl FloatTimestamp {
     // The frame count of a time.
+    #[tactic(auto, unfolding(crate::specs::FloatTimestamps::from_seconds))]
     pub fn from_seconds(seconds: f64, timestep: f64) -> FloatTimestamp
         ensures { result.0 ≡ from_seconds seconds timestep }
     {
@@ -113,13 +110,6 @@ impl FloatTimestamp {
         } else {
             FloatTimestamp(r - 32768.0)
         }
-    }
-
-    // The frame count of a stamp.
-    pub fn from_timestamp(t: Timestamp) -> FloatTimestamp
-        ensures { result.0 ≡ float_of t.0 }
-    {
-        FloatTimestamp(t.value() as f64)
     }
 
     // The difference of two frame counts, wrapped.
@@ -140,24 +130,24 @@ impl FloatTimestamp {
     pub fn trunc(self) -> Timestamp
         ensures { result.0 ≡ bits_of (stamp_of self.0) }
     {
-        let x = trunc(self.0);
-        if x >= 32767.0 {
-            return Timestamp(32767);
-        }
-        if x > -32768.0 {
-            return Timestamp::from_value(std::num::truncating_f64_to_i64(x) as i16);
-        }
-        if x != x {
-            return Timestamp(0);
-        }
-        Timestamp(32768)
+        Timestamp::from(std::num::saturating_f64_to_i16(trunc(self.0)))
     }
 
     // The stamp of the frame count rounded up, at most 32,767 and at least -32,768; 0 for a NaN.
+    #[tactic(auto, unfolding(crate::specs::FloatTimestamps::stamp_of, crate::specs::FloatTimestamps::ceil_stamp_of))]
     pub fn ceil(self) -> Timestamp
         ensures { result.0 ≡ bits_of (ceil_stamp_of self.0) }
     {
         FloatTimestamp(ceil(self.0)).trunc()
+    }
+}
+
+// The frame count of a stamp.
+impl From<Timestamp> for FloatTimestamp {
+    ghost from_gives = { λ t x. x.0 ≡ float_of t.0 };
+
+    fn from(t: Timestamp) -> FloatTimestamp {
+        FloatTimestamp(f64::from(i16::from(t)))
     }
 }
 

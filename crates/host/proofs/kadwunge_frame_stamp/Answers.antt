@@ -2,7 +2,7 @@
 use borrow.Author.Rules.{rules}
 use native.Mathlib.Omega.{arith}
 use Rattle.std.proofs.lemmas.Grind.{common_steps}
-use mathlib.Core.Path.{◌≡◌, sym, ap, ◌∙◌, subst}
+use mathlib.Core.Path.{◌≡◌, sym, ap, ◌∙◌}
 use mathlib.Core.Bool.{true, cond}
 use lib.IntN.{ℤ, pos}
 use lib.Ieee.{Float, of_bits, neg}
@@ -17,12 +17,6 @@ use Rattle.timestamp.proofs.Tests.{holds}
 use Rattle.host.specs.Host.{timestep_ok, frame_stamp_of}
 use Rattle.timestamp.specs.Floats.{time_ok}
 use Rattle.host.proofs.kadwunge_frame_stamp.Goals as goal
-use Rattle.host.proofs.kadwunge_frame_stamp.Goals.{After-value}
-
-pub overflow_cast-result : goal.overflow_cast-result
-overflow_cast-result c =
-    let narrow : SFits w16 c.value.result = search rules in
-    subst (λ (z : ℤ). SFits w32 z) (sym (to_z-of_z {w = w16} narrow)) (sfits_widen tt narrow)
 
 pub returns-then-not-within : goal.returns-then-not-within
 unfolding frame_stamp_of of_bits neg
@@ -32,26 +26,19 @@ pub returns-then-not-within-2 : goal.returns-then-not-within-2
 unfolding frame_stamp_of of_bits neg
 returns-then-not-within-2 c = grind (arith, common_steps)
 
--- the signed value of the stamp that was made
-stamp : (c : After-value) → to_z w32 (of_z w32 (to_z w16 (of_z w16 c.value.result))) ≡ stamp_of
-    (from_seconds c.args.seconds c.args.timestep)
-unfolding stamp_of
-stamp c =
-    let narrow : SFits w16 c.value.result = search rules in
-    let n = narrow in
-    let y = from_seconds c.args.seconds
-    c.args.timestep in
-    ap (λ (z : ℤ). to_z w32 (of_z w32 z)) (to_z-of_z {w = w16} n)
-    ∙ to_z-of_z {w = w32} (sfits_widen tt n)
-    ∙ c.value.ensures
-    ∙ ap signed_of c.from_seconds.ensures
-    ∙ signed_bits (stamp_of y) (record { sfits = to_signed_in 15 y })
-
 -- the two tests passed
 in_both : (s t : Float) → timestep_ok t ≡ true → time_ok s ≡ true → stamp_of (from_seconds s t) ≡ frame_stamp_of s t
 unfolding frame_stamp_of
 in_both s t p q = λ i. cond (sym p i) (cond (sym q i) (stamp_of (from_seconds s t)) (pos 65538)) (pos 65537)
 
 pub returns : goal.returns
-unfolding of_bits neg
-returns c = stamp c ∙ in_both _ _ (holds c.if-not-within.false c.within.ensures) (holds c.if-not-within-2.false c.within-2.ensures)
+unfolding of_bits neg stamp_of
+returns c =
+    let narrow : SFits w16 c.from.result = search rules in
+    let y = from_seconds c.args.seconds c.args.timestep in
+    ap (λ (z : ℤ). to_z w32 (of_z w32 z)) (c.from-2.ensures ∙ to_z-of_z {w = w16} narrow)
+    ∙ to_z-of_z {w = w32} (sfits_widen tt narrow)
+    ∙ c.from.ensures
+    ∙ ap signed_of c.from_seconds.ensures
+    ∙ signed_bits (stamp_of y) (record { sfits = to_signed_in 15 y })
+    ∙ in_both _ _ (holds c.if-not-within.false c.within.ensures) (holds c.if-not-within-2.false c.within-2.ensures)
