@@ -160,7 +160,7 @@ impl<'a> Words<'a> {
             needed: self.word(),
             rate,
             m: self.word(),
-            method: TweeningMethod::from_number(self.word()),
+            method: TweeningMethod::from(self.word()),
         }
     }
 }

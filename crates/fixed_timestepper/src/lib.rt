@@ -53,7 +53,7 @@ pub(crate) fn current_logical_timestamp(
 ) -> FloatTimestamp
     ensures { result.0 ≡ logical_of stamp overshoot timestep }
 {
-    FloatTimestamp::from_timestamp(stamp).sub(FloatTimestamp::from_seconds(overshoot, timestep))
+    FloatTimestamp::from(stamp).sub(FloatTimestamp::from_seconds(overshoot, timestep))
 }
 
 // How far the worlds are ahead of the server's time, in seconds.
@@ -181,7 +181,7 @@ pub(crate) fn timeskip(
     if skips(stamp, a.overshoot, server, settings) {
         let target = FloatTimestamp::from_seconds(server, t);
         let corrected = target.ceil();
-        let overshoot = FloatTimestamp::from_timestamp(corrected)
+        let overshoot = FloatTimestamp::from(corrected)
             .sub(target)
             .as_seconds(t);
         let at = client_skip::reset_last_completed_timestamp(scene, corrected, tape, a.at);
