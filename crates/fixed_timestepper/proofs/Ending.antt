@@ -7,6 +7,7 @@ use lib.Ieee.{Float, le}
 use Rattle.timestamp.specs.declared.Timestamp.{Timestamp}
 use Rattle.timestamp.specs.Timestamps.{bits_of}
 use Rattle.timestamp.specs.FloatTimestamps.{from_seconds, float_difference_of, as_seconds, float_of, ceil_stamp_of}
+use Rattle.tape.specs.declared.Tape.{Tape}
 use Rattle.tape.specs.Tape.{Puts}
 use Rattle.tape.proofs.Writing.{puts_none, puts_as}
 use Rattle.settings.specs.declared.Settings.{Settings}
@@ -60,22 +61,22 @@ unfolding maybe_skipped
 not_skipped s a server c h = ap (λ (b : Bool). cond b (skipped (run_by s a []) server c) (run_by s a [])) (sym h)
 
 -- a skip, by the calls that make it
-pub skip_made : (s : Scene) (a : Advanced) (server : Float) (c : Settings) {was last : List ℕ} {target from difference overshoot : Float}
-    {corrected : Timestamp} {u : Scene} {next : ℕ}
-    → skips_of (old_stamp_of s.worlds) a.overshoot server c ≡ true
+pub skip_made : (s : Scene) (a : Advanced) (server : Float) (c : Settings) {was now : Tape} {target from difference overshoot : Float}
+    {corrected : Timestamp} {u : Scene}
+    → a.at ≡ was.at → skips_of (old_stamp_of s.worlds) a.overshoot server c ≡ true
     → target ≡ from_seconds server c.timestep → corrected.0 ≡ bits_of (ceil_stamp_of target) → from ≡ float_of corrected.0
     → difference ≡ float_difference_of from target → overshoot ≡ as_seconds difference c.timestep
-    → Plays (skipped_of s corrected) was a.at u next last
-    → Skips s a server c was u (record { overshoot = overshoot; frames = a.frames; at = next; stop = a.stop }) last
+    → Plays (skipped_of s corrected) was u now
+    → Skips s a server c was.words.now u (record { overshoot = overshoot; frames = a.frames; at = now.at; stop = a.stop }) now.words.now
 unfolding skipped and_then corrected_of corrected_overshoot
-skip_made s a server c {was} {last} {target} {from} {difference} {overshoot} {corrected} h ht hc hf hd ho p =
+skip_made s a server c {was} {now} {target} {from} {difference} {overshoot} {corrected} hw h ht hc hf hd ho p =
     let e : corrected ≡ corrected_of server c.timestep = ap (λ (n : ℕ). record { 0 = n }) (hc ∙ ap (λ (x : Float). bits_of (ceil_stamp_of x)) ht) in
     by_run s a server c (skipped (run_by s a []) server c) (is_skipped s a server c h)
     (p.scene ∙ ap (λ (t : Timestamp). (skipped_of s t).scene) e)
     (ho ∙ ap (λ (x : Float). as_seconds x c.timestep) (hd ∙ (λ i. float_difference_of ((hf ∙ ap (λ (t : Timestamp). float_of t.0) e) i) (ht i))))
     refl
     refl
-    (puts_as (ap (λ (t : Timestamp). (skipped_of s t).words) e) p.puts)
+    (rw hw (puts_as (ap (λ (t : Timestamp). (skipped_of s t).words) e) p.puts))
 
 -- no skip
 pub skip_none : (s : Scene) (a : Advanced) (server : Float) (c : Settings) (was : List ℕ)

@@ -6,12 +6,12 @@ use Prim.Native.Nat.{ℕ, zero, suc, ◌+◌, ◌-◌, ◌*◌, ◌≤◌, ◌<�
 use native.Mathlib.Omega.{arith}
 use lib.ListN.{length}
 use lib.Ieee.{Float, binary64, add, lt}
+use Rattle.tape.specs.declared.Tape.{Tape}
 use Rattle.tape.specs.Tape.{Puts}
 use Rattle.tape.proofs.Writing.{puts_none, puts_then, puts_as, puts-length}
 use Rattle.settings.specs.declared.Settings.{Settings}
 use Rattle.settings.specs.Settings.{blend_progress_of}
 use Rattle.client.specs.declared.Scene.{Scene}
-use Rattle.client_frame.specs.declared.Framed.{Framed}
 use Rattle.client_frame.specs.declared.Rules.{Rules}
 use Rattle.client_frame.specs.Frame.{frame_of, frame_stops, Frames}
 use Rattle.refusals.specs.declared.Stop.{Stop}
@@ -24,7 +24,6 @@ use Rattle.fixed_timestepper.proofs.Induction.{frame}
 pub record Running (c : Settings) (from : Scene) (start : Float) (was tape : List ℕ) (s : Scene) (o : Float) (p n : ℕ) : Type 0 where
   pub bound : n ≤ 65
   pub at : p ≤ n * 5000
-  pub len : length tape ≡ length was
   pub scene : (run_of (65 - n) c s o).played.scene ≡ (run_of 65 c from start).played.scene
   pub overshoot : (run_of (65 - n) c s o).overshoot ≡ (run_of 65 c from start).overshoot
   pub stop : (run_of (65 - n) c s o).stop ≡ (run_of 65 c from start).stop
@@ -37,7 +36,6 @@ running_start c from start was =
     record {
       bound = omega arith;
       at = omega arith;
-      len = refl;
       scene = refl;
       overshoot = refl;
       stop = refl;
@@ -94,9 +92,9 @@ pub goes_at : (k : ℕ) (c : Settings) (s : Scene) (o : Float) → lt o zero64 �
 unfolding run_of
 goes_at k c s o h = ap (λ (b : Bool). while_below b s o (onward k c s o)) h
 
-module _ (c : Settings) (from : Scene) (start : Float) {was tape mid : List ℕ} {s u : Scene} {o : Float} {p n : ℕ} {f : Framed}
-    (r : Running c from start was tape s o p n) (below : lt o zero64 ≡ true) (few : n < 65)
-    (h : Frames (frame c s) (frame_stops (rules_of c) s) tape p u f mid) (near : f.at ≤ p + 5000) where
+module _ (c : Settings) (from : Scene) (start : Float) {was : List ℕ} {tape mid : Tape} {s u : Scene} {o : Float} {n : ℕ} {f : Bool}
+    (r : Running c from start was tape.words.now s o tape.at n) (below : lt o zero64 ≡ true) (few : n < 65)
+    (h : Frames (frame c s) (frame_stops (rules_of c) s) tape u f mid) (near : mid.at ≤ tape.at + 5000) where
   -- what is left after the frame
   after : Bool → Run
   after b = goes_on b (frame c s).scene (add binary64 o c.timestep) (run_of (65 - (n + 1)) c (frame c s).scene (add binary64 o c.timestep))
@@ -108,14 +106,14 @@ module _ (c : Settings) (from : Scene) (start : Float) {was tape mid : List ℕ}
       ap (λ (k : ℕ). run_of k c s o) e ∙ goes_at (65 - (n + 1)) c s o below
 
   -- after the frame the place is within its bound
-  place : f.at ≤ (n + 1) * 5000
+  place : mid.at ≤ (n + 1) * 5000
   place = omega (arith, near, r.at)
 
   -- the frame, and then a run q, in place of what was left
   joined : (q : Run) → run_of (65 - n) c s o ≡ framed (rules_of c) s q
       → (q.played.scene ≡ (run_of 65 c from start).played.scene) × (q.overshoot ≡ (run_of 65 c from start).overshoot)
       × (q.stop ≡ (run_of 65 c from start).stop) × (n + 1 + q.frames ≡ (run_of 65 c from start).frames)
-      × ((z : ℕ) (last : List ℕ) → Puts mid f.at q.played.words z last → Puts was 0 (run_of 65 c from start).played.words z last)
+      × ((z : ℕ) (last : List ℕ) → Puts mid.words.now mid.at q.played.words z last → Puts was 0 (run_of 65 c from start).played.words z last)
   unfolding framed
   joined q e = (
     sym (ap (λ (y : Run). y.played.scene) e) ∙ r.scene,
@@ -126,8 +124,8 @@ module _ (c : Settings) (from : Scene) (start : Float) {was tape mid : List ℕ}
   )
 
   -- a frame that the Rust stops in
-  pub running_stops : {x : Float} → f.stops ≡ true → x ≡ add binary64 o c.timestep
-      → Advances (run_of 65 c from start) was u (record { overshoot = x; frames = n + 1; at = f.at; stop = StatusStops }) mid
+  pub running_stops : {x : Float} → f ≡ true → x ≡ add binary64 o c.timestep
+      → Advances (run_of 65 c from start) was u (record { overshoot = x; frames = n + 1; at = mid.at; stop = StatusStops }) mid.words.now
   unfolding after
   running_stops hs hx =
       let j = joined (ended StatusStops (frame c s).scene (add binary64 o c.timestep))
@@ -137,11 +135,11 @@ module _ (c : Settings) (from : Scene) (start : Float) {was tape mid : List ℕ}
         overshoot = hx ∙ j.1;
         frames = omega (arith, j.3);
         stop = j.2;
-        puts = j.4 f.at mid (puts_none mid f.at);
+        puts = j.4 mid.at mid.words.now (puts_none mid.words.now mid.at);
       }
 
   -- a frame after which the run goes on
-  pub running_on : {x : Float} → f.stops ≡ false → x ≡ add binary64 o c.timestep → Running c from start was mid u x f.at (n + 1)
+  pub running_on : {x : Float} → f ≡ false → x ≡ add binary64 o c.timestep → Running c from start was mid.words.now u x mid.at (n + 1)
   unfolding after
   running_on {x} hs hx =
       let q = run_of (65 - (n + 1)) c (frame c s).scene (add binary64 o c.timestep) in
@@ -149,8 +147,7 @@ module _ (c : Settings) (from : Scene) (start : Float) {was tape mid : List ℕ}
       let e : run_of (65 - (n + 1)) c u x ≡ q = λ i. run_of (65 - (n + 1)) c (h.scene i) (hx i) in
       record {
         bound = omega arith;
-          at = place;
-        len = puts-length h.puts ∙ r.len;
+        at = place;
         scene = ap (λ (y : Run). y.played.scene) e ∙ j.0;
         overshoot = ap (λ (y : Run). y.overshoot) e ∙ j.1;
         stop = ap (λ (y : Run). y.stop) e ∙ j.2;
@@ -167,6 +164,6 @@ pub rules_as : (c : Settings) {p : Float} → p ≡ blend_progress_of c → ◌�
 rules_as c e = λ i. record { m = c.m; progress = e i }
 
 -- a frame by them
-pub framed_as : (c : Settings) (s : Scene) {rules : Rules} {was last : List ℕ} {place : ℕ} {u : Scene} {f : Framed} → rules ≡ rules_of c
-    → Frames (frame_of rules s) (frame_stops rules s) was place u f last → Frames (frame c s) (frame_stops (rules_of c) s) was place u f last
-framed_as c s {rules} {was} {last} {place} {u} {f} e h = subst (λ (r : Rules). Frames (frame_of r s) (frame_stops r s) was place u f last) e h
+pub framed_as : (c : Settings) (s : Scene) {rules : Rules} {was now : Tape} {u : Scene} {f : Bool} → rules ≡ rules_of c
+    → Frames (frame_of rules s) (frame_stops rules s) was u f now → Frames (frame c s) (frame_stops (rules_of c) s) was u f now
+framed_as c s {rules} {was} {now} {u} {f} e h = subst (λ (r : Rules). Frames (frame_of r s) (frame_stops r s) was u f now) e h

@@ -14,6 +14,7 @@ use client::{ClientWorldSimulations, Scene};
 use client_frame::Rules;
 use refusals::Stop;
 use settings::Settings;
+use tape::Tape;
 use timestamp::{FloatTimestamp, Timestamp};
 
 // Frames that were played: how many, the overshoot after them, the next place on the tape, and why they ended.
@@ -118,34 +119,33 @@ pub(crate) fn advance(
     scene: &mut Scene,
     overshoot: f64,
     settings: Settings,
-    tape: &mut [u32],
+    tape: &mut Tape<'_>,
 ) -> Advanced
-    requires { settings.m ≤ most_steps }
-    ensures advances { Advances (run_of most_frames settings scene.old overshoot) tape.old scene.new result tape.new }
+    requires { (settings.m ≤ most_steps) × (tape.old.at ≡ 0) }
+    ensures advances { Advances (run_of most_frames settings scene.old overshoot) tape.old.words.now scene.new result tape.new.words.now }
     ensures few { result.at ≤ most_frames * 5000 }
+    ensures at { result.at ≡ tape.new.at }
 {
     let rules = frame_rules(settings);
     let mut o = overshoot;
-    let mut p: usize = 0;
     let mut n: u32 = 0;
     while o < 0.0 {
         if n == refusals::MOST_FRAMES {
             return Advanced {
                 overshoot: o,
                 frames: n,
-                at: p,
+                at: tape.at,
                 stop: Stop::TooManyFrames,
             };
         }
-        let f = client_frame::step(scene, rules, tape, p);
-        p = f.at;
+        let stops = client_frame::step(scene, rules, tape);
         n += 1;
         o = o + settings.timestep;
-        if f.stops {
+        if stops {
             return Advanced {
                 overshoot: o,
                 frames: n,
-                at: p,
+                at: tape.at,
                 stop: Stop::StatusStops,
             };
         }
@@ -153,7 +153,7 @@ pub(crate) fn advance(
     Advanced {
         overshoot: o,
         frames: n,
-        at: p,
+        at: tape.at,
         stop: Stop::Done,
     }
 }
@@ -171,21 +171,23 @@ pub(crate) fn timeskip(
     a: Advanced,
     server: f64,
     settings: Settings,
-    tape: &mut [u32],
+    tape: &mut Tape<'_>,
 ) -> Advanced
-    requires { a.at < 2500000000 }
-    ensures { Skips scene.old a server settings tape.old scene.new result tape.new }
+    requires { (a.at ≡ tape.old.at) × (tape.old.at < 2500000000) }
+    ensures { Skips scene.old a server settings tape.old.words.now scene.new result tape.new.words.now }
 {
     let t = settings.timestep;
     let stamp = scene.worlds.last_completed_timestamp();
     if skips(stamp, a.overshoot, server, settings) {
         let target = FloatTimestamp::from_seconds(server, t);
         let corrected = target.ceil();
-        let overshoot = FloatTimestamp::from(corrected)
-            .sub(target)
-            .as_seconds(t);
-        let at = client_skip::reset_last_completed_timestamp(scene, corrected, tape, a.at);
-        return Advanced { overshoot, at, ..a };
+        let overshoot = FloatTimestamp::from(corrected).sub(target).as_seconds(t);
+        client_skip::reset_last_completed_timestamp(scene, corrected, tape);
+        return Advanced {
+            overshoot,
+            at: tape.at,
+            ..a
+        };
     }
     a
 }
@@ -218,10 +220,11 @@ pub fn update(
     let stamp = scene.worlds.last_completed_timestamp();
     let c = compensated_delta(stamp, overshoot, delta, server, settings);
     let start = overshoot - c;
-    let a = advance(scene, start, settings, tape);
+    let mut tape = Tape { words: tape, at: 0 };
+    let a = advance(scene, start, settings, &mut tape);
     let stop = a.stop;
     match stop {
-        Stop::Done => timeskip(scene, a, server, settings, tape),
+        Stop::Done => timeskip(scene, a, server, settings, &mut tape),
         Stop::TooManyFrames => a,
         Stop::StatusStops => a,
     }

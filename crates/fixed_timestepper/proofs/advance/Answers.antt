@@ -6,27 +6,24 @@ use Rattle.fixed_timestepper.proofs.Running.{running_start, running_full, runnin
 use Rattle.fixed_timestepper.proofs.advance.Goals as goal
 
 pub loop-o-init : goal.loop-o-init
-loop-o-init c = running_start _ _ _ _
-
-pub shape_of-tape-then-n-eq-MOST_FRAMES : goal.shape_of-tape-then-n-eq-MOST_FRAMES
-shape_of-tape-then-n-eq-MOST_FRAMES c = c.loop-o.invariant.len
+loop-o-init c = rw c.requires.1 (running_start _ _ _ _)
 
 pub returns-then-n-eq-MOST_FRAMES-clause-advances : goal.returns-then-n-eq-MOST_FRAMES-clause-advances
 unfolding of_bits
 returns-then-n-eq-MOST_FRAMES-clause-advances c = running_full _ _ _ c.loop-o.invariant c.loop-o-test.true c.if-n-eq-MOST_FRAMES.true
 
-pub step-f-requires : goal.step-f-requires
-step-f-requires c =
-    (omega (arith, c.loop-o.invariant.at, c.loop-o.invariant.bound), rw c.frame_rules-rules.ensures c.requires)
+pub step-stops-requires : goal.step-stops-requires
+step-stops-requires c =
+    (omega (arith, c.loop-o.invariant.at, c.loop-o.invariant.bound), rw c.frame_rules-rules.ensures c.requires.0)
 
 pub overflow_add-n : goal.overflow_add-n
 overflow_add-n c = omega (arith, c.loop-o.invariant.bound)
 
-pub returns-then-f-clause-advances : goal.returns-then-f-clause-advances
+pub returns-then-stops-clause-advances : goal.returns-then-stops-clause-advances
 unfolding of_bits
-returns-then-f-clause-advances c =
+returns-then-stops-clause-advances c =
     running_stops _ _ _ c.loop-o.invariant c.loop-o-test.true (few_left c.loop-o.invariant.bound c.if-n-eq-MOST_FRAMES.false)
-    (framed_as c.args.settings _ c.frame_rules-rules.ensures c.step-f.ensures.frames) c.step-f.ensures.few c.if-f.true refl
+    (framed_as c.args.settings _ c.frame_rules-rules.ensures c.step-stops.ensures.frames) c.step-stops.ensures.few c.if-stops.true refl
 
 pub loop-o-smaller : goal.loop-o-smaller
 loop-o-smaller c =
@@ -36,10 +33,7 @@ pub loop-o-preserved : goal.loop-o-preserved
 unfolding of_bits
 loop-o-preserved c =
     running_on _ _ _ c.loop-o.invariant c.loop-o-test.true (few_left c.loop-o.invariant.bound c.if-n-eq-MOST_FRAMES.false)
-    (framed_as c.args.settings _ c.frame_rules-rules.ensures c.step-f.ensures.frames) c.step-f.ensures.few c.if-f.false refl
-
-pub shape_of-tape : goal.shape_of-tape
-shape_of-tape c = c.loop-o.invariant.len
+    (framed_as c.args.settings _ c.frame_rules-rules.ensures c.step-stops.ensures.frames) c.step-stops.ensures.few c.if-stops.false refl
 
 pub returns-clause-advances : goal.returns-clause-advances
 unfolding of_bits

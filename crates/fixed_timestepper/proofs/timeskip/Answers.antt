@@ -4,9 +4,9 @@ use Rattle.fixed_timestepper.proofs.timeskip.Goals as goal
 
 pub returns-then-skips : goal.returns-then-skips
 returns-then-skips c =
-    skip_made _ _ _ _ (skip_told _ _ _ _ c.last_completed_timestamp-stamp.ensures c.skips.ensures c.if-skips.true)
+    skip_made _ _ _ _ c.requires.0 (skip_told _ _ _ _ c.last_completed_timestamp-stamp.ensures c.skips.ensures c.if-skips.true)
     c.from_seconds-target.ensures c.ceil-corrected.ensures
-    c.from_timestamp.ensures c.sub.ensures c.as_seconds-overshoot.ensures c.reset_last_completed_timestamp-at.ensures
+    c.from.ensures c.sub.ensures c.as_seconds-overshoot.ensures c.reset_last_completed_timestamp.ensures
 
 pub returns : goal.returns
 returns c = skip_none _ _ _ _ _ (skip_told _ _ _ _ c.last_completed_timestamp-stamp.ensures c.skips.ensures c.if-skips.false)

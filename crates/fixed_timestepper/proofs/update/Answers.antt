@@ -5,7 +5,7 @@ use Rattle.fixed_timestepper.proofs.Updating.{update_done, update_stopped}
 use Rattle.fixed_timestepper.proofs.update.Goals as goal
 
 pub advance-a-requires : goal.advance-a-requires
-advance-a-requires c = c.requires
+advance-a-requires c = (c.requires, refl)
 
 pub returns-in-Done : goal.returns-in-Done
 returns-in-Done c =
