@@ -4,7 +4,7 @@ use Rattle.tape.specs.declared.Side.{Side}
 use Rattle.tape.specs.declared.Side.TheVariants.{Left, Right}
 use Rattle.tape.specs.declared.Tape.{Tape}
 use Rattle.tape.specs.Sides.{side_number}
-use Rattle.tape.proofs.Writing.{puts_none, puts_then, puts_as}
+use Rattle.tape.proofs.Writing.{on_none, on_then, on_as}
 use Rattle.simulation.specs.declared.Simulation.{Simulation}
 use Rattle.simulation.specs.declared.Stepped.{Stepped}
 use Rattle.simulation.specs.World.{Done, Does}
@@ -19,11 +19,11 @@ use Rattle.client.specs.Sides.{Played, still, and_then, done_at, Plays}
 
 -- nothing happens
 pub plays_still : (s : Scene) (was : Tape) → Plays (still s) was s was
-plays_still s was = record { scene = refl; puts = puts_none was.words.now was.at }
+plays_still s was = record { scene = refl; puts = on_none was }
 
 -- the same by another name
 pub plays_as : {p q : Played} {was now : Tape} {s : Scene} → p ≡ q → Plays p was s now → Plays q was s now
-plays_as e h = record { scene = h.scene ∙ ap (λ (x : Played). x.scene) e; puts = puts_as (ap (λ (x : Played). x.words) e) h.puts }
+plays_as e h = record { scene = h.scene ∙ ap (λ (x : Played). x.scene) e; puts = on_as (ap (λ (x : Played). x.words) e) h.puts }
 
 -- one thing, and then another from where it ended
 pub plays_then : {p : Played} (f : Scene → Played) {was mid now : Tape} {s t : Scene} → Plays p was s mid → Plays (f s) mid t now
@@ -32,7 +32,7 @@ unfolding and_then
 plays_then {p} f h k =
     record {
       scene = k.scene ∙ ap (λ (x : Scene). (f x).scene) h.scene;
-      puts = puts_then h.puts (puts_as (ap (λ (x : Scene). (f x).words) h.scene) k.puts);
+      puts = on_then h.puts (on_as (ap (λ (x : Scene). (f x).words) h.scene) k.puts);
     }
 
 -- something is done to the world of a side and counted in the side's ledger

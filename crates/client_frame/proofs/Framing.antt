@@ -7,7 +7,7 @@ use Rattle.timestamp.specs.declared.Timestamp.{Timestamp}
 use Rattle.std.specs.declared.cmp.Ordering.{Ordering}
 use Rattle.timestamp.specs.Timestamps.{order_of}
 use Rattle.tape.specs.declared.Tape.{Tape}
-use Rattle.tape.proofs.Writing.{puts_none}
+use Rattle.tape.proofs.Writing.{on_none}
 use Rattle.simulation.specs.World.{step_of, reset_of}
 use Rattle.client.specs.declared.FastforwardingHealth.{FastforwardingHealth}
 use Rattle.client.specs.declared.FastforwardingHealth.TheVariants.{Healthy, Obsolete, Overshot}
@@ -86,7 +86,7 @@ module _ (t : ReconciliationStatus) (q : Option QueuedSnapshot) (p : Float) (s :
   pub opened_blending : {w : Float} {u : Scene} (was : Tape)
       → t ≡ Blending w → u ≡ blended_on s p → Plays (opened_of t q p s) was u was
   unfolding opened_of
-  opened_blending was e hu = rw e (record { scene = hu; puts = puts_none was.words.now was.at })
+  opened_blending was e hu = rw e (record { scene = hu; puts = on_none was })
 
   module _ {f : FastforwardingHealth} (e : t ≡ Fastforwarding f) where
     -- healthy, nothing happens

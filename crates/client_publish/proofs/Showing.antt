@@ -9,7 +9,7 @@ use Rattle.timestamp.specs.declared.Timestamp.{Timestamp}
 use Rattle.tape.specs.declared.Tape.{Tape}
 use Rattle.tape.specs.Tape.{PutsOn}
 use Rattle.tape.specs.Words.{publish_word, mix_words, none_word}
-use Rattle.tape.proofs.Writing.{puts_as}
+use Rattle.tape.proofs.Writing.{on_as}
 use Rattle.simulation.specs.declared.Simulation.{Simulation}
 use Rattle.std.specs.Prelude.{Option, Some, None}
 use Rattle.client.specs.declared.ClientWorldSimulations.{ClientWorldSimulations}
@@ -20,13 +20,13 @@ use Rattle.client_publish.specs.Publish.{with_state, published_none, published_s
 
 -- the same by another name
 states_as : {p q : Played} {s : Scene} {was now : Tape} {r : Option Timestamp} → p ≡ q → States p s was r now → States q s was r now
-states_as e h = record { scene = h.scene ∙ ap (λ (x : Played). x.scene) e; puts = puts_as (ap (λ (x : Played). x.words) e) h.puts }
+states_as e h = record { scene = h.scene ∙ ap (λ (x : Played). x.scene) e; puts = on_as (ap (λ (x : Played). x.words) e) h.puts }
 
 -- nothing is published
 pub none_states : (s : Scene) {was now : Tape} {word : ℕ}
     → word ≡ none_word → PutsOn was (word ∷ []) now → States (published_none s) s was None now
 unfolding published_none
-none_states s hw hp = record { scene = refl; puts = puts_as (ap (λ (x : ℕ). x ∷ []) hw) hp }
+none_states s hw hp = record { scene = refl; puts = on_as (ap (λ (x : ℕ). x ∷ []) hw) hp }
 
 -- the world of a side is published
 pub side_states : (s : Scene) (side : ℕ) {was now : Tape} {word : ℕ} {w : Simulation} {stamp : Timestamp}
@@ -36,7 +36,7 @@ unfolding published_side
 side_states s side hw hs hd hp =
     record {
       scene = ap (λ (x : Timestamp). with_state s (Some x)) (hs ∙ ap world_stamp_of hw);
-      puts = puts_as (ap (λ (x : ℕ). x ∷ []) hd) hp;
+      puts = on_as (ap (λ (x : ℕ). x ∷ []) hd) hp;
     }
 
 -- a mix is published

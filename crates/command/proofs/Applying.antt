@@ -6,8 +6,9 @@ use Prim.Native.Nat.{ℕ, ◌+◌, ◌-◌, ◌≤◌, ◌<◌}
 use native.Mathlib.Omega.{arith}
 use lib.ListN.{length, take, get_or, length-map, length-take}
 use Rattle.tape.specs.Words.{command_word, steps_on, commands_on}
-use Rattle.tape.specs.Tape.{Puts}
-use Rattle.tape.proofs.Writing.{puts_then, puts_as}
+use Rattle.tape.specs.declared.Tape.{Tape}
+use Rattle.tape.specs.Tape.{PutsOn}
+use Rattle.tape.proofs.Writing.{on_then, on_as}
 use Rattle.tape.proofs.Counting.{steps_on_command, commands_on_command, same_side, other_side}
 use Rattle.command.specs.Entries.{Entry, handle_in}
 use Rattle.command.specs.Lists.{filter_b}
@@ -49,22 +50,20 @@ words_other_side side h (x ∷ xs) = commands_on_command (1 - side) (command_wor
 -- ---- the loop
 
 -- the words of those of the first i of xs that pass p are put: no more words than entries are passed
-pub apply_few : (side : ℕ) (p : Entry → Bool) (xs : List Entry) (i : ℕ) {was last : List ℕ} {place q : ℕ}
-    → Puts was place (command_words side (filter_b p (take i xs))) q last → q ≤ place + i
+pub apply_few : (side : ℕ) (p : Entry → Bool) (xs : List Entry) (i : ℕ) {was now : Tape}
+    → PutsOn was (command_words side (filter_b p (take i xs))) now → now.at ≤ was.at + i
 apply_few side p xs i s = omega (arith, s.at, words-length side (filter_b p (take i xs)), filter_short p (take i xs), length-take i xs)
 
 -- and the word of one entry more that passes
-pub apply_one : (side : ℕ) (p : Entry → Bool) (xs : List Entry) (i : ℕ) {was last next : List ℕ} {place q w r : ℕ} → i < length xs
-    → p (get_or xs i blank) ≡ true → w ≡ command_word side (handle_in (get_or xs i blank)) → Puts was place (command_words side (filter_b p (take i xs))) q last
-    → Puts last q (w ∷ []) r next
-    → Puts was place (command_words side (filter_b p (take (i + 1) xs))) r next
+pub apply_one : (side : ℕ) (p : Entry → Bool) (xs : List Entry) (i : ℕ) {was mid now : Tape} {w : ℕ} → i < length xs
+    → p (get_or xs i blank) ≡ true → w ≡ command_word side (handle_in (get_or xs i blank)) → PutsOn was (command_words side (filter_b p (take i xs))) mid
+    → PutsOn mid (w ∷ []) now → PutsOn was (command_words side (filter_b p (take (i + 1) xs))) now
 apply_one side p xs i {w = w} h e f s u =
     let all : command_words side (filter_b p (take i xs)) ++ (w ∷ []) ≡ command_words side (filter_b p (take (i + 1) xs)) =
     rw (filter_took p xs i blank h e, words_append, words_one, f) refl in
-    puts_as all (puts_then s u)
+    on_as all (on_then s u)
 
 -- the words of entries of a buffer that pass a test are at most 64
-pub applied_few : (side : ℕ) (p : Entry → Bool) (xs : List Entry) {place next n : ℕ} {was last : List ℕ}
-    → Puts was place (command_words side (filter_b p xs)) next last
-    → length xs ≤ n → next ≤ place + n
+pub applied_few : (side : ℕ) (p : Entry → Bool) (xs : List Entry) {n : ℕ} {was now : Tape} → PutsOn was (command_words side (filter_b p xs)) now
+    → length xs ≤ n → now.at ≤ was.at + n
 applied_few side p xs u few = omega (arith, u.at, words-length side (filter_b p xs), filter_short p xs, few)

@@ -9,7 +9,7 @@ use borrow.Author.Tests.{lt-ltb, le-ltb}
 use Rattle.timestamp.specs.declared.Timestamp.{Timestamp}
 use Rattle.tape.specs.declared.Tape.{Tape}
 use Rattle.tape.specs.Tape.{PutsOn}
-use Rattle.tape.proofs.Writing.{puts_as}
+use Rattle.tape.proofs.Writing.{on_as}
 use Rattle.command.specs.Entries.{Entry}
 use Rattle.command.specs.declared.CommandBuffer.{CommandBuffer}
 use Rattle.command.specs.declared.Outcome.TheVariants.{Taken, OutOfRange, Full}
@@ -90,11 +90,12 @@ pub applies_is : (b : CommandBuffer) (s : Timestamp) {side count : ℕ} {was now
     → PutsOn was (command_words side (filter_b (rank_within s lo hi) (held b))) now
     → ◌≡◌ {A = Drained} (record { buffer = left; count = count }) (drained_of b s) → Applies b s side was left now
 applies_is b s {side} {count} {was} {now} {lo} {hi} el eh p e =
-    let u : PutsOn was (command_words side (taken_of b s)) now = puts_as (ap (command_words side) (taken_is b s lo hi el eh)) p in
+    let u : PutsOn was (command_words side (taken_of b s)) now = on_as (ap (command_words side) (taken_is b s lo hi el eh)) p in
     record {
       buffer = ap (λ (d : Drained). d.buffer) e;
       at = omega (arith, u.at, words-length side (taken_of b s));
       tape = u.tape;
+      lent = u.lent;
     }
 
 -- ---- a drain of everything
@@ -117,11 +118,12 @@ pub applies_all_is : (b : CommandBuffer) (t : Timestamp) {side count : ℕ} {was
     → ◌≡◌ {A = Drained} (record { buffer = left; count = count }) (drained_all_of b) → AppliesAll b side was left now
 applies_all_is b t {side} {count} {was} {now} {lo} {hi} el eh p e =
     let u : PutsOn was (command_words side (held b)) now =
-    puts_as (ap (command_words side) (filter_all (rank_within t lo hi) (span_all t lo hi el eh) (held b))) p in
+    on_as (ap (command_words side) (filter_all (rank_within t lo hi) (span_all t lo hi el eh) (held b))) p in
     record {
       buffer = ap (λ (d : Drained). d.buffer) e;
       at = omega (arith, u.at, words-length side (held b));
       tape = u.tape;
+      lent = u.lent;
     }
 
 -- ---- an insertion

@@ -131,9 +131,11 @@ pub record Applies (b : CommandBuffer) (s : Timestamp) (side : ℕ) (was : Tape)
   pub buffer : left ≡ rest_of b s
   pub at : now.at ≡ was.at + length (taken_of b s)
   pub tape : now.words.now ≡ written was.words.now was.at (command_words side (taken_of b s))
+  pub lent : now.words.ghost_name ≡ was.words.ghost_name
 
 -- the same for a drain of everything
 pub record AppliesAll (b : CommandBuffer) (side : ℕ) (was : Tape) (left : CommandBuffer) (now : Tape) : Type 0 where
   pub buffer : left ≡ emptied_of b
   pub at : now.at ≡ was.at + length (held b)
   pub tape : now.words.now ≡ written was.words.now was.at (command_words side (held b))
+  pub lent : now.words.ghost_name ≡ was.words.ghost_name

@@ -12,7 +12,7 @@ use Rattle.timestamp.specs.Timestamps.{sum_of, order_of}
 use Rattle.tape.specs.declared.Tape.{Tape}
 use Rattle.tape.specs.Tape.{PutsOn}
 use Rattle.tape.specs.Words.{step_word, snapshot_word}
-use Rattle.tape.proofs.Writing.{puts_none, puts_then, puts_as}
+use Rattle.tape.proofs.Writing.{on_none, on_then, on_as}
 use Rattle.command.specs.declared.CommandBuffer.{CommandBuffer}
 use Rattle.command.specs.Entries.{Entry}
 use Rattle.command.specs.Buffer.{Moved, Insertion, held, laid, inserted_of}
@@ -34,11 +34,11 @@ scheduled_is w e h = ap (λ (x : Insertion). record { world = world_with x.buffe
 -- what a drain puts
 drained_puts : {b left : CommandBuffer} {s : Timestamp} {side : ℕ} {was now : Tape} → Applies b s side was left now
     → PutsOn was (command_words side (taken_of b s)) now
-drained_puts {b} {left} {s} {side} {was} h = record { at = h.at ∙ ap (λ (n : ℕ). was.at + n) (sym (words-length side (taken_of b s))); tape = h.tape }
+drained_puts {b} {left} {s} {side} {was} h = record { at = h.at ∙ ap (λ (n : ℕ). was.at + n) (sym (words-length side (taken_of b s))); tape = h.tape; lent = h.lent }
 
 -- what a drain of everything puts
 flushed_puts : {b left : CommandBuffer} {side : ℕ} {was now : Tape} → AppliesAll b side was left now → PutsOn was (command_words side (held b)) now
-flushed_puts {b} {left} {side} {was} h = record { at = h.at ∙ ap (λ (n : ℕ). was.at + n) (sym (words-length side (held b))); tape = h.tape }
+flushed_puts {b} {left} {side} {was} h = record { at = h.at ∙ ap (λ (n : ℕ). was.at + n) (sym (words-length side (held b))); tape = h.tape; lent = h.lent }
 
 -- how many were applied is how far the place has moved
 moved_by : (place n a : ℕ) → a ≡ place + n → a - place ≡ n
@@ -58,8 +58,8 @@ step_does w side {was} {mid} {now} {next} {left} {word} {m} hn ha hw hp hm =
       world = ap (λ (x : Moved). world_with x.buffer w.init) b;
       applied = moved_by was.at _ mid.at ha.at ∙ ap (λ (t : Timestamp). length (taken_of w.commands t)) e;
       leftout = ap (λ (x : Moved). x.dropped) b;
-      puts = puts_then (puts_as (ap (λ (t : Timestamp). command_words side (taken_of w.commands t)) e) (drained_puts ha))
-          (puts_as (ap (λ (x : ℕ). x ∷ []) hw) hp);
+      puts = on_then (on_as (ap (λ (t : Timestamp). command_words side (taken_of w.commands t)) e) (drained_puts ha))
+          (on_as (ap (λ (x : ℕ). x ∷ []) hw) hp);
     }
 
 -- a load
@@ -74,7 +74,7 @@ load_does w base t side handle hw hp hm hc hr =
       copied = hc;
       replaced = hr;
       leftout = ap (λ (x : Moved). x.dropped) hm;
-      puts = puts_as (ap (λ (x : ℕ). x ∷ []) hw) hp;
+      puts = on_as (ap (λ (x : ℕ). x ∷ []) hw) hp;
     }
 
 -- a stamp's order tells whether a reset goes back
@@ -93,7 +93,7 @@ reset_back w t side {was} {now} {m} {left} hb hm ha =
       world = ap (λ (x : CommandBuffer). world_with x w.init) (ha.buffer ∙ ap (λ (x : Moved). emptied_of x.buffer) hm);
       applied = moved_by was.at _ now.at ha.at ∙ ap (λ (x : Moved). length (held x.buffer)) hm;
       leftout = ap (λ (x : Moved). x.dropped) hm;
-      puts = puts_as (ap (λ (x : Moved). command_words side (held x.buffer)) hm) (flushed_puts ha);
+      puts = on_as (ap (λ (x : Moved). command_words side (held x.buffer)) hm) (flushed_puts ha);
     })
 
 -- a reset that does not
@@ -107,5 +107,5 @@ reset_on w t side {was} {m} hb hm =
       world = ap (λ (x : Moved). world_with x.buffer w.init) hm;
       applied = refl;
       leftout = ap (λ (x : Moved). x.dropped) hm;
-      puts = puts_none was.words.now was.at;
+      puts = on_none was;
     })

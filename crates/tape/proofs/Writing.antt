@@ -8,7 +8,8 @@ use lib.Seq.{sets, length-sets, sets-eq, take-append_seam, set_out, drop-drop}
 use borrow.Rule.Slice.PartMut.{mid_of, post_of, put_mid, mid_len}
 use lib.Ieee.{Float, binary64, to_bits}
 use Rattle.tape.specs.Words.{mix_word, weight_word, weight_words, mix_words}
-use Rattle.tape.specs.Tape.{written, words_from, cleared, Puts}
+use Rattle.tape.specs.declared.Tape.{Tape}
+use Rattle.tape.specs.Tape.{written, words_from, cleared, Puts, PutsOn}
 
 -- a tape keeps its length
 pub length-written : (t : List ℕ) (n : ℕ) (ws : List ℕ) → length (written t n ws) ≡ length t
@@ -107,14 +108,36 @@ cleared_after ws t h =
     let d : drop (length ws + length z) (ws ++ rest) ≡ [] = drop_of_length-le (ws ++ rest) k in
     rw (length-sets, e, sets-eq z (ws ++ rest) (length ws) (omega arith), d, take-append_seam, append-nil) refl
 
+-- ---- a tape that is lent
+
+-- what is put on it, as a list and a place
+pub on_puts : {t u : Tape} {us : List ℕ} → PutsOn t us u → Puts t.words.now t.at us u.at u.words.now
+on_puts p = record { at = p.at; tape = p.tape }
+
+-- and the other way round, where it stays the one that was lent
+pub puts_on : {t u : Tape} {us : List ℕ} → Puts t.words.now t.at us u.at u.words.now → u.words.ghost_name ≡ t.words.ghost_name → PutsOn t us u
+puts_on p e = record { at = p.at; tape = p.tape; lent = e }
+
+-- nothing put
+pub on_none : (t : Tape) → PutsOn t [] t
+on_none t = puts_on (puts_none t.words.now t.at) refl
+
+-- words put, and others after them
+pub on_then : {t u v : Tape} {us ws : List ℕ} → PutsOn t us u → PutsOn u ws v → PutsOn t (us ++ ws) v
+on_then p q = puts_on (puts_then (on_puts p) (on_puts q)) (q.lent ∙ p.lent)
+
+-- the same words under another name
+pub on_as : {t u : Tape} {us ws : List ℕ} → us ≡ ws → PutsOn t us u → PutsOn t ws u
+on_as e p = puts_on (puts_as e (on_puts p)) p.lent
+
 -- three words put that hold the high, the middle and the low part of a pattern
-pub puts_weight : {t u v l : List ℕ} {n a b c x y z : ℕ} (bits : ℕ) → x ≡ weight_word (bits / 2 ^ 56) → Puts t n (x ∷ []) a u
-    → y ≡ weight_word (bits / 2 ^ 28) → Puts u a (y ∷ []) b v → z ≡ weight_word bits → Puts v b (z ∷ []) c l → Puts t n (weight_words bits) c l
+pub on_weight : {t u v l : Tape} {x y z : ℕ} (bits : ℕ) → x ≡ weight_word (bits / 2 ^ 56) → PutsOn t (x ∷ []) u → y ≡ weight_word (bits / 2 ^ 28)
+    → PutsOn u (y ∷ []) v → z ≡ weight_word bits → PutsOn v (z ∷ []) l → PutsOn t (weight_words bits) l
 unfolding weight_words
-puts_weight bits ex p ey q ez r = puts_as (rw (ex, ey, ez)) (puts_then (puts_then p q) r)
+on_weight bits ex p ey q ez r = on_as (rw (ex, ey, ez)) (on_then (on_then p q) r)
 
 -- a mix's own word put, and then those of its weight
-pub puts_mix : {t u l : List ℕ} {n a c x bits : ℕ} (weight : Float) → x ≡ mix_word → Puts t n (x ∷ []) a u → bits ≡ to_bits binary64 weight
-    → Puts u a (weight_words bits) c l → Puts t n (mix_words weight) c l
+pub on_mix : {t u l : Tape} {x bits : ℕ} (weight : Float) → x ≡ mix_word → PutsOn t (x ∷ []) u → bits ≡ to_bits binary64 weight
+    → PutsOn u (weight_words bits) l → PutsOn t (mix_words weight) l
 unfolding mix_words
-puts_mix weight ex p eb q = puts_as (rw (ex, eb)) (puts_then p q)
+on_mix weight ex p eb q = on_as (rw (ex, eb)) (on_then p q)

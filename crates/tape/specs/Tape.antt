@@ -21,6 +21,8 @@ pub record Puts (was : List ℕ) (place : ℕ) (words : List ℕ) (next : ℕ) (
   pub at : next ≡ place + length words
   pub tape : last ≡ written was place words
 
--- words put on a tape that is lent, at its next place
-abbrev pub PutsOn : Tape → List ℕ → Tape → Type 0
-PutsOn was words now = Puts was.words.now was.at words now.at now.words.now
+-- words put on a tape that is lent, at its next place; the tape stays the one that was lent
+pub record PutsOn (was : Tape) (words : List ℕ) (now : Tape) : Type 0 where
+  pub at : now.at ≡ was.at + length words
+  pub tape : now.words.now ≡ written was.words.now was.at words
+  pub lent : now.words.ghost_name ≡ was.words.ghost_name

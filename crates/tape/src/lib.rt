@@ -96,11 +96,17 @@ pub fn clear(tape: &mut [u32], from: usize)
 
 // A word's kind stands in its top 4 bits.
 const STEP: u32 = 1 << 28;
+
 const COMMAND: u32 = 2 << 28;
+
 const SNAPSHOT: u32 = 3 << 28;
+
 const PUBLISH: u32 = 4 << 28;
+
 const MIX: u32 = 5 << 28;
+
 const WEIGHT: u32 = 6 << 28;
+
 const NONE: u32 = 7 << 28;
 
 // The bit of the right world.
@@ -108,6 +114,7 @@ const RIGHT: u32 = 1 << 27;
 
 // A word of a weight holds 28 bits of it: these are its parts from bit 28 and from bit 56 on.
 const WEIGHT_PART: u64 = 1 << 28;
+
 const HIGHEST_PART: u64 = 1 << 56;
 
 // The bits of the quiet NaN.

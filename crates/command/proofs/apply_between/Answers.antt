@@ -3,7 +3,7 @@ use native.Mathlib.Omega.{arith}
 use mathlib.Core.Path.{sym, ap, ◌∙◌}
 use Rattle.std.proofs.lemmas.List.{take_all}
 use Rattle.tape.specs.Words.{command_word}
-use Rattle.tape.proofs.Writing.{puts_none}
+use Rattle.tape.proofs.Writing.{on_none}
 use Rattle.tape.specs.Sides.{side_number}
 use Rattle.command.specs.Buffer.{blank, command_words}
 use Rattle.command.specs.Ranks.{rank_within}
@@ -14,7 +14,7 @@ use Rattle.command.proofs.apply_between.Goals.{then-holds, else-holds}
 
 pub loop-e-init : goal.loop-e-init
 unfolding command_words
-loop-e-init c = puts_none _ _
+loop-e-init c = on_none _
 
 pub put-requires : goal.put-requires
 put-requires c =

@@ -1,7 +1,7 @@
 -- `put_mix` meets its contract: the mix's own word, and the three of its weight. Assumes nothing.
-use Rattle.tape.proofs.Writing.{puts_mix}
+use Rattle.tape.proofs.Writing.{on_mix}
 use Rattle.tape.proofs.Tape.put_mix.Goals as goal
 
 pub returns : goal.returns
 returns c =
-    puts_mix c.args.weight c.mix_word.ensures c.put.ensures c.bits_of-bits.ensures c.put_weight.ensures
+    on_mix c.args.weight c.mix_word.ensures c.put.ensures c.bits_of-bits.ensures c.put_weight.ensures
