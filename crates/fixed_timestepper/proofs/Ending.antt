@@ -9,7 +9,7 @@ use Rattle.timestamp.specs.Timestamps.{bits_of}
 use Rattle.timestamp.specs.FloatTimestamps.{from_seconds, float_difference_of, as_seconds, float_of, ceil_stamp_of}
 use Rattle.tape.specs.declared.Tape.{Tape}
 use Rattle.tape.specs.Tape.{Puts}
-use Rattle.tape.proofs.Writing.{puts_none, puts_as}
+use Rattle.tape.proofs.Writing.{on_puts, puts_none, puts_as}
 use Rattle.settings.specs.declared.Settings.{Settings}
 use Rattle.settings.specs.Settings.{lag_frame_count_of}
 use Rattle.settings.specs.Tweening.{shaped_of}
@@ -76,7 +76,7 @@ skip_made s a server c {was} {now} {target} {from} {difference} {overshoot} {cor
     (ho ∙ ap (λ (x : Float). as_seconds x c.timestep) (hd ∙ (λ i. float_difference_of ((hf ∙ ap (λ (t : Timestamp). float_of t.0) e) i) (ht i))))
     refl
     refl
-    (rw hw (puts_as (ap (λ (t : Timestamp). (skipped_of s t).words) e) p.puts))
+    (rw hw (puts_as (ap (λ (t : Timestamp). (skipped_of s t).words) e) (on_puts p.puts)))
 
 -- no skip
 pub skip_none : (s : Scene) (a : Advanced) (server : Float) (c : Settings) (was : List ℕ)

@@ -8,7 +8,7 @@ use lib.ListN.{length}
 use lib.Ieee.{Float, binary64, add, lt}
 use Rattle.tape.specs.declared.Tape.{Tape}
 use Rattle.tape.specs.Tape.{Puts}
-use Rattle.tape.proofs.Writing.{puts_none, puts_then, puts_as, puts-length}
+use Rattle.tape.proofs.Writing.{on_puts, puts_none, puts_then, puts_as, puts-length}
 use Rattle.settings.specs.declared.Settings.{Settings}
 use Rattle.settings.specs.Settings.{blend_progress_of}
 use Rattle.client.specs.declared.Scene.{Scene}
@@ -20,40 +20,43 @@ use Rattle.fixed_timestepper.specs.TimeKeeper.{rules_of, Run, ended, framed, goe
 use Rattle.timestamp.specs.Floats.{zero64}
 use Rattle.fixed_timestepper.proofs.Induction.{frame}
 
--- n frames were played from the scene `from`; the run q is what is left, from the scene s and the place p on
-pub record Running (c : Settings) (from : Scene) (start : Float) (was tape : List ℕ) (s : Scene) (o : Float) (p n : ℕ) : Type 0 where
+-- n frames were played from the scene `from`; a run is left, from the scene s and the next place of the tape on
+pub record Running (c : Settings) (from : Scene) (start : Float) (was tape : Tape) (s : Scene) (o : Float) (n : ℕ) : Type 0 where
   pub bound : n ≤ 65
-  pub at : p ≤ n * 5000
+  pub at : tape.at ≤ n * 5000
+  pub lent : tape.words.ghost_name ≡ was.words.ghost_name
   pub scene : (run_of (65 - n) c s o).played.scene ≡ (run_of 65 c from start).played.scene
   pub overshoot : (run_of (65 - n) c s o).overshoot ≡ (run_of 65 c from start).overshoot
   pub stop : (run_of (65 - n) c s o).stop ≡ (run_of 65 c from start).stop
   pub frames : n + (run_of (65 - n) c s o).frames ≡ (run_of 65 c from start).frames
-  pub puts : (q : ℕ) (last : List ℕ) → Puts tape p (run_of (65 - n) c s o).played.words q last → Puts was 0 (run_of 65 c from start).played.words q last
+  pub puts : (q : ℕ) (last : List ℕ) → Puts tape.words.now tape.at (run_of (65 - n) c s o).played.words q last
+      → Puts was.words.now 0 (run_of 65 c from start).played.words q last
 
 -- before the first frame
-pub running_start : (c : Settings) (from : Scene) (start : Float) (was : List ℕ) → Running c from start was was from start 0 0
-running_start c from start was =
+pub running_start : (c : Settings) (from : Scene) (start : Float) (was : Tape) → was.at ≡ 0 → Running c from start was was from start 0
+running_start c from start was z =
     record {
       bound = omega arith;
-      at = omega arith;
+      at = omega (arith, z);
+      lent = refl;
       scene = refl;
       overshoot = refl;
       stop = refl;
       frames = omega arith;
-      puts = λ q last k. k;
+      puts = λ q last k. rw z at k;
     }
 
 -- the run is over: q is what is left, and it puts nothing more
-over_with : (c : Settings) (from : Scene) (start : Float) {was tape : List ℕ} {s : Scene} {o : Float} {p n : ℕ} (x : Stop)
-    → Running c from start was tape s o p n → run_of (65 - n) c s o ≡ ended x s o
-    → Advances (run_of 65 c from start) was s (record { overshoot = o; frames = n; at = p; stop = x }) tape
-over_with c from start {was} {tape} {s} {o} {p} {n} x r e =
+over_with : (c : Settings) (from : Scene) (start : Float) {was tape : Tape} {s : Scene} {o : Float} {n : ℕ} (x : Stop)
+    → Running c from start was tape s o n → run_of (65 - n) c s o ≡ ended x s o
+    → Advances (run_of 65 c from start) was.words.now s (record { overshoot = o; frames = n; at = tape.at; stop = x }) tape.words.now
+over_with c from start {was} {tape} {s} {o} {n} x r e =
     record {
       scene = sym (ap (λ (y : Run). y.played.scene) e) ∙ r.scene;
       overshoot = sym (ap (λ (y : Run). y.overshoot) e) ∙ r.overshoot;
       frames = omega (arith, ap (λ (y : Run). y.frames) e, r.frames);
       stop = sym (ap (λ (y : Run). y.stop) e) ∙ r.stop;
-      puts = r.puts p tape (puts_as (sym (ap (λ (y : Run). y.played.words) e)) (puts_none tape p));
+      puts = r.puts tape.at tape.words.now (puts_as (sym (ap (λ (y : Run). y.played.words) e)) (puts_none tape.words.now tape.at));
     }
 
 -- a frame, and then the run from the scene after it
@@ -67,20 +70,20 @@ unfolding run_of
 done_at_lem zero c s o h = ap (λ (b : Bool). while_below b s o (ended TooManyFrames s o)) h
 done_at_lem (suc k) c s o h = ap (λ (b : Bool). while_below b s o (onward k c s o)) h
 
-pub running_done : (c : Settings) (from : Scene) (start : Float) {was tape : List ℕ} {s : Scene} {o : Float} {p n : ℕ}
-    → Running c from start was tape s o p n → lt o zero64 ≡ false
-    → Advances (run_of 65 c from start) was s (record { overshoot = o; frames = n; at = p; stop = Done }) tape
-running_done c from start {was} {tape} {s} {o} {p} {n} r h = over_with c from start Done r (done_at_lem (65 - n) c s o h)
+pub running_done : (c : Settings) (from : Scene) (start : Float) {was tape : Tape} {s : Scene} {o : Float} {n : ℕ}
+    → Running c from start was tape s o n → lt o zero64 ≡ false
+    → Advances (run_of 65 c from start) was.words.now s (record { overshoot = o; frames = n; at = tape.at; stop = Done }) tape.words.now
+running_done c from start {was} {tape} {s} {o} {n} r h = over_with c from start Done r (done_at_lem (65 - n) c s o h)
 
 -- a 66th frame
 full_at : (c : Settings) (s : Scene) (o : Float) → lt o zero64 ≡ true → run_of zero c s o ≡ ended TooManyFrames s o
 unfolding run_of
 full_at c s o h = ap (λ (b : Bool). while_below b s o (ended TooManyFrames s o)) h
 
-pub running_full : (c : Settings) (from : Scene) (start : Float) {was tape : List ℕ} {s : Scene} {o : Float} {p n : ℕ}
-    → Running c from start was tape s o p n → lt o zero64 ≡ true → n ≡ 65
-    → Advances (run_of 65 c from start) was s (record { overshoot = o; frames = n; at = p; stop = TooManyFrames }) tape
-running_full c from start {was} {tape} {s} {o} {p} {n} r h e =
+pub running_full : (c : Settings) (from : Scene) (start : Float) {was tape : Tape} {s : Scene} {o : Float} {n : ℕ}
+    → Running c from start was tape s o n → lt o zero64 ≡ true → n ≡ 65
+    → Advances (run_of 65 c from start) was.words.now s (record { overshoot = o; frames = n; at = tape.at; stop = TooManyFrames }) tape.words.now
+running_full c from start {was} {tape} {s} {o} {n} r h e =
     let z : 65 - n ≡ 0 = omega arith in
     over_with c from start TooManyFrames r (ap (λ (k : ℕ). run_of k c s o) z ∙ full_at c s o h)
 
@@ -92,8 +95,8 @@ pub goes_at : (k : ℕ) (c : Settings) (s : Scene) (o : Float) → lt o zero64 �
 unfolding run_of
 goes_at k c s o h = ap (λ (b : Bool). while_below b s o (onward k c s o)) h
 
-module _ (c : Settings) (from : Scene) (start : Float) {was : List ℕ} {tape mid : Tape} {s u : Scene} {o : Float} {n : ℕ} {f : Bool}
-    (r : Running c from start was tape.words.now s o tape.at n) (below : lt o zero64 ≡ true) (few : n < 65)
+module _ (c : Settings) (from : Scene) (start : Float) {was tape mid : Tape} {s u : Scene} {o : Float} {n : ℕ} {f : Bool}
+    (r : Running c from start was tape s o n) (below : lt o zero64 ≡ true) (few : n < 65)
     (h : Frames (frame c s) (frame_stops (rules_of c) s) tape u f mid) (near : mid.at ≤ tape.at + 5000) where
   -- what is left after the frame
   after : Bool → Run
@@ -113,19 +116,19 @@ module _ (c : Settings) (from : Scene) (start : Float) {was : List ℕ} {tape mi
   joined : (q : Run) → run_of (65 - n) c s o ≡ framed (rules_of c) s q
       → (q.played.scene ≡ (run_of 65 c from start).played.scene) × (q.overshoot ≡ (run_of 65 c from start).overshoot)
       × (q.stop ≡ (run_of 65 c from start).stop) × (n + 1 + q.frames ≡ (run_of 65 c from start).frames)
-      × ((z : ℕ) (last : List ℕ) → Puts mid.words.now mid.at q.played.words z last → Puts was 0 (run_of 65 c from start).played.words z last)
+      × ((z : ℕ) (last : List ℕ) → Puts mid.words.now mid.at q.played.words z last → Puts was.words.now 0 (run_of 65 c from start).played.words z last)
   unfolding framed
   joined q e = (
     sym (ap (λ (y : Run). y.played.scene) e) ∙ r.scene,
     sym (ap (λ (y : Run). y.overshoot) e) ∙ r.overshoot,
     sym (ap (λ (y : Run). y.stop) e) ∙ r.stop,
     omega (arith, ap (λ (y : Run). y.frames) e, r.frames),
-    λ z last k. r.puts z last (puts_as (sym (ap (λ (y : Run). y.played.words) e)) (puts_then h.puts k)),
+    λ z last k. r.puts z last (puts_as (sym (ap (λ (y : Run). y.played.words) e)) (puts_then (on_puts h.puts) k)),
   )
 
   -- a frame that the Rust stops in
   pub running_stops : {x : Float} → f ≡ true → x ≡ add binary64 o c.timestep
-      → Advances (run_of 65 c from start) was u (record { overshoot = x; frames = n + 1; at = mid.at; stop = StatusStops }) mid.words.now
+      → Advances (run_of 65 c from start) was.words.now u (record { overshoot = x; frames = n + 1; at = mid.at; stop = StatusStops }) mid.words.now
   unfolding after
   running_stops hs hx =
       let j = joined (ended StatusStops (frame c s).scene (add binary64 o c.timestep))
@@ -139,7 +142,7 @@ module _ (c : Settings) (from : Scene) (start : Float) {was : List ℕ} {tape mi
       }
 
   -- a frame after which the run goes on
-  pub running_on : {x : Float} → f ≡ false → x ≡ add binary64 o c.timestep → Running c from start was mid.words.now u x mid.at (n + 1)
+  pub running_on : {x : Float} → f ≡ false → x ≡ add binary64 o c.timestep → Running c from start was mid u x (n + 1)
   unfolding after
   running_on {x} hs hx =
       let q = run_of (65 - (n + 1)) c (frame c s).scene (add binary64 o c.timestep) in
@@ -148,6 +151,7 @@ module _ (c : Settings) (from : Scene) (start : Float) {was : List ℕ} {tape mi
       record {
         bound = omega arith;
         at = place;
+        lent = h.puts.lent ∙ r.lent;
         scene = ap (λ (y : Run). y.played.scene) e ∙ j.0;
         overshoot = ap (λ (y : Run). y.overshoot) e ∙ j.1;
         stop = ap (λ (y : Run). y.stop) e ∙ j.2;

@@ -94,3 +94,7 @@ module _ (c : Settings) (s : Scene) (o delta server : Float) {start d : Float} {
       → ((r : Run) → skipped_by x r server c ≡ r) → Advances (unended_of c s o delta server) was v a mid
   update_stopped {v} {a} {was} {mid} x h e k =
       update_by_lem x (sym h.stop ∙ e) (subst (λ (y : Run). Advances y was v a mid) (sym (k (run_of 65 c s start))) h)
+
+-- the same answer on the tape under another name
+pub advances_on : {r : Run} {was mid last : List ℕ} {u : Scene} {a : Advanced} → last ≡ mid → Advances r was u a mid → Advances r was u a last
+advances_on e h = record { scene = h.scene; overshoot = h.overshoot; frames = h.frames; stop = h.stop; puts = rw (sym e) at h.puts }

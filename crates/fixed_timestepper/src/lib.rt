@@ -125,6 +125,7 @@ pub(crate) fn advance(
     ensures advances { Advances (run_of most_frames settings scene.old overshoot) tape.old.words.now scene.new result tape.new.words.now }
     ensures few { result.at ≤ most_frames * 5000 }
     ensures at { result.at ≡ tape.new.at }
+    ensures lent { tape.new.words.ghost_name ≡ tape.old.words.ghost_name }
 {
     let rules = frame_rules(settings);
     let mut o = overshoot;
@@ -174,7 +175,8 @@ pub(crate) fn timeskip(
     tape: &mut Tape<'_>,
 ) -> Advanced
     requires { (a.at ≡ tape.old.at) × (tape.old.at < 2500000000) }
-    ensures { Skips scene.old a server settings tape.old.words.now scene.new result tape.new.words.now }
+    ensures skips { Skips scene.old a server settings tape.old.words.now scene.new result tape.new.words.now }
+    ensures lent { tape.new.words.ghost_name ≡ tape.old.words.ghost_name }
 {
     let t = settings.timestep;
     let stamp = scene.worlds.last_completed_timestamp();

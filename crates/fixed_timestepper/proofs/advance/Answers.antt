@@ -6,7 +6,7 @@ use Rattle.fixed_timestepper.proofs.Running.{running_start, running_full, runnin
 use Rattle.fixed_timestepper.proofs.advance.Goals as goal
 
 pub loop-o-init : goal.loop-o-init
-loop-o-init c = rw c.requires.1 (running_start _ _ _ _)
+loop-o-init c = running_start _ _ _ _ c.requires.1
 
 pub returns-then-n-eq-MOST_FRAMES-clause-advances : goal.returns-then-n-eq-MOST_FRAMES-clause-advances
 unfolding of_bits

@@ -4,7 +4,7 @@ use Rattle.fixed_timestepper.proofs.Running.{Running}
 use Rattle.fixed_timestepper.proofs.advance.Given as goal
 
 abbrev pub invariant-loop-o : goal.invariant-loop-o
-invariant-loop-o l = Running l.settings l.initial.scene l.initial.o l.initial.tape.words.now l.tape.words.now l.scene l.o l.tape.at l.n
+invariant-loop-o l = Running l.settings l.initial.scene l.initial.o l.initial.tape l.tape l.scene l.o l.n
 
 abbrev pub decreases-loop-o : goal.decreases-loop-o
 decreases-loop-o l = 65 - l.n

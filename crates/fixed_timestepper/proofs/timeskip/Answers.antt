@@ -2,11 +2,11 @@
 use Rattle.fixed_timestepper.proofs.Ending.{skip_told, skip_made, skip_none}
 use Rattle.fixed_timestepper.proofs.timeskip.Goals as goal
 
-pub returns-then-skips : goal.returns-then-skips
-returns-then-skips c =
+pub returns-then-skips-clause-skips : goal.returns-then-skips-clause-skips
+returns-then-skips-clause-skips c =
     skip_made _ _ _ _ c.requires.0 (skip_told _ _ _ _ c.last_completed_timestamp-stamp.ensures c.skips.ensures c.if-skips.true)
     c.from_seconds-target.ensures c.ceil-corrected.ensures
     c.from.ensures c.sub.ensures c.as_seconds-overshoot.ensures c.reset_last_completed_timestamp.ensures
 
-pub returns : goal.returns
-returns c = skip_none _ _ _ _ _ (skip_told _ _ _ _ c.last_completed_timestamp-stamp.ensures c.skips.ensures c.if-skips.false)
+pub returns-clause-skips : goal.returns-clause-skips
+returns-clause-skips c = skip_none _ _ _ _ _ (skip_told _ _ _ _ c.last_completed_timestamp-stamp.ensures c.skips.ensures c.if-skips.false)
