@@ -1,2 +1,0 @@
-pub mod Arriving
-pub mod Receiving

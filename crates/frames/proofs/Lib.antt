@@ -1,3 +1,0 @@
-pub mod Over
-pub mod Going
-pub mod Ending

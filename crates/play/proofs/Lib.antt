@@ -1,4 +1,0 @@
-pub mod Parts
-pub mod Scenes
-pub mod Acting
-pub mod Sound

@@ -1,5 +1,0 @@
-pub mod AnswersLent
-pub mod StageLent
-pub mod Lent
-pub mod InPlace
-pub mod IssueLent

@@ -1,3 +1,0 @@
-pub mod Scenes
-mod Receiving
-mod Ending

@@ -1,4 +1,0 @@
-pub mod Filling
-pub mod Between
-pub mod Leaving
-pub mod Stepping
