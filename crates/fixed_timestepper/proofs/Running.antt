@@ -149,7 +149,7 @@ module _ (c : Settings) (from : Scene) (start : Float) {was tape mid : List ℕ}
       let e : run_of (65 - (n + 1)) c u x ≡ q = λ i. run_of (65 - (n + 1)) c (h.scene i) (hx i) in
       record {
         bound = omega arith;
-          at = place;
+        at = place;
         len = puts-length h.puts ∙ r.len;
         scene = ap (λ (y : Run). y.played.scene) e ∙ j.0;
         overshoot = ap (λ (y : Run). y.overshoot) e ∙ j.1;
