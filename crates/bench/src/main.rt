@@ -7,9 +7,9 @@ ghost use Rattle.std.specs.Iterator.{at_most};
 
 use client::ReconciliationStatus;
 use refusals::Verdict;
-use session::calls;
-use session_answers::UpdateAnswer;
-use session_issue::IssueAnswer;
+use session::{calls, in_place};
+use session_answers::Updated;
+use session_issue::Issued;
 use session_report::ReportAnswer;
 use settings::{Settings, TweeningMethod};
 use std::io;
@@ -43,7 +43,7 @@ impl Sums {
     }
 
     // All steps of a world are those of the frames and those made to catch up.
-    fn add_update(&mut self, answer: &UpdateAnswer, tape: &[u32]) {
+    fn add_update(&mut self, answer: &Updated, tape: &[u32]) {
         self.add_refusal(answer.refusal);
         self.add(u64::from(answer.frames) + u64::from(answer.steps));
         self.add(answer.words as u64);
@@ -52,7 +52,7 @@ impl Sums {
         }
     }
 
-    fn add_issue(&mut self, answer: &IssueAnswer) {
+    fn add_issue(&mut self, answer: &Issued) {
         self.add_refusal(answer.refusal);
         self.add(u64::from(answer.stamp.0));
     }
@@ -216,16 +216,11 @@ fn play(script: &[u32], tape: &mut [u32], sums: &mut Sums) {
                 seconds,
                 inbox,
             } => {
-                let answer = calls::update(session, delta, seconds, inbox, tape);
-                session = answer.session;
-                sums.add_update(&answer, tape);
+                let told = in_place::update(&mut session, delta, seconds, inbox, tape);
+                sums.add_update(&told, tape);
             }
-            Call::Issue { handle } => {
-                let answer = calls::issue(session, handle);
-                session = answer.session;
-                sums.add_issue(&answer);
-            }
-            Call::Report => sums.add_report(&calls::report(session)),
+            Call::Issue { handle } => sums.add_issue(&in_place::issue(&mut session, handle)),
+            Call::Report => sums.add_report(&in_place::report(&session)),
         }
     }
 }

@@ -8,8 +8,8 @@ use client::{
     Snapshots,
 };
 use clocksync::Clock;
-use session_answers::UpdateAnswer;
-use session_issue::IssueAnswer;
+use session_answers::Updated;
+use session_issue::Issued;
 use session_report::ReportAnswer;
 use session_state::{Session, Stage};
 use std::fmt;
@@ -63,7 +63,7 @@ impl Display for LedgersText {
 // The answer of `update`, and the tape as it left it.
 #[derive(Drop)]
 pub struct UpdateText<'a> {
-    pub answer: UpdateAnswer,
+    pub answer: Updated,
     pub tape: &'a [u32],
 }
 
@@ -95,7 +95,7 @@ impl Display for UpdateText<'_> {
 
 // The answer of `issue`.
 #[derive(Drop)]
-pub struct IssueText(pub IssueAnswer);
+pub struct IssueText(pub Issued);
 
 impl Display for IssueText {
     fn fmt<W: fmt::Write>(&self, f: &mut Formatter<W>) -> fmt::Result {

@@ -4,7 +4,7 @@ ghost use Rattle.std.specs.Prelude.{◌≡◌, length, min};
 use super::answers::{IssueText, MeanText, ReportText, SessionText, UpdateText};
 use super::call::{Call, SAMPLE_ROOM};
 use super::text::RefusalText;
-use session::calls;
+use session::{calls, in_place};
 use session_state::Session;
 use settings::{Settings, TweeningMethod};
 use std::alloc::{AllocError, Global};
@@ -66,7 +66,7 @@ impl Player {
                 inbox,
             } => self.update(delta, seconds, length, inbox.as_slice(), out),
             Call::Issue { handle } => self.issue(handle, out),
-            Call::Report => writeln!(out, "{}", ReportText(calls::report(self.session))),
+            Call::Report => writeln!(out, "{}", ReportText(in_place::report(&self.session))),
             Call::Session => writeln!(out, "{}", SessionText(self.session)),
             Call::Order(a, b) => writeln!(out, "order {}", host::kadwunge_stamp_order(a, b)),
             Call::Stamp { seconds, timestep } => {
@@ -104,14 +104,12 @@ impl Player {
     ) -> io::Result<()> {
         let tape = first(self.tape.as_mut_slice(), length);
         tape.fill(u32::MAX);
-        let answer = calls::update(self.session, delta, seconds, inbox, tape);
-        self.session = answer.session;
+        let answer = in_place::update(&mut self.session, delta, seconds, inbox, tape);
         writeln!(out, "{}", UpdateText { answer, tape })
     }
 
     fn issue<W: Write>(&mut self, handle: u32, out: &mut W) -> io::Result<()> {
-        let answer = calls::issue(self.session, handle);
-        self.session = answer.session;
+        let answer = in_place::issue(&mut self.session, handle);
         writeln!(out, "{}", IssueText(answer))
     }
 }

@@ -35,7 +35,13 @@ fn scan(session: &Session, seconds: f64, inbox: &[u32]) -> Scan
     ensures { Scans inbox.now seconds (listen_of session.now.clock) session.now.worlds.snapshots (old_stamp_of session.now.worlds) result }
 {
     let old = session.worlds.last_completed_timestamp();
-    inbox_scan::scan_inbox(inbox, seconds, session.clock.listen(), session.worlds.snapshots, old)
+    inbox_scan::scan_inbox(
+        inbox,
+        seconds,
+        session.clock.listen(),
+        session.worlds.snapshots,
+        old,
+    )
 }
 
 // An update while the clock syncs.

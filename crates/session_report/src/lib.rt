@@ -53,10 +53,7 @@ fn report_worlds(session: &Session) -> ReportAnswer
 pub fn report(session: &Session) -> ReportAnswer
     ensures { result ≡ report_of session.now }
 {
-    let verdict = refusals::of_report(
-        session.is_sound(),
-        session_state::has_worlds(session.stage),
-    );
+    let verdict = refusals::of_report(session.is_sound(), session_state::has_worlds(session.stage));
     match verdict {
         Ok(()) => report_worlds(session),
         Err(refusal) => refuse_report(refusal),
