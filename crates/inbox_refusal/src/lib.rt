@@ -33,7 +33,7 @@ pub fn lowest(a: Verdict, b: Verdict) -> Verdict
     ensures { result ≡ lowest_of a b }
 {
     match (a, b) {
-        (Err(first), Err(second)) if second.number() < first.number() => b,
+        (Err(first), Err(second)) if u32::from(second) < u32::from(first) => b,
         (Err(_), _) => a,
         (Ok(()), _) => b,
     }
