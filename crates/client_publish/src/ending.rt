@@ -28,8 +28,8 @@ pub fn is_weight(t: f64) -> bool
 pub(crate) fn time_between(before: Timestamp, after: Timestamp, t: f64) -> f64
     ensures { result ≡ time_of before after t }
 {
-    let from = FloatTimestamp::from_timestamp(before);
-    let difference = FloatTimestamp::from_timestamp(after.sub(before));
+    let from = FloatTimestamp::from(before);
+    let difference = FloatTimestamp::from(after.sub(before));
     from.0 + t * difference.0
 }
 
