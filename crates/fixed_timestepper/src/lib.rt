@@ -54,7 +54,7 @@ pub(crate) fn current_logical_timestamp(
 ) -> FloatTimestamp
     ensures { result.0 ≡ logical_of stamp overshoot timestep }
 {
-    FloatTimestamp::from_timestamp(stamp).sub(FloatTimestamp::from_seconds(overshoot, timestep))
+    FloatTimestamp::from(stamp).sub(FloatTimestamp::from_seconds(overshoot, timestep))
 }
 
 // How far the worlds are ahead of the server's time, in seconds.
@@ -179,7 +179,7 @@ pub(crate) fn timeskip(a: Advanced, server: f64, settings: Settings, tape: &mut 
     if skips(stamp, a.overshoot, server, settings) {
         let target = FloatTimestamp::from_seconds(server, t);
         let corrected = target.ceil();
-        let overshoot = FloatTimestamp::from_timestamp(corrected)
+        let overshoot = FloatTimestamp::from(corrected)
             .sub(target)
             .as_seconds(t);
         let mut scene = a.scene;

@@ -3,4 +3,4 @@ use Rattle.fixed_timestepper.proofs.Keeping.{logical_is}
 use Rattle.fixed_timestepper.proofs.current_logical_timestamp.Goals as goal
 
 pub returns : goal.returns
-returns c = logical_is _ _ _ c.from_timestamp.ensures c.from_seconds.ensures c.sub.ensures
+returns c = logical_is _ _ _ c.from.ensures c.from_seconds.ensures c.sub.ensures

@@ -6,7 +6,7 @@ pub returns-then-skips : goal.returns-then-skips
 returns-then-skips c =
     skip_made _ _ _ (skip_told _ _ _ _ c.last_completed_timestamp-stamp.ensures c.skips.ensures c.if-skips.true)
     c.from_seconds-target.ensures c.ceil-corrected.ensures
-    c.from_timestamp.ensures c.sub.ensures c.as_seconds-overshoot.ensures c.reset_last_completed_timestamp-at.ensures
+    c.from.ensures c.sub.ensures c.as_seconds-overshoot.ensures c.reset_last_completed_timestamp-at.ensures
 
 pub returns : goal.returns
 returns c = skip_none _ _ _ _ (skip_told _ _ _ _ c.last_completed_timestamp-stamp.ensures c.skips.ensures c.if-skips.false)
