@@ -99,7 +99,7 @@ fn read_open<R: Read + Drop>(input: &mut Input<R>) -> Result<Call, Stop> {
         needed: input.decimal_u32()?,
         rate: input.float()?,
         m: input.decimal_u32()?,
-        method: TweeningMethod::from_number(input.decimal_u32()?),
+        method: TweeningMethod::from(input.decimal_u32()?),
     }))
 }
 

@@ -34,7 +34,7 @@ fn no_session() -> Session {
         needed: 0,
         rate: 0.0,
         m: 0,
-        method: TweeningMethod::from_number(0),
+        method: TweeningMethod::from(0),
     };
     calls::open(settings).session
 }

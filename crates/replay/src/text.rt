@@ -22,7 +22,7 @@ pub struct Stamp(pub Timestamp);
 
 impl Display for Stamp {
     fn fmt<W: fmt::Write>(&self, f: &mut Formatter<W>) -> fmt::Result {
-        write!(f, "{}", self.0.value())
+        write!(f, "{}", i16::from(self.0))
     }
 }
 
