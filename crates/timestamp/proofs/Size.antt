@@ -1,5 +1,6 @@
 -- The library's size of a number, whose zero has the sign plus, is the definition's to every comparison. Assumes nothing.
-use Rattle.std.proofs.Common.{◌≡◌, ℕ, ◌+◌, ◌*◌, ◌<◌, ◌≤◌, Bool, true, false, cond, ◌&&◌, ◌||◌, ltb, eqb, ℤ, sym, refl, ap, ◌∙◌, add-zero, arith, ltb-true, ltb-false}
+use Rattle.std.proofs.Common.{◌≡◌, ℕ, ◌+◌, ◌*◌, ◌<◌, ◌≤◌, Bool, true, false, cond, ◌&&◌, ◌||◌, ltb, eqb, ℤ, sym, refl, ap, ◌∙◌}
+use Rattle.std.proofs.Common.{add-zero, arith, ltb-true, ltb-false}
 use borrow.Author.Tests.{le-ltb}
 use lib.Ieee.{Float, nan, inf, fin, up, down, neg, lt, le, eq}
 use Rattle.std.specs.Float.{float_with_sign}
