@@ -76,7 +76,7 @@ fn status_number(status: ReconciliationStatus) -> u64 {
 
 // The bits of the time that is displayed.
 fn time_bits(time: Option<f64>) -> u64 {
-    time.map_or(0, tape::bits_of)
+    time.map_or(0, std::num::f64_to_bits_with_nan)
 }
 
 // A call of a script.
@@ -227,11 +227,11 @@ fn play(script: &[u32], tape: &mut [u32], sums: &mut Sums) {
 
 // Reads the bytes of a script, as many as there is room for, and gives how many there are. `io::copy` would do too, but bench/run adds up
 // frames, and the buffer of a copy, 8 KB, is more than what an update takes below `main`.
-fn read_bytes(stdin: &mut impl Read, bytes: &mut [u8; BYTE_ROOM]) -> io::Result<usize>
-    ensures { IfOk result (λ n. n ≤ 1048576) }
+fn read_bytes(stdin: &mut impl Read, bytes: &mut [u8]) -> io::Result<usize>
+    ensures { IfOk result (λ n. n ≤ length bytes.old) }
 {
     let mut count = 0;
-    while count < BYTE_ROOM {
+    while count < bytes.len() {
         match stdin.read(&mut bytes[count..])? {
             0 => break,
             n => count += n,
@@ -241,11 +241,7 @@ fn read_bytes(stdin: &mut impl Read, bytes: &mut [u8; BYTE_ROOM]) -> io::Result<
 }
 
 // Reads the words of a script, low byte first.
-fn read_script(
-    stdin: &mut impl Read,
-    bytes: &mut [u8; BYTE_ROOM],
-    script: &mut [u32; SCRIPT_ROOM],
-) -> io::Result<()> {
+fn read_script(stdin: &mut impl Read, bytes: &mut [u8], script: &mut [u32]) -> io::Result<()> {
     let count = read_bytes(stdin, bytes)?;
     let (words, _) = bytes[..count].as_chunks::<4>();
     for (word, bytes) in script.iter_mut().zip(words) {

@@ -1,8 +1,8 @@
 -- What the code of a frame comes to, over plain values: one rule for each return. Assumes nothing.
 use Rattle.std.specs.Ordering.{is_ge}
-use Rattle.std.proofs.Common.{length, ◌≡◌, ℕ, ◌≤◌, Bool, true, false, List, pos, refl, ap, ◌∙◌}
+use Rattle.std.proofs.Common.{length, ◌≡◌, ℕ, ◌≤◌, Bool, true, false, List, refl, ap, ◌∙◌}
 use Rattle.std.specs.Prelude.{Option, Some, None}
-use lib.Ieee.{Float, fin, binary64, add, lt}
+use lib.Ieee.{Float, binary64, add}
 use Rattle.timestamp.specs.declared.Timestamp.{Timestamp}
 use Rattle.std.specs.declared.cmp.Ordering.{Ordering}
 use Rattle.timestamp.specs.Timestamps.{order_of}
@@ -46,18 +46,6 @@ unfolding loaded_queued
 queued_held s q side e p = rw e p
 
 -- ---- the weight
-
--- a number below 0
-pub clamp_low : (x : Float) → lt x (fin false 0 (pos 0)) ≡ true → fin false 0 (pos 0) ≡ clamped_of x
-clamp_low x h = rw h refl
-
--- a number above 1
-pub clamp_high : (x : Float) → lt x (fin false 0 (pos 0)) ≡ false → lt (fin false 1 (pos 0)) x ≡ true → fin false 1 (pos 0) ≡ clamped_of x
-clamp_high x h k = rw (h, k) refl
-
--- a number from 0 to 1
-pub clamp_in : (x : Float) → lt x (fin false 0 (pos 0)) ≡ false → lt (fin false 1 (pos 0)) x ≡ false → x ≡ clamped_of x
-clamp_in x h k = rw (h, k) refl
 
 -- the weight a frame on
 pub blended_is : (s : Scene) (progress : Float) {t : Float} → t ≡ clamped_of (add binary64 s.worlds.weight progress)

@@ -9,7 +9,6 @@ ghost use Rattle.client.specs.Sides.{Plays, old_stamp_of};
 ghost use Rattle.client_publish.specs.Inner.{States};
 ghost use Rattle.client_frame.specs.Frame.{loads_of, loaded_queued, blended_on, reset_new, opened_of, caught_up_of, caught_of, simulated_of};
 ghost use Rattle.client_frame.specs.Frame.{blended_by, published_by, is_obsolete, too_far_of, shown_of, frame_of, frame_stops, Frames};
-ghost use Rattle.timestamp.specs.Floats.{clamped_of};
 ghost use Rattle.client_frame.specs.Inner.{stops_by};
 
 use client::{
@@ -40,24 +39,11 @@ pub(crate) fn loads(t: ReconciliationStatus, q: Option<QueuedSnapshot>) -> Optio
     }
 }
 
-// A number brought into 0 to 1.
-pub fn clamp(x: f64) -> f64
-    ensures { result ≡ clamped_of x }
-{
-    if x < 0.0 {
-        return 0.0;
-    }
-    if x > 1.0 {
-        return 1.0;
-    }
-    x
-}
-
-// The weight moved on by one frame.
+// The weight moved on by one frame, within 0 to 1.
 pub(crate) fn blend_on(scene: &mut Scene, progress: f64)
     ensures { scene.new ≡ blended_on scene.old progress }
 {
-    scene.worlds.weight = clamp(scene.worlds.weight + progress);
+    scene.worlds.weight = (scene.worlds.weight + progress).clamp(0.0, 1.0);
 }
 
 // The new world is set to the old one's stamp.

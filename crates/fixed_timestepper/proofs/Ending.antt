@@ -10,6 +10,8 @@ use Rattle.timestamp.specs.FloatTimestamps.{from_seconds, float_difference_of, a
 use Rattle.tape.specs.declared.Tape.{Tape}
 use Rattle.tape.specs.Tape.{Puts}
 use Rattle.tape.proofs.Writing.{on_puts, puts_none, puts_as}
+use Rattle.std.specs.Float.{float_with_sign}
+use Rattle.timestamp.proofs.Size.{size_least}
 use Rattle.settings.specs.declared.Settings.{Settings}
 use Rattle.settings.specs.Settings.{lag_frame_count_of}
 use Rattle.settings.specs.Tweening.{shaped_of}
@@ -24,11 +26,10 @@ use Rattle.fixed_timestepper.specs.TimeKeeper.{drift_of, corrected_of, corrected
 use Rattle.fixed_timestepper.specs.Inner.{run_by, Skips}
 
 -- the test for a skip, by the calls that make it
-pub skips_is : (stamp : Timestamp) (overshoot server : Float) (c : Settings) {old : Timestamp} {d a : Float} {b : Bool}
-    → old ≡ stamp → d ≡ drift_of old overshoot c.timestep server → a ≡ abs_of d → le c.skip a ≡ b → skips_of stamp overshoot server c ≡ b
+pub skips_is : (stamp : Timestamp) (overshoot server : Float) (c : Settings) {d a : Float} → d ≡ drift_of stamp overshoot c.timestep server
+    → a ≡ float_with_sign false d → le c.skip a ≡ skips_of stamp overshoot server c
 unfolding skips_of
-skips_is stamp overshoot server c ho hd ha hb =
-    ap (le c.skip) (sym (ha ∙ ap abs_of (hd ∙ ap (λ (t : Timestamp). drift_of t overshoot c.timestep server) ho))) ∙ hb
+skips_is stamp overshoot server c {d} hd ha = ap (le c.skip) ha ∙ size_least c.skip d ∙ ap (λ (x : Float). le c.skip (abs_of x)) hd
 
 -- the test as it was told
 pub skip_told : (stamp : Timestamp) (overshoot server : Float) (c : Settings) {old : Timestamp} {a b : Bool} → old ≡ stamp

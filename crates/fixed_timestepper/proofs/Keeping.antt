@@ -7,7 +7,9 @@ use Rattle.timestamp.specs.declared.Timestamp.{Timestamp}
 use Rattle.timestamp.specs.FloatTimestamps.{from_seconds, float_difference_of, as_seconds, float_of}
 use Rattle.settings.specs.declared.Settings.{Settings}
 use Rattle.fixed_timestepper.specs.TimeKeeper.{at_least_zero, logical_of, drift_of, beyond_deadband, uncapped_of, compensated_of}
-use Rattle.timestamp.specs.Floats.{zero64, abs_of}
+use Rattle.timestamp.specs.Floats.{zero64}
+use Rattle.timestamp.proofs.Size.{size_below}
+use Rattle.std.specs.Float.{float_with_sign}
 
 -- a pick whose test is true
 pub picked_true : {A : Type 0} {b : Bool} (x y : A) → b ≡ true → x ≡ cond b x y
@@ -30,14 +32,18 @@ unfolding drift_of
 drift_is stamp overshoot timestep server ha hb hd hr = hr ∙ ap (λ (x : Float). as_seconds x timestep) (hd ∙ (λ i. float_difference_of (ha i) (hb i)))
 
 -- a drift in the dead band
-pub deadband_in : (drift timestep : Float) {a : Float} → a ≡ abs_of drift → lt a (mul binary64 timestep (fin false 1 (negsuc 0))) ≡ true
+pub deadband_in : (drift timestep : Float) {a : Float} → a ≡ float_with_sign false drift → lt a (mul binary64 timestep (fin false 1 (negsuc 0))) ≡ true
     → zero64 ≡ beyond_deadband drift timestep
-deadband_in drift timestep ha h = picked_true zero64 drift (ap (λ (x : Float). lt x (mul binary64 timestep (fin false 1 (negsuc 0)))) (sym ha) ∙ h)
+deadband_in drift timestep ha h =
+    let half = mul binary64 timestep (fin false 1 (negsuc 0)) in
+    picked_true zero64 drift (sym (size_below half drift) ∙ ap (λ (x : Float). lt x half) (sym ha) ∙ h)
 
 -- and one beyond it
-pub deadband_out : (drift timestep : Float) {a : Float} → a ≡ abs_of drift → lt a (mul binary64 timestep (fin false 1 (negsuc 0))) ≡ false
+pub deadband_out : (drift timestep : Float) {a : Float} → a ≡ float_with_sign false drift → lt a (mul binary64 timestep (fin false 1 (negsuc 0))) ≡ false
     → drift ≡ beyond_deadband drift timestep
-deadband_out drift timestep ha h = picked_false zero64 drift (ap (λ (x : Float). lt x (mul binary64 timestep (fin false 1 (negsuc 0)))) (sym ha) ∙ h)
+deadband_out drift timestep ha h =
+    let half = mul binary64 timestep (fin false 1 (negsuc 0)) in
+    picked_false zero64 drift (sym (size_below half drift) ∙ ap (λ (x : Float). lt x half) (sym ha) ∙ h)
 
 -- the delta before it is capped
 pub uncapped_is : (stamp : Timestamp) (overshoot delta server timestep : Float) {d b u : Float}

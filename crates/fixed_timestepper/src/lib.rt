@@ -6,7 +6,6 @@ ghost use Rattle.std.specs.Prelude.{◌≡◌, true, ◌≤◌, ◌<◌, ◌*◌
 ghost use Rattle.fixed_timestepper.specs.TimeKeeper.{at_least_zero, logical_of, drift_of, beyond_deadband, compensated_of, rules_of, run_of, skips_of};
 ghost use Rattle.fixed_timestepper.specs.TimeKeeper.{Advances};
 ghost use Rattle.fixed_timestepper.specs.TimeKeeper.{ended_of, unended_of};
-ghost use Rattle.timestamp.specs.Floats.{abs_of};
 ghost use Rattle.fixed_timestepper.specs.Inner.{Skips};
 ghost use Rattle.refusals.specs.Limits.{most_frames, most_steps};
 
@@ -24,16 +23,6 @@ pub struct Advanced {
     pub frames: u32,
     pub at: usize,
     pub stop: Stop,
-}
-
-// The size of a number.
-pub(crate) fn abs(x: f64) -> f64
-    ensures { result ≡ abs_of x }
-{
-    if x < 0.0 {
-        return -x;
-    }
-    x
 }
 
 // A number, or +0.0 where it is not above 0.
@@ -75,7 +64,7 @@ pub(crate) fn timestamp_drift_seconds(
 pub(crate) fn beyond_deadband(drift: f64, timestep: f64) -> f64
     ensures { result ≡ beyond_deadband drift timestep }
 {
-    if abs(drift) < timestep * 0.5 {
+    if drift.abs() < timestep * 0.5 {
         return 0.0;
     }
     drift
@@ -163,7 +152,7 @@ pub(crate) fn advance(
 pub fn skips(stamp: Timestamp, overshoot: f64, server: f64, settings: Settings) -> bool
     ensures { result ≡ skips_of stamp overshoot server settings }
 {
-    abs(timestamp_drift_seconds(stamp, overshoot, settings.timestep, server)) >= settings.skip
+    timestamp_drift_seconds(stamp, overshoot, settings.timestep, server).abs() >= settings.skip
 }
 
 // The skip where the drift is at or beyond the threshold: to the server's frame, rounded up.

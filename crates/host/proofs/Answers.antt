@@ -1,4 +1,4 @@
--- The mean of floats that pass, that a mean is answered only where the answer has 8 bytes, and what the hosts' calls answer to what is refused. Assumes nothing.
+-- The mean of floats that pass; that a mean is answered only where the answer has 8 bytes; and what hosts are told of what is refused. Assumes nothing.
 use Rattle.std.proofs.Common.{◌≡◌, refl, sym, ap, ◌∙◌, Bool, true, false, cond, ◌&&◌, List, [], ◌∷◌, ℕ, zero, suc, ◌*◌, ◌≤◌, length, take, arith, length-append}
 use lib.Ieee.{binary64, of_bits}
 use lib.Seq.{take_all}

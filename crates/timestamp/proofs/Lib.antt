@@ -4,6 +4,7 @@ pub mod Signed
 pub mod Order
 pub mod Rfc
 pub mod Saturate
+pub mod Size
 pub mod Cleared
 pub mod Whole
 pub mod Nearer

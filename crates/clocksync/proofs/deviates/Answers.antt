@@ -2,9 +2,9 @@
 use mathlib.Core.Path.{ap, ◌∙◌}
 use lib.Ieee.{lt}
 use Rattle.clocksync.specs.Clock.{deviates_of}
-use Rattle.clocksync.proofs.Tests.{size_is}
+use Rattle.timestamp.proofs.Size.{size_above}
 use Rattle.clocksync.proofs.deviates.Goals as goal
 
 pub returns : goal.returns
 unfolding deviates_of
-returns c = ap (lt c.args.deviation) c.abs.ensures.value ∙ size_is c.args.deviation _
+returns c = ap (lt c.args.deviation) c.abs.ensures.value ∙ size_above c.args.deviation _

@@ -5,8 +5,8 @@ use Rattle.fixed_timestepper.proofs.beyond_deadband.Goals as goal
 
 pub returns-then-abs-timestep : goal.returns-then-abs-timestep
 unfolding of_bits
-returns-then-abs-timestep c = deadband_in _ _ c.abs.ensures c.if-abs-timestep.true
+returns-then-abs-timestep c = deadband_in _ _ c.abs.ensures.value c.if-abs-timestep.true
 
 pub returns : goal.returns
 unfolding of_bits
-returns c = deadband_out _ _ c.abs.ensures c.if-abs-timestep.false
+returns c = deadband_out _ _ c.abs.ensures.value c.if-abs-timestep.false

@@ -1,9 +1,8 @@
 -- `skips` meets its contract: the drift against the threshold. Assumes nothing.
-use mathlib.Core.Path.{refl, sym}
 use Rattle.fixed_timestepper.proofs.Ending.{skips_is}
 use Rattle.fixed_timestepper.proofs.skips.Goals as goal
 
 pub returns : goal.returns
 returns c =
     let a = c.args in
-    sym (skips_is a.stamp a.overshoot a.server a.settings refl c.timestamp_drift_seconds.ensures c.abs.ensures refl)
+    skips_is a.stamp a.overshoot a.server a.settings c.timestamp_drift_seconds.ensures c.abs.ensures.value
