@@ -9,7 +9,9 @@ use Rattle.timestamp.specs.declared.Timestamp.{Timestamp}
 use Rattle.timestamp.specs.Timestamps.{sum_of, difference_of, signed_of, sign_of, order_of}
 use Rattle.timestamp.specs.Floats.{clamped_of}
 use Rattle.timestamp.proofs.Tests.{apart}
-use Rattle.tape.specs.Tape.{Puts}
+use Rattle.tape.specs.declared.Tape.{Tape}
+use Rattle.tape.specs.Sides.{is_left}
+use Rattle.tape.specs.Tape.{PutsOn}
 use Rattle.tape.specs.Words.{step_word}
 use Rattle.command.specs.Entries.{Entry}
 use Rattle.command.specs.declared.CommandBuffer.{CommandBuffer}
@@ -30,7 +32,6 @@ use Rattle.client.specs.Sides.{old_stamp_of, new_stamp_of}
 use Rattle.client.specs.Sides.{put_of, Played, still, and_then, done_at, Plays, with_left, with_right, with_ledgers, with_steps}
 use Rattle.client.specs.Status.{status_by, status_of}
 use Rattle.client.proofs.Happening.{plays_as, plays_then}
-use Rattle.client_publish.specs.declared.Stated.{Stated}
 use Rattle.client_publish.specs.Publish.{with_state, published_blended}
 use Rattle.client_publish.specs.Inner.{States}
 use Rattle.client_publish.proofs.Telling.{Telling, publishes, blended_by_lem}
@@ -178,7 +179,7 @@ record Sides (s : Scene) : Type 0 where
   client : old_stamp_of (levelled s).worlds ≡ next_stamp (old_stamp_of s.worlds)
   scene : with_step (put_of (mid_scene s) (new_side_of s.worlds) (moved_on (world_of s.worlds (new_side_of s.worlds))) 0 0) ≡ levelled s
 
-sides_by_lem : (b : Bool) (s : Scene) → eqb s.worlds.new 0 ≡ b → Sides s
+sides_by_lem : (b : Bool) (s : Scene) → is_left s.worlds.new ≡ b → Sides s
 unfolding mid_scene put_of new_side_of old_side_of world_of with_world with_ledger ledger_of old_stamp_of new_stamp_of
 sides_by_lem true s e = record { side = simp e; world = simp e; new = simp e; old = simp e; last = simp e; client = simp e; scene = simp e }
 sides_by_lem false s e = record { side = simp e; world = simp e; new = simp e; old = simp e; last = simp e; client = simp e; scene = simp e }
@@ -191,7 +192,7 @@ side_waits_by true w side e l r = rw e l
 side_waits_by false w side e l r = rw e r
 
 -- the stamps of left and right are those of new and old, or the other way round
-stamps_by_lem : (b : Bool) (w : ClientWorldSimulations) → eqb w.new 0 ≡ b → (new_stamp_of w).0 ≡ (old_stamp_of w).0
+stamps_by_lem : (b : Bool) (w : ClientWorldSimulations) → is_left w.new ≡ b → (new_stamp_of w).0 ≡ (old_stamp_of w).0
     → (world_stamp_of w.left).0 ≡ (world_stamp_of w.right).0
 unfolding new_stamp_of old_stamp_of world_of new_side_of old_side_of
 stamps_by_lem true w e h = rw e at h
@@ -201,7 +202,7 @@ module _ (s : Scene) (same : (new_stamp_of s.worlds).0 ≡ (old_stamp_of s.world
     (right : world_waits s.worlds.right ≡ true) where
   -- the sides of the two steps
   sides : Sides s
-  sides = sides_by_lem (eqb s.worlds.new 0) s refl
+  sides = sides_by_lem (is_left s.worlds.new) s refl
 
   -- the world of either side waits
   waiting : (side : ℕ) → world_waits (world_of s.worlds side) ≡ true
@@ -349,7 +350,7 @@ module _ (rules : Rules) (s : Scene) (level : is_level s.worlds rules.m ≡ true
   level_stamp =
       let all : old_stamp_of (frame_of rules s).scene.worlds ≡ next_stamp (old_stamp_of s.worlds) =
       ap (λ (x : Played). old_stamp_of x.scene.worlds) (sym level_frame) ∙ (published_stays (levelled (reweighted rules.progress s))).stamp
-      ∙ (sides_by_lem (eqb s.worlds.new 0) (reweighted rules.progress s) refl).client in
+      ∙ (sides_by_lem (is_left s.worlds.new) (reweighted rules.progress s) refl).client in
       ap (λ (x : Timestamp). x.0) all
 
   -- the scene of a level frame as the code builds it: the stamp n, the weight t, the ledgers l and r, and the steps k
@@ -359,22 +360,22 @@ module _ (rules : Rules) (s : Scene) (level : is_level s.worlds rules.m ≡ true
       → level_with s n t l r k ≡ levelled (reweighted rules.progress s)
   level_scene {n} hn ht hl hr hk =
       let right : n.0 ≡ sum_of (world_stamp_of s.worlds.right).0 1 = hn
-      ∙ ap (λ (x : ℕ). sum_of x 1) (stamps_by_lem (eqb s.worlds.new 0) s.worlds refl parts.stamps) in
+      ∙ ap (λ (x : ℕ). sum_of x 1) (stamps_by_lem (is_left s.worlds.new) s.worlds refl parts.stamps) in
       (λ i. level_at s (record { 0 = hn i }) (record { 0 = right i }) (ht i) (hl i) (hr i) (hk i))
 
   -- a level frame as the code leaves it
-  pub level_plays : {f : ReconciliationStatus} {n : Timestamp} {t : Float} {l r : Ledger} {k at q : ℕ} {was mid last : List ℕ} {a : Stated} {u : Scene}
-      → f ≡ status_of s.worlds → Puts was at (level_words s.worlds) q mid
+  pub level_plays : {f : ReconciliationStatus} {n : Timestamp} {t : Float} {l r : Ledger} {k : ℕ} {was mid now : Tape} {a : Option Timestamp} {u : Scene}
+      → f ≡ status_of s.worlds → PutsOn was (level_words s.worlds) mid
       → n.0 ≡ sum_of (world_stamp_of s.worlds.left).0 1 → t ≡ level_weight f s.worlds.weight rules.progress → l ≡ applies s.left 0 0
       → r ≡ applies s.right 0 0 → k ≡ (s.steps + 1) % 2 ^ 32
-      → States (published_blended (level_with s n t l r k)) (level_with s n t l r k) mid q a last → u ≡ with_state (level_with s n t l r k) a.state
-      → Plays (frame_of rules s) was at u a.at last
-  level_plays {f} {n} {t} {l} {r} {k} {at} {q} {was} {mid} hf hp hn ht hl hr hk ha hu =
+      → States (published_blended (level_with s n t l r k)) (level_with s n t l r k) mid a now → u ≡ with_state (level_with s n t l r k) a
+      → Plays (frame_of rules s) was u now
+  level_plays {f} {n} {t} {l} {r} {k} {was} {mid} hf hp hn ht hl hr hk ha hu =
       let e : Scene = level_with s n t l r k in
       let weight : t ≡ level_weight (status_of s.worlds) s.worlds.weight rules.progress = ht
       ∙ ap (λ (x : ReconciliationStatus). level_weight x s.worlds.weight rules.progress) hf in
-      let steps : Plays (record { scene = levelled (reweighted rules.progress s); words = level_words s.worlds }) was at
-      e q mid = record { scene = level_scene hn weight hl hr hk; puts = hp } in
+      let steps : Plays (record { scene = levelled (reweighted rules.progress s); words = level_words s.worlds }) was
+      e mid = record { scene = level_scene hn weight hl hr hk; puts = hp } in
       plays_as level_frame (plays_then published_blended steps (stated_plays e ha hu))
 
 -- ---- a world put back

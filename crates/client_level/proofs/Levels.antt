@@ -6,7 +6,8 @@ use Prim.Native.Nat.{ℕ}
 use lib.Ieee.{Float, binary64, add, sub, lt}
 use Rattle.timestamp.specs.declared.Timestamp.{Timestamp}
 use Rattle.timestamp.specs.Floats.{zero64}
-use Rattle.tape.proofs.Writing.{puts_as}
+use Rattle.tape.specs.declared.Tape.{Tape}
+use Rattle.tape.proofs.Writing.{on_puts, puts_as}
 use Rattle.settings.specs.declared.Settings.{Settings}
 use Rattle.simulation.specs.World.{next_stamp}
 use Rattle.client.specs.declared.ClientWorldSimulations.{ClientWorldSimulations}
@@ -58,16 +59,16 @@ module _ (c : Settings) (s : Scene) (o : Float) (single : is_single o c.timestep
       (done_at_lem 64 c (frame c s).scene (add binary64 o c.timestep) bounds.1 i)))
 
   -- the run as the code leaves it
-  pub level_advances : {u : Scene} {next : ℕ} {x : Float} {was last : List ℕ} → Plays (frame c s) was 0 u next last → x ≡ add binary64 o c.timestep
-      → Advances (run_of 65 c s o) was u (record { overshoot = x; frames = 1; at = next; stop = Done }) last
+  pub level_advances : {u : Scene} {x : Float} {was now : Tape} → was.at ≡ 0 → Plays (frame c s) was u now → x ≡ add binary64 o c.timestep
+      → Advances (run_of 65 c s o) was.words.now u (record { overshoot = x; frames = 1; at = now.at; stop = Done }) now.words.now
   unfolding framed
-  level_advances h hx =
+  level_advances z h hx =
       record {
         scene = h.scene ∙ sym (ap (λ (r : Run). r.played.scene) single_run);
         overshoot = hx ∙ sym (ap (λ (r : Run). r.overshoot) single_run);
         frames = sym (ap (λ (r : Run). r.frames) single_run);
         stop = sym (ap (λ (r : Run). r.stop) single_run);
-        puts = puts_as (sym (append-nil (frame c s).words) ∙ sym (ap (λ (r : Run). r.played.words) single_run)) h.puts;
+        puts = puts_as (sym (append-nil (frame c s).words) ∙ sym (ap (λ (r : Run). r.played.words) single_run)) (rw z at (on_puts h.puts));
       }
 
   -- it ended by itself
