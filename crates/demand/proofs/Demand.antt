@@ -7,6 +7,7 @@ use lib.Dec.{eqb}
 use Rattle.client.specs.declared.ClientWorldSimulations.{ClientWorldSimulations}
 use Rattle.client.specs.declared.QueuedSnapshot.{QueuedSnapshot}
 use Rattle.std.specs.Prelude.{Option, Some, None}
+use Rattle.tape.specs.Sides.{is_left}
 use Rattle.client.specs.Sides.{new_side_of, old_side_of, world_of, old_stamp_of, new_stamp_of}
 use Rattle.session_laws.proofs.TraceFrames.{QueuedFits, Fitting}
 use Rattle.session_state.specs.declared.Session.{Session}
@@ -34,7 +35,7 @@ queued_fits : (q : Option QueuedSnapshot) → Stamp q → QueuedFits q
 queued_fits None h = tt
 queued_fits (Some q) h = h
 
-below_by : (b : Bool) (w : ClientWorldSimulations) → eqb w.new 0 ≡ b → w.left.commands.timestamp.0 < 65536
+below_by : (b : Bool) (w : ClientWorldSimulations) → is_left w.new ≡ b → w.left.commands.timestamp.0 < 65536
     → w.right.commands.timestamp.0 < 65536 → ((old_stamp_of w).0 < 65536) × ((new_stamp_of w).0 < 65536)
 unfolding old_stamp_of new_stamp_of old_side_of new_side_of world_of
 below_by true w e l r = (simp e r, simp e l)
@@ -43,7 +44,7 @@ below_by false w e l r = (simp e l, simp e r)
 typed_fitting : (s : Session) → Typed s → Fitting s.worlds
 typed_fitting s t =
     let b : ((old_stamp_of s.worlds).0 < 65536) × ((new_stamp_of s.worlds).0 < 65536) =
-    below_by (eqb s.worlds.new 0) s.worlds refl t.left t.right in
+    below_by (is_left s.worlds.new) s.worlds refl t.left t.right in
     record { old = b.0; new = b.1; queued = queued_fits s.worlds.snapshots.queued t.queued }
 
 -- ---- all of it

@@ -1,5 +1,6 @@
 -- What the commands of an inbox leave of a scene that the snapshots after them turn on: the snapshots and the stamp of the old world. Assumes nothing.
 use Rattle.std.proofs.Common.{◌≡◌, ℕ, Bool, true, false, eqb, List, [], ◌∷◌, refl, sym, ap, ◌∙◌, Ok, Err}
+use Rattle.tape.specs.Sides.{is_left}
 use Rattle.command.specs.Entries.{Entry, entry_of}
 use Rattle.command.specs.declared.CommandBuffer.{CommandBuffer}
 use Rattle.command.proofs.Ledger.{inserted_stamp}
@@ -23,7 +24,7 @@ record Offers (s t : Scene) : Type 0 where
   pub snapshots : t.worlds.snapshots ≡ s.worlds.snapshots
 
 -- other worlds of the same stamps
-stamp_by : (w : ClientWorldSimulations) (a b : Simulation) (base : CommandBuffer) (new : Bool) → eqb w.new 0 ≡ new
+stamp_by : (w : ClientWorldSimulations) (a b : Simulation) (base : CommandBuffer) (new : Bool) → is_left w.new ≡ new
     → world_stamp_of a ≡ world_stamp_of w.left → world_stamp_of b ≡ world_stamp_of w.right
     → old_stamp_of (with_left (with_right (with_base w base) b) a) ≡ old_stamp_of w
 unfolding old_stamp_of old_side_of world_of
@@ -40,7 +41,7 @@ offers s e =
     let r = received_is s e refl refl refl refl refl refl in
     record {
       old = sym (ap (λ (x : Received). old_stamp_of x.scene.worlds) r)
-          ∙ stamp_by s.worlds _ _ _ (eqb s.worlds.new 0) refl (scheduled_stamp s.worlds.left e) (scheduled_stamp s.worlds.right e);
+          ∙ stamp_by s.worlds _ _ _ (is_left s.worlds.new) refl (scheduled_stamp s.worlds.left e) (scheduled_stamp s.worlds.right e);
       snapshots = sym (ap (λ (x : Received). x.scene.worlds.snapshots) r);
     }
 

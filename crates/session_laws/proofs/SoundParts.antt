@@ -32,6 +32,7 @@ use Rattle.clocksync.specs.declared.Heard.{Heard}
 use Rattle.clocksync.specs.declared.Ticked.{Ticked}
 use Rattle.client.specs.declared.QueuedSnapshot.{QueuedSnapshot}
 use Rattle.std.specs.Prelude.{Option, Some, None, is_some, unwrap_or}
+use Rattle.tape.specs.Sides.{is_left}
 use Rattle.mean.specs.Mean.{mean_of}
 use Rattle.clocksync.specs.Clock.{laid_out, held_of, timed_of, ticked_of, listen_of, heard_of, offset_after, sampled_of, filled_of, named_of, sample_of}
 use Rattle.clocksync.specs.Clock.{settled_of}
@@ -98,18 +99,18 @@ implies : (a b : Bool) → (a ≡ true → b ≡ true) → cond a b true ≡ tru
 implies true b f = f refl
 implies false b f = refl
 
-init_tells : (w : ClientWorldSimulations) → init_sound w ≡ true → InitOrder (eqb w.new 0) w.left.init w.right.init
+init_tells : (w : ClientWorldSimulations) → init_sound w ≡ true → InitOrder (is_left w.new) w.left.init w.right.init
 unfolding init_sound world_of old_side_of new_side_of
-init_tells w h = go (eqb w.new 0) h
+init_tells w h = go (is_left w.new) h
   where
     go : (b : Bool) → cond (cond (eqb (cond b 1 0) 0) w.left w.right).init (cond (eqb (cond b 0 1) 0) w.left w.right).init true ≡ true
         → InitOrder b w.left.init w.right.init
     go true i = implied w.right.init w.left.init i
     go false i = implied w.left.init w.right.init i
 
-init_holds : (w : ClientWorldSimulations) → InitOrder (eqb w.new 0) w.left.init w.right.init → init_sound w ≡ true
+init_holds : (w : ClientWorldSimulations) → InitOrder (is_left w.new) w.left.init w.right.init → init_sound w ≡ true
 unfolding init_sound world_of old_side_of new_side_of
-init_holds w h = go (eqb w.new 0) h
+init_holds w h = go (is_left w.new) h
   where
     go : (b : Bool) → InitOrder b w.left.init w.right.init
         → cond (cond (eqb (cond b 1 0) 0) w.left w.right).init (cond (eqb (cond b 0 1) 0) w.left w.right).init true ≡ true

@@ -17,6 +17,7 @@ use Rattle.simulation.specs.declared.Simulation.{Simulation}
 use Rattle.simulation.specs.World.{Done, Load, next_stamp, scheduled_of, step_of, resets_back, kept_of, flushed_of, reset_of, load_of}
 use Rattle.client.specs.declared.QueuedSnapshot.{QueuedSnapshot}
 use Rattle.std.specs.Prelude.{Option, Some, None}
+use Rattle.tape.specs.Sides.{is_left}
 use Rattle.client.specs.declared.Snapshots.{Snapshots}
 use Rattle.client.specs.declared.Published.{Published}
 use Rattle.client.specs.declared.ClientWorldSimulations.{ClientWorldSimulations}
@@ -45,7 +46,7 @@ pub record Kept (w : ClientWorldSimulations) : Type 0 where
   pub right : sound_buffer w.right.commands ≡ true
   pub base : sound_buffer w.base ≡ true
   pub queued : SmallQueued w.snapshots.queued
-  pub init : InitOrder (eqb w.new 0) w.left.init w.right.init
+  pub init : InitOrder (is_left w.new) w.left.init w.right.init
 
 -- the weight is 0, or it is from 0 to 1 and the stamps are equal
 pub data Weighed (w : ClientWorldSimulations) : Type 0 where
@@ -76,7 +77,7 @@ put_kept w side x h i k = go (eqb side 0) i
           right = k.right;
           base = k.base;
           queued = k.queued;
-          init = subst (λ (v : Bool). InitOrder (eqb w.new 0) v w.right.init) (sym e) k.init;
+          init = subst (λ (v : Bool). InitOrder (is_left w.new) v w.right.init) (sym e) k.init;
         }
     go false e =
         record {
@@ -84,7 +85,7 @@ put_kept w side x h i k = go (eqb side 0) i
           right = h;
           base = k.base;
           queued = k.queued;
-          init = subst (λ (v : Bool). InitOrder (eqb w.new 0) w.left.init v) (sym e) k.init;
+          init = subst (λ (v : Bool). InitOrder (is_left w.new) w.left.init v) (sym e) k.init;
         }
 
 -- another world at a side leaves the weight
@@ -100,34 +101,34 @@ module _ (w : ClientWorldSimulations) (x : Simulation) where
   -- the stamps after another world at the old side
   pub old_at_old : old_stamp_of (with_world w (old_side_of w) x) ≡ world_stamp_of x
   unfolding old_stamp_of with_world world_of old_side_of
-  old_at_old = go (eqb w.new 0) refl
+  old_at_old = go (is_left w.new) refl
     where
-      go : (b : Bool) → eqb w.new 0 ≡ b → old_stamp_of (cond (eqb (cond b 1 0) 0) (with_left w x) (with_right w x)) ≡ world_stamp_of x
+      go : (b : Bool) → is_left w.new ≡ b → old_stamp_of (cond (eqb (cond b 1 0) 0) (with_left w x) (with_right w x)) ≡ world_stamp_of x
       go true e = simp e
       go false e = simp e
 
   pub new_at_old : new_stamp_of (with_world w (old_side_of w) x) ≡ new_stamp_of w
   unfolding new_stamp_of with_world world_of old_side_of new_side_of
-  new_at_old = go (eqb w.new 0) refl
+  new_at_old = go (is_left w.new) refl
     where
-      go : (b : Bool) → eqb w.new 0 ≡ b → new_stamp_of (cond (eqb (cond b 1 0) 0) (with_left w x) (with_right w x)) ≡ new_stamp_of w
+      go : (b : Bool) → is_left w.new ≡ b → new_stamp_of (cond (eqb (cond b 1 0) 0) (with_left w x) (with_right w x)) ≡ new_stamp_of w
       go true e = simp e
       go false e = simp e
 
   -- and at the new side
   pub new_at_new : new_stamp_of (with_world w (new_side_of w) x) ≡ world_stamp_of x
   unfolding new_stamp_of with_world world_of new_side_of
-  new_at_new = go (eqb w.new 0) refl
+  new_at_new = go (is_left w.new) refl
     where
-      go : (b : Bool) → eqb w.new 0 ≡ b → new_stamp_of (cond (eqb (cond b 0 1) 0) (with_left w x) (with_right w x)) ≡ world_stamp_of x
+      go : (b : Bool) → is_left w.new ≡ b → new_stamp_of (cond (eqb (cond b 0 1) 0) (with_left w x) (with_right w x)) ≡ world_stamp_of x
       go true e = simp e
       go false e = simp e
 
   pub old_at_new : old_stamp_of (with_world w (new_side_of w) x) ≡ old_stamp_of w
   unfolding old_stamp_of with_world world_of old_side_of new_side_of
-  old_at_new = go (eqb w.new 0) refl
+  old_at_new = go (is_left w.new) refl
     where
-      go : (b : Bool) → eqb w.new 0 ≡ b → old_stamp_of (cond (eqb (cond b 0 1) 0) (with_left w x) (with_right w x)) ≡ old_stamp_of w
+      go : (b : Bool) → is_left w.new ≡ b → old_stamp_of (cond (eqb (cond b 0 1) 0) (with_left w x) (with_right w x)) ≡ old_stamp_of w
       go true e = simp e
       go false e = simp e
 

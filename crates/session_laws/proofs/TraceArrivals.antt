@@ -6,6 +6,7 @@ use native.Mathlib.Omega.{arith}
 use lib.Dec.{eqb}
 use lib.Ieee.{Float}
 use Rattle.timestamp.specs.declared.Timestamp.{Timestamp}
+use Rattle.tape.specs.Sides.{is_left}
 use Rattle.tape.specs.Words.{steps_on}
 use Rattle.command.specs.Entries.{Entry}
 use Rattle.command.specs.Buffer.{taken_by}
@@ -51,7 +52,7 @@ alike_lag h = (λ i. lag_of (h.old i).0 (h.new i).0)
 
 -- another world with the same stamp, at any side
 module _ (w : ClientWorldSimulations) (x : ℕ) (W : Simulation) (h : world_stamp_of W ≡ world_stamp_of (world_of w x)) where
-  put_by : (a b : Bool) → eqb x 0 ≡ a → eqb w.new 0 ≡ b → Alike w (with_world w x W)
+  put_by : (a b : Bool) → eqb x 0 ≡ a → is_left w.new ≡ b → Alike w (with_world w x W)
   unfolding new_side_of old_side_of world_of with_world old_stamp_of new_stamp_of
   put_by true true ea eb = record { side = simp (ea, eb); old = simp (ea, eb); new = simp (ea, eb) (sym (simp ea at h)); weight = simp ea }
   put_by true false ea eb = record { side = simp (ea, eb); old = simp (ea, eb) (sym (simp ea at h)); new = simp (ea, eb); weight = simp ea }
@@ -59,7 +60,7 @@ module _ (w : ClientWorldSimulations) (x : ℕ) (W : Simulation) (h : world_stam
   put_by false false ea eb = record { side = simp (ea, eb); old = simp (ea, eb); new = simp (ea, eb) (sym (simp ea at h)); weight = simp ea }
 
   pub put_alike : Alike w (with_world w x W)
-  put_alike = put_by (eqb x 0) (eqb w.new 0) refl refl
+  put_alike = put_by (eqb x 0) (is_left w.new) refl refl
 
 put_snapshots_by : (w : ClientWorldSimulations) (x : ℕ) (W : Simulation) (a : Bool) → eqb x 0 ≡ a → (with_world w x W).snapshots ≡ w.snapshots
 unfolding with_world

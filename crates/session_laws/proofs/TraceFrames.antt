@@ -21,6 +21,7 @@ use Rattle.client.specs.declared.ReconciliationStatus.{ReconciliationStatus}
 use Rattle.client.specs.declared.ReconciliationStatus.TheVariants.{AwaitingSnapshot, Fastforwarding, Blending}
 use Rattle.client.specs.declared.QueuedSnapshot.{QueuedSnapshot}
 use Rattle.std.specs.Prelude.{Option, Some, None}
+use Rattle.tape.specs.Sides.{is_left}
 use Rattle.client.specs.declared.ClientWorldSimulations.{ClientWorldSimulations}
 use Rattle.client.specs.declared.Scene.{Scene}
 use Rattle.client.specs.Sides.{new_side_of, old_side_of, world_of, with_world, with_worlds, world_stamp_of, old_stamp_of, new_stamp_of, Played, still}
@@ -130,23 +131,23 @@ module _ (w : ClientWorldSimulations) (b : CommandBuffer) (W : Simulation) where
   pub loaded_queue : (x : ℕ) → (with_world (readied_with w x b) x W).snapshots.queued ≡ None
   loaded_queue x = queue_by x (eqb x 0) refl
 
-  swap_by : (c : Bool) → eqb w.new 0 ≡ c → old_stamp_of (with_world (readied_with w (old_side_of w) b) (old_side_of w) W) ≡ new_stamp_of w
+  swap_by : (c : Bool) → is_left w.new ≡ c → old_stamp_of (with_world (readied_with w (old_side_of w) b) (old_side_of w) W) ≡ new_stamp_of w
   unfolding old_side_of new_side_of world_of with_world old_stamp_of new_stamp_of readied_with
   swap_by true e = simp e
   swap_by false e = simp e
 
   -- loaded into the old side, the old stamp is the one that was new
   pub swapped_old : old_stamp_of (with_world (readied_with w (old_side_of w) b) (old_side_of w) W) ≡ new_stamp_of w
-  swapped_old = swap_by (eqb w.new 0) refl
+  swapped_old = swap_by (is_left w.new) refl
 
-  keep_by : (c : Bool) → eqb w.new 0 ≡ c → old_stamp_of (with_world (readied_with w (new_side_of w) b) (new_side_of w) W) ≡ old_stamp_of w
+  keep_by : (c : Bool) → is_left w.new ≡ c → old_stamp_of (with_world (readied_with w (new_side_of w) b) (new_side_of w) W) ≡ old_stamp_of w
   unfolding old_side_of new_side_of world_of with_world old_stamp_of new_stamp_of readied_with
   keep_by true e = simp e
   keep_by false e = simp e
 
   -- loaded into the new side, the old stamp stays
   pub loaded_old : old_stamp_of (with_world (readied_with w (new_side_of w) b) (new_side_of w) W) ≡ old_stamp_of w
-  loaded_old = keep_by (eqb w.new 0) refl
+  loaded_old = keep_by (is_left w.new) refl
 
 -- the worlds of a load
 loaded_worlds : (s : Scene) (x : ℕ) (t : Timestamp) (h : ℕ) →

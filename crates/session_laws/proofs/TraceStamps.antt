@@ -10,6 +10,7 @@ use lib.Dec.{eqb, ltb}
 use lib.IntN.{pos, negsuc}
 use Rattle.timestamp.specs.declared.Timestamp.{Timestamp}
 use Rattle.timestamp.specs.Timestamps.{sum_of, difference_of, signed_of, sign_of, order_of}
+use Rattle.tape.specs.Sides.{is_left}
 use Rattle.tape.specs.Words.{step_word, count_if, steps_on}
 use Rattle.tape.proofs.Counting.{steps_on-append, steps_on_step}
 use Rattle.command.specs.Buffer.{held, moved_of, taken_of, command_words}
@@ -104,7 +105,7 @@ later_tells n o e =
 
 pub sides_apart : (w : ClientWorldSimulations) → old_side_of w + new_side_of w ≡ 1
 unfolding new_side_of old_side_of
-sides_apart w = go (eqb w.new 0)
+sides_apart w = go (is_left w.new)
   where
     go : (b : Bool) → cond b 1 0 + cond b 0 1 ≡ 1
     go true = refl
@@ -120,23 +121,23 @@ pub record Restamped (v w : ClientWorldSimulations) (o n : Timestamp) : Type 0 w
   pub weight : w.weight ≡ v.weight
 
 module _ (v : ClientWorldSimulations) (W : Simulation) where
-  old_by : (b : Bool) → eqb v.new 0 ≡ b → Restamped v (with_world v (old_side_of v) W) (world_stamp_of W) (new_stamp_of v)
+  old_by : (b : Bool) → is_left v.new ≡ b → Restamped v (with_world v (old_side_of v) W) (world_stamp_of W) (new_stamp_of v)
   unfolding new_side_of old_side_of world_of with_world old_stamp_of new_stamp_of
   old_by true e = record { side = simp e; oldside = simp e; old = simp e; new = simp e; snapshots = simp e; weight = simp e }
   old_by false e = record { side = simp e; oldside = simp e; old = simp e; new = simp e; snapshots = simp e; weight = simp e }
 
-  new_by : (b : Bool) → eqb v.new 0 ≡ b → Restamped v (with_world v (new_side_of v) W) (old_stamp_of v) (world_stamp_of W)
+  new_by : (b : Bool) → is_left v.new ≡ b → Restamped v (with_world v (new_side_of v) W) (old_stamp_of v) (world_stamp_of W)
   unfolding new_side_of old_side_of world_of with_world old_stamp_of new_stamp_of
   new_by true e = record { side = simp e; oldside = simp e; old = simp e; new = simp e; snapshots = simp e; weight = simp e }
   new_by false e = record { side = simp e; oldside = simp e; old = simp e; new = simp e; snapshots = simp e; weight = simp e }
 
   -- another world at the old side
   pub put_at_old : Restamped v (with_world v (old_side_of v) W) (world_stamp_of W) (new_stamp_of v)
-  put_at_old = old_by (eqb v.new 0) refl
+  put_at_old = old_by (is_left v.new) refl
 
   -- another world at the new side
   pub put_at_new : Restamped v (with_world v (new_side_of v) W) (old_stamp_of v) (world_stamp_of W)
-  put_at_new = new_by (eqb v.new 0) refl
+  put_at_new = new_by (is_left v.new) refl
 
 -- ---- scenes
 
