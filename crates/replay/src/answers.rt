@@ -14,6 +14,7 @@ use session_report::ReportAnswer;
 use session_state::{Session, Stage};
 use std::fmt;
 use std::fmt::{Display, Formatter};
+use tape::Side;
 
 fn stage_name(stage: Stage) -> &'static str {
     match stage {
@@ -184,7 +185,10 @@ struct WorldsText {
 impl Display for WorldsText {
     fn fmt<W: fmt::Write>(&self, f: &mut Formatter<W>) -> fmt::Result {
         let worlds = &self.worlds;
-        let new = if worlds.new == 0 { "left" } else { "right" };
+        let new = match worlds.new {
+            Side::Left => "left",
+            Side::Right => "right",
+        };
         let left = BufferText(worlds.left.commands);
         let right = BufferText(worlds.right.commands);
         let left_init = u8::from(worlds.left.init);

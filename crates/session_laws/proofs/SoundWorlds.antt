@@ -17,7 +17,9 @@ use Rattle.simulation.specs.declared.Simulation.{Simulation}
 use Rattle.simulation.specs.World.{Done, Load, next_stamp, scheduled_of, step_of, resets_back, kept_of, flushed_of, reset_of, load_of}
 use Rattle.client.specs.declared.QueuedSnapshot.{QueuedSnapshot}
 use Rattle.std.specs.Prelude.{Option, Some, None}
-use Rattle.tape.specs.Sides.{is_left}
+use Rattle.tape.specs.declared.Side.{Side}
+use Rattle.tape.specs.declared.Side.TheVariants.{Left, Right}
+use Rattle.tape.specs.Sides.{is_left, side_number}
 use Rattle.client.specs.declared.Snapshots.{Snapshots}
 use Rattle.client.specs.declared.Published.{Published}
 use Rattle.client.specs.declared.ClientWorldSimulations.{ClientWorldSimulations}
@@ -143,7 +145,7 @@ put_new w side x = go (eqb side 0)
 
 pub put_old_side : (w : ClientWorldSimulations) (side : ℕ) (x : Simulation) → old_side_of (with_world w side x) ≡ old_side_of w
 unfolding old_side_of
-put_old_side w side x = ap (λ (n : ℕ). cond (eqb n 0) 1 0) (put_new w side x)
+put_old_side w side x = ap (λ (n : Side). cond (is_left n) 1 0) (put_new w side x)
 
 -- a world of the same stamp at any side leaves both stamps
 module _ (w : ClientWorldSimulations) (side : ℕ) (x : Simulation) (e : world_stamp_of x ≡ world_stamp_of (world_of w side)) where
@@ -167,11 +169,11 @@ module _ (w : ClientWorldSimulations) (side : ℕ) (x : Simulation) (e : world_s
 
   pub same_old : old_stamp_of (with_world w side x) ≡ old_stamp_of w
   unfolding old_stamp_of old_side_of
-  same_old = same_stamp (old_side_of (with_world w side x)) ∙ ap (λ (n : ℕ). world_stamp_of (world_of w (cond (eqb n 0) 1 0))) (put_new w side x)
+  same_old = same_stamp (old_side_of (with_world w side x)) ∙ ap (λ (n : Side). world_stamp_of (world_of w (cond (is_left n) 1 0))) (put_new w side x)
 
   pub same_new : new_stamp_of (with_world w side x) ≡ new_stamp_of w
   unfolding new_stamp_of new_side_of
-  same_new = same_stamp (new_side_of (with_world w side x)) ∙ ap (λ (n : ℕ). world_stamp_of (world_of w (cond (eqb n 0) 0 1))) (put_new w side x)
+  same_new = same_stamp (new_side_of (with_world w side x)) ∙ ap (λ (n : Side). world_stamp_of (world_of w (side_number n))) (put_new w side x)
 
 -- ---- worlds that differ in what the weight does not depend on
 
@@ -375,11 +377,15 @@ readied_kept : (w : ClientWorldSimulations) (side : ℕ) (b : CommandBuffer) (x 
 unfolding readied_with with_world
 readied_kept w side b x hb hx i k = go (eqb side 0) refl
   where
+    -- the side that is loaded is the new one
+    order : Bool → Bool → Bool → Type 0
+    order left l r = InitOrder (is_left (cond left Left Right)) l r
+
     go : (c : Bool) → eqb side 0 ≡ c → Kept (cond c (with_left (readied_with w side b) x) (with_right (readied_with w side b) x))
     go true e =
-        record { left = hx; right = k.right; base = hb; queued = tt; init = subst (λ (v : Bool). InitOrder v x.init w.right.init) (sym e) (λ h. i) }
+        record { left = hx; right = k.right; base = hb; queued = tt; init = subst (λ (v : Bool). order v x.init w.right.init) (sym e) (λ h. i) }
     go false e =
-        record { left = k.left; right = hx; base = hb; queued = tt; init = subst (λ (v : Bool). InitOrder v w.left.init x.init) (sym e) (λ h. i) }
+        record { left = k.left; right = hx; base = hb; queued = tt; init = subst (λ (v : Bool). order v w.left.init x.init) (sym e) (λ h. i) }
 
 -- a load leaves the worlds sound, since its base is drained first and then moved
 pub loaded_kept : (s : Scene) (side : ℕ) (t : Timestamp) (h : ℕ) → Kept s.worlds → Kept (loaded_of s side t h).scene.worlds
