@@ -76,7 +76,7 @@ fn status_number(status: ReconciliationStatus) -> u64 {
 
 // The bits of the time that is displayed.
 fn time_bits(time: Option<f64>) -> u64 {
-    time.map_or(0, std::num::f64_to_bits_with_nan)
+    time.map_or(0, |time| std::num::f64_to_bits_with_nan(time))
 }
 
 // A call of a script.
@@ -241,7 +241,11 @@ fn read_bytes(stdin: &mut impl Read, bytes: &mut [u8]) -> io::Result<usize>
 }
 
 // Reads the words of a script, low byte first.
-fn read_script(stdin: &mut impl Read, bytes: &mut [u8], script: &mut [u32]) -> io::Result<()> {
+fn read_script(
+    stdin: &mut impl Read,
+    bytes: &mut [u8; BYTE_ROOM],
+    script: &mut [u32; SCRIPT_ROOM],
+) -> io::Result<()> {
     let count = read_bytes(stdin, bytes)?;
     let (words, _) = bytes[..count].as_chunks::<4>();
     for (word, bytes) in script.iter_mut().zip(words) {
