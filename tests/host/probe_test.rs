@@ -145,9 +145,9 @@ fn to_stamp(values: &[f64]) -> bool {
 
 /// The functions of one stamp, at every stamp.
 fn of_stamp() -> bool {
-    let mut value = Group::new("Timestamp::value");
-    let mut from_value = Group::new("Timestamp::from_value");
-    let mut float = Group::new("FloatTimestamp::from_timestamp");
+    let mut value = Group::new("i16 from Timestamp");
+    let mut from_value = Group::new("Timestamp from i16");
+    let mut float = Group::new("FloatTimestamp from Timestamp");
     for t in 0..=u16::MAX {
         // SAFETY: the functions take a number and answer every one.
         let (v, bits, x) = unsafe {
