@@ -150,7 +150,7 @@ pub fn update(
     ) {
         return session_answers::refuse(refusal, tape);
     }
-    if session_state::has_worlds(session.stage) {
+    if session.stage.has_worlds() {
         return update_worlds(session, delta, seconds, inbox, found, tape);
     }
     update_clock(session, delta, seconds, found.worldly, found.heard, tape)
