@@ -29,13 +29,9 @@ pub(crate) fn loads(t: ReconciliationStatus, q: Option<QueuedSnapshot>) -> Optio
     ensures { result ≡ loads_of t q }
 {
     match t {
-        ReconciliationStatus::AwaitingSnapshot => q,
-        ReconciliationStatus::Blending(_) => None,
-        ReconciliationStatus::Fastforwarding(h) => match h {
-            FastforwardingHealth::Healthy => None,
-            FastforwardingHealth::Obsolete => q,
-            FastforwardingHealth::Overshot => None,
-        },
+        ReconciliationStatus::AwaitingSnapshot
+        | ReconciliationStatus::Fastforwarding(FastforwardingHealth::Obsolete) => q,
+        _ => None,
     }
 }
 
@@ -147,11 +143,7 @@ pub fn is_blended(t: ReconciliationStatus, q: Option<QueuedSnapshot>) -> bool
     match t {
         ReconciliationStatus::AwaitingSnapshot => q.is_none(),
         ReconciliationStatus::Blending(_) => true,
-        ReconciliationStatus::Fastforwarding(h) => match h {
-            FastforwardingHealth::Healthy => false,
-            FastforwardingHealth::Obsolete => false,
-            FastforwardingHealth::Overshot => true,
-        },
+        ReconciliationStatus::Fastforwarding(h) => matches!(h, FastforwardingHealth::Overshot),
     }
 }
 
@@ -180,15 +172,10 @@ pub(crate) fn publish(scene: &mut Scene, blended: bool, tape: &mut Tape<'_>)
 pub fn is_obsolete(t: ReconciliationStatus) -> bool
     ensures { result ≡ is_obsolete t }
 {
-    match t {
-        ReconciliationStatus::AwaitingSnapshot => false,
-        ReconciliationStatus::Blending(_) => false,
-        ReconciliationStatus::Fastforwarding(h) => match h {
-            FastforwardingHealth::Healthy => false,
-            FastforwardingHealth::Obsolete => true,
-            FastforwardingHealth::Overshot => false,
-        },
-    }
+    matches!(
+        t,
+        ReconciliationStatus::Fastforwarding(FastforwardingHealth::Obsolete)
+    )
 }
 
 // Whether an obsolete world loads a snapshot 2 or more frames ahead of the old world, or half the space away.
