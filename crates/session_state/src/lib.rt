@@ -69,6 +69,7 @@ pub(crate) fn weight_sound(w: &ClientWorldSimulations) -> bool
 }
 
 // The old world is initialised only if the new one is.
+#[tactic(auto, unfolding(crate::specs::Sound::init_sound))]
 pub(crate) fn init_sound(w: &ClientWorldSimulations) -> bool
     ensures { result ≡ init_sound w.now }
 {
