@@ -29,17 +29,14 @@ pub(crate) fn loads(t: ReconciliationStatus, q: Option<QueuedSnapshot>) -> Optio
     ensures { result ≡ loads_of t q }
 {
     match t {
-        ReconciliationStatus::AwaitingSnapshot => q,
-        ReconciliationStatus::Blending(_) => None,
-        ReconciliationStatus::Fastforwarding(h) => match h {
-            FastforwardingHealth::Healthy => None,
-            FastforwardingHealth::Obsolete => q,
-            FastforwardingHealth::Overshot => None,
-        },
+        ReconciliationStatus::AwaitingSnapshot
+        | ReconciliationStatus::Fastforwarding(FastforwardingHealth::Obsolete) => q,
+        _ => None,
     }
 }
 
 // The weight moved on by one frame, within 0 to 1.
+#[tactic(auto, unfolding(crate::specs::Frame::blended_on))]
 pub(crate) fn blend_on(scene: &mut Scene, progress: f64)
     ensures { scene.new ≡ blended_on scene.old progress }
 {
@@ -47,6 +44,7 @@ pub(crate) fn blend_on(scene: &mut Scene, progress: f64)
 }
 
 // The new world is set to the old one's stamp.
+#[tactic(auto, unfolding(crate::specs::Frame::reset_new))]
 pub(crate) fn reset_new(scene: &mut Scene, tape: &mut Tape<'_>)
     requires { tape.old.at < 3000000000 }
     ensures plays { Plays (reset_new scene.old) tape.old scene.new tape.new }
@@ -106,6 +104,7 @@ pub(crate) fn open(
 }
 
 // Whether the new world has reached the old one's stamp.
+#[tactic(auto, unfolding(crate::specs::Frame::caught_up_of))]
 pub(crate) fn has_caught_up(new: Timestamp, old: Timestamp) -> bool
     ensures { result ≡ caught_up_of new old }
 {
@@ -147,11 +146,7 @@ pub fn is_blended(t: ReconciliationStatus, q: Option<QueuedSnapshot>) -> bool
     match t {
         ReconciliationStatus::AwaitingSnapshot => q.is_none(),
         ReconciliationStatus::Blending(_) => true,
-        ReconciliationStatus::Fastforwarding(h) => match h {
-            FastforwardingHealth::Healthy => false,
-            FastforwardingHealth::Obsolete => false,
-            FastforwardingHealth::Overshot => true,
-        },
+        ReconciliationStatus::Fastforwarding(h) => matches!(h, FastforwardingHealth::Overshot),
     }
 }
 
@@ -180,18 +175,14 @@ pub(crate) fn publish(scene: &mut Scene, blended: bool, tape: &mut Tape<'_>)
 pub fn is_obsolete(t: ReconciliationStatus) -> bool
     ensures { result ≡ is_obsolete t }
 {
-    match t {
-        ReconciliationStatus::AwaitingSnapshot => false,
-        ReconciliationStatus::Blending(_) => false,
-        ReconciliationStatus::Fastforwarding(h) => match h {
-            FastforwardingHealth::Healthy => false,
-            FastforwardingHealth::Obsolete => true,
-            FastforwardingHealth::Overshot => false,
-        },
-    }
+    matches!(
+        t,
+        ReconciliationStatus::Fastforwarding(FastforwardingHealth::Obsolete)
+    )
 }
 
 // Whether an obsolete world loads a snapshot 2 or more frames ahead of the old world, or half the space away.
+#[tactic(auto, unfolding(crate::specs::Frame::too_far_of))]
 pub fn loads_too_far(q: Option<QueuedSnapshot>, old: Timestamp) -> bool
     ensures { result ≡ too_far_of q old }
 {
@@ -213,19 +204,15 @@ pub(crate) fn stops(
 ) -> bool
     ensures { result ≡ stops_by t q old new after.now }
 {
-    match t {
-        ReconciliationStatus::AwaitingSnapshot => false,
-        ReconciliationStatus::Blending(_) => false,
-        ReconciliationStatus::Fastforwarding(h) => match h {
-            FastforwardingHealth::Healthy => {
-                if old.sub(new).0 == 32768 {
-                    return true;
-                }
-                is_obsolete(after.infer_current_reconciliation_status())
-            }
-            FastforwardingHealth::Obsolete => loads_too_far(q, old),
-            FastforwardingHealth::Overshot => false,
-        },
+    let ReconciliationStatus::Fastforwarding(h) = t else {
+        return false;
+    };
+    match h {
+        FastforwardingHealth::Healthy => {
+            old.sub(new).0 == 32768 || is_obsolete(after.infer_current_reconciliation_status())
+        }
+        FastforwardingHealth::Obsolete => loads_too_far(q, old),
+        FastforwardingHealth::Overshot => false,
     }
 }
 

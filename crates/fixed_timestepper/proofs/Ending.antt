@@ -1,35 +1,22 @@
--- What the skip and the end of an update come to, over plain values. Assumes nothing.
+-- What the skip comes to, over plain values. Assumes nothing.
 use mathlib.Core.Path.{◌≡◌, refl, ap, sym, ◌∙◌}
 use mathlib.Core.Bool.{Bool, true, false, cond}
 use mathlib.Core.List.{List, []}
 use Prim.Native.Nat.{ℕ}
-use lib.Ieee.{Float, le}
+use lib.Ieee.{Float}
 use Rattle.timestamp.specs.declared.Timestamp.{Timestamp}
 use Rattle.timestamp.specs.Timestamps.{bits_of}
 use Rattle.timestamp.specs.FloatTimestamps.{from_seconds, float_difference_of, as_seconds, float_of, ceil_stamp_of}
 use Rattle.tape.specs.declared.Tape.{Tape}
 use Rattle.tape.specs.Tape.{Puts}
 use Rattle.tape.proofs.Writing.{on_puts, puts_none, puts_as}
-use Rattle.std.specs.Float.{float_with_sign}
-use Rattle.timestamp.proofs.Size.{size_least}
 use Rattle.settings.specs.declared.Settings.{Settings}
-use Rattle.settings.specs.Settings.{lag_frame_count_of}
-use Rattle.settings.specs.Tweening.{shaped_of}
 use Rattle.client.specs.declared.Scene.{Scene}
-use Rattle.client.specs.declared.ClientWorldSimulations.{ClientWorldSimulations}
 use Rattle.client.specs.Sides.{old_stamp_of, and_then, Plays}
 use Rattle.client_skip.specs.Skip.{skipped_of}
-use Rattle.client_publish.specs.Ending.{post_update_of}
-use Rattle.timestamp.specs.Floats.{tween_of, abs_of}
 use Rattle.fixed_timestepper.specs.declared.Advanced.{Advanced}
-use Rattle.fixed_timestepper.specs.TimeKeeper.{drift_of, corrected_of, corrected_overshoot, Run, skips_of, skipped, maybe_skipped, ended_of}
+use Rattle.fixed_timestepper.specs.TimeKeeper.{corrected_of, corrected_overshoot, Run, skips_of, skipped, maybe_skipped}
 use Rattle.fixed_timestepper.specs.Inner.{run_by, Skips}
-
--- the test for a skip, by the calls that make it
-pub skips_is : (stamp : Timestamp) (overshoot server : Float) (c : Settings) {d a : Float} → d ≡ drift_of stamp overshoot c.timestep server
-    → a ≡ float_with_sign false d → le c.skip a ≡ skips_of stamp overshoot server c
-unfolding skips_of
-skips_is stamp overshoot server c {d} hd ha = ap (le c.skip) ha ∙ size_least c.skip d ∙ ap (λ (x : Float). le c.skip (abs_of x)) hd
 
 -- the test as it was told
 pub skip_told : (stamp : Timestamp) (overshoot server : Float) (c : Settings) {old : Timestamp} {a b : Bool} → old ≡ stamp
@@ -83,8 +70,3 @@ skip_made s a server c {was} {now} {target} {from} {difference} {overshoot} {cor
 pub skip_none : (s : Scene) (a : Advanced) (server : Float) (c : Settings) (was : List ℕ)
     → skips_of (old_stamp_of s.worlds) a.overshoot server c ≡ false → Skips s a server c was s a was
 skip_none s a server c was h = by_run s a server c (run_by s a []) (not_skipped s a server c h) refl refl refl refl (puts_none was a.at)
-
--- what an update ends with, by the calls that make it
-pub ended_is : (c : Settings) (w : ClientWorldSimulations) (o : Float) {x t : Float} {lag : ℕ} {v : ClientWorldSimulations}
-    → x ≡ tween_of o c.timestep → t ≡ shaped_of c.method x → lag ≡ bits_of (lag_frame_count_of c) → v ≡ post_update_of w t lag → v ≡ ended_of c w o
-ended_is c w o hx ht hl hv = hv ∙ (λ i. post_update_of w ((ht ∙ ap (shaped_of c.method) hx) i) (hl i))

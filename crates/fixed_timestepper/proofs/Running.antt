@@ -4,13 +4,11 @@ use mathlib.Core.Bool.{Bool, true, false}
 use mathlib.Core.List.{List}
 use Prim.Native.Nat.{ℕ, zero, suc, ◌+◌, ◌-◌, ◌*◌, ◌≤◌, ◌<◌}
 use native.Mathlib.Omega.{arith}
-use lib.ListN.{length}
 use lib.Ieee.{Float, binary64, add, lt}
 use Rattle.tape.specs.declared.Tape.{Tape}
 use Rattle.tape.specs.Tape.{Puts}
-use Rattle.tape.proofs.Writing.{on_puts, puts_none, puts_then, puts_as, puts-length}
+use Rattle.tape.proofs.Writing.{on_puts, puts_none, puts_then, puts_as}
 use Rattle.settings.specs.declared.Settings.{Settings}
-use Rattle.settings.specs.Settings.{blend_progress_of}
 use Rattle.client.specs.declared.Scene.{Scene}
 use Rattle.client_frame.specs.declared.Rules.{Rules}
 use Rattle.client_frame.specs.Frame.{frame_of, frame_stops, Frames}
@@ -163,11 +161,7 @@ module _ (c : Settings) (from : Scene) (start : Float) {was tape mid : Tape} {s 
 pub few_left : {n : ℕ} → n ≤ 65 → (n ≡ 65 → ⊥) → n < 65
 few_left h k = omega (arith, h, k)
 
--- the rules that the settings give
-pub rules_as : (c : Settings) {p : Float} → p ≡ blend_progress_of c → ◌≡◌ {A = Rules} (record { m = c.m; progress = p }) (rules_of c)
-rules_as c e = λ i. record { m = c.m; progress = e i }
-
--- a frame by them
+-- a frame by the rules that the settings give
 pub framed_as : (c : Settings) (s : Scene) {rules : Rules} {was now : Tape} {u : Scene} {f : Bool} → rules ≡ rules_of c
     → Frames (frame_of rules s) (frame_stops rules s) was u f now → Frames (frame c s) (frame_stops (rules_of c) s) was u f now
 framed_as c s {rules} {was} {now} {u} {f} e h = subst (λ (r : Rules). Frames (frame_of r s) (frame_stops r s) was u f now) e h

@@ -16,6 +16,13 @@ use settings::Settings;
 use tape::Tape;
 use timestamp::{FloatTimestamp, Timestamp};
 
+// What an update goes by: the settings, and how far the worlds are past the client's time, in seconds.
+#[derive(Clone, Copy)]
+pub struct TimeKeeper {
+    pub settings: Settings,
+    pub overshoot: f64,
+}
+
 // Frames that were played: how many, the overshoot after them, the next place on the tape, and why they ended.
 #[derive(Clone, Copy)]
 pub struct Advanced {
@@ -35,31 +42,6 @@ pub(crate) fn at_least_zero(x: f64) -> f64
     0.0
 }
 
-// The frame count that the worlds stand for: the client's stamp less the overshoot in frames.
-pub(crate) fn current_logical_timestamp(
-    stamp: Timestamp,
-    overshoot: f64,
-    timestep: f64,
-) -> FloatTimestamp
-    ensures { result.0 ≡ logical_of stamp overshoot timestep }
-{
-    FloatTimestamp::from(stamp).sub(FloatTimestamp::from_seconds(overshoot, timestep))
-}
-
-// How far the worlds are ahead of the server's time, in seconds.
-pub(crate) fn timestamp_drift_seconds(
-    stamp: Timestamp,
-    overshoot: f64,
-    timestep: f64,
-    server: f64,
-) -> f64
-    ensures { result ≡ drift_of stamp overshoot timestep server }
-{
-    let current = current_logical_timestamp(stamp, overshoot, timestep);
-    let target = FloatTimestamp::from_seconds(server, timestep);
-    current.sub(target).as_seconds(timestep)
-}
-
 // The drift that is compensated: none where it is below half a timestep.
 pub(crate) fn beyond_deadband(drift: f64, timestep: f64) -> f64
     ensures { result ≡ beyond_deadband drift timestep }
@@ -68,28 +50,6 @@ pub(crate) fn beyond_deadband(drift: f64, timestep: f64) -> f64
         return 0.0;
     }
     drift
-}
-
-// How many seconds an update plays: its delta less the drift before it, not negative and at most the maximum.
-pub fn compensated_delta(
-    stamp: Timestamp,
-    overshoot: f64,
-    delta: f64,
-    server: f64,
-    settings: Settings,
-) -> f64
-    ensures { result ≡ compensated_of stamp overshoot delta server settings }
-{
-    let t = settings.timestep;
-    let drift = beyond_deadband(
-        timestamp_drift_seconds(stamp, overshoot, t, server - delta),
-        t,
-    );
-    let uncapped = at_least_zero(delta - drift);
-    if uncapped > settings.max {
-        return settings.max;
-    }
-    uncapped
 }
 
 // What every frame under these settings goes by.
@@ -101,58 +61,6 @@ pub fn frame_rules(settings: Settings) -> Rules
         m: settings.m,
         progress,
     }
-}
-
-// Frames while the overshoot is negative, 65 at most.
-pub(crate) fn advance(
-    scene: &mut Scene,
-    overshoot: f64,
-    settings: Settings,
-    tape: &mut Tape<'_>,
-) -> Advanced
-    requires { (settings.m ≤ most_steps) × (tape.old.at ≡ 0) }
-    ensures advances { Advances (run_of most_frames settings scene.old overshoot) tape.old.words.now scene.new result tape.new.words.now }
-    ensures few { result.at ≤ most_frames * 5000 }
-    ensures at { result.at ≡ tape.new.at }
-    ensures lent { tape.new.words.ghost_name ≡ tape.old.words.ghost_name }
-{
-    let rules = frame_rules(settings);
-    let mut o = overshoot;
-    let mut n: u32 = 0;
-    while o < 0.0 {
-        if n == refusals::MOST_FRAMES {
-            return Advanced {
-                overshoot: o,
-                frames: n,
-                at: tape.at,
-                stop: Stop::TooManyFrames,
-            };
-        }
-        let stops = client_frame::step(scene, rules, tape);
-        n += 1;
-        o = o + settings.timestep;
-        if stops {
-            return Advanced {
-                overshoot: o,
-                frames: n,
-                at: tape.at,
-                stop: Stop::StatusStops,
-            };
-        }
-    }
-    Advanced {
-        overshoot: o,
-        frames: n,
-        at: tape.at,
-        stop: Stop::Done,
-    }
-}
-
-// Whether there is a skip: the drift is at or beyond the threshold.
-pub fn skips(stamp: Timestamp, overshoot: f64, server: f64, settings: Settings) -> bool
-    ensures { result ≡ skips_of stamp overshoot server settings }
-{
-    timestamp_drift_seconds(stamp, overshoot, settings.timestep, server).abs() >= settings.skip
 }
 
 // The skip where the drift is at or beyond the threshold: to the server's frame, rounded up.
@@ -167,9 +75,13 @@ pub(crate) fn timeskip(
     ensures skips { Skips scene.old a server settings tape.old.words.now scene.new result tape.new.words.now }
     ensures lent { tape.new.words.ghost_name ≡ tape.old.words.ghost_name }
 {
+    let keeper = TimeKeeper {
+        settings,
+        overshoot: a.overshoot,
+    };
     let t = settings.timestep;
     let stamp = scene.worlds.last_completed_timestamp();
-    if skips(stamp, a.overshoot, server, settings) {
+    if keeper.skips(stamp, server) {
         let target = FloatTimestamp::from_seconds(server, t);
         let corrected = target.ceil();
         let overshoot = FloatTimestamp::from(corrected).sub(target).as_seconds(t);
@@ -195,28 +107,111 @@ pub fn ended(worlds: &mut ClientWorldSimulations, overshoot: f64, settings: Sett
     );
 }
 
-// The frames and the skip of an update, by the delta and the server's time. What it ends with is left to the caller, who first looks at
-// all refusals.
-pub fn update(
-    scene: &mut Scene,
-    overshoot: f64,
-    delta: f64,
-    server: f64,
-    settings: Settings,
-    tape: &mut [u32],
-) -> Advanced
-    requires { settings.m ≤ most_steps }
-    ensures { Advances (unended_of settings scene.old overshoot delta server) tape.old scene.new result tape.new }
-{
-    let stamp = scene.worlds.last_completed_timestamp();
-    let c = compensated_delta(stamp, overshoot, delta, server, settings);
-    let start = overshoot - c;
-    let mut tape = Tape { words: tape, at: 0 };
-    let a = advance(scene, start, settings, &mut tape);
-    let stop = a.stop;
-    match stop {
-        Stop::Done => timeskip(scene, a, server, settings, &mut tape),
-        Stop::TooManyFrames => a,
-        Stop::StatusStops => a,
+impl TimeKeeper {
+    // The frame count that the worlds stand for: the client's stamp less the overshoot in frames.
+    #[tactic(auto, unfolding(crate::specs::TimeKeeper::logical_of))]
+    pub(crate) fn current_logical_timestamp(self, stamp: Timestamp) -> FloatTimestamp
+        ensures { result.0 ≡ logical_of stamp self.overshoot self.settings.timestep }
+    {
+        let overshoot = FloatTimestamp::from_seconds(self.overshoot, self.settings.timestep);
+        FloatTimestamp::from(stamp).sub(overshoot)
+    }
+
+    // How far the worlds are ahead of the server's time, in seconds.
+    #[tactic(auto, unfolding(crate::specs::TimeKeeper::drift_of))]
+    pub(crate) fn timestamp_drift_seconds(self, stamp: Timestamp, server: f64) -> f64
+        ensures { result ≡ drift_of stamp self.overshoot self.settings.timestep server }
+    {
+        let t = self.settings.timestep;
+        let target = FloatTimestamp::from_seconds(server, t);
+        self.current_logical_timestamp(stamp)
+            .sub(target)
+            .as_seconds(t)
+    }
+
+    // How many seconds an update plays: its delta less the drift before it, not negative and at most the maximum.
+    #[tactic(auto, unfolding(crate::specs::TimeKeeper::compensated_of, crate::specs::TimeKeeper::uncapped_of))]
+    pub fn compensated_delta(self, stamp: Timestamp, delta: f64, server: f64) -> f64
+        ensures { result ≡ compensated_of stamp self.overshoot delta server self.settings }
+    {
+        let drift = beyond_deadband(
+            self.timestamp_drift_seconds(stamp, server - delta),
+            self.settings.timestep,
+        );
+        let uncapped = at_least_zero(delta - drift);
+        if uncapped > self.settings.max {
+            return self.settings.max;
+        }
+        uncapped
+    }
+
+    // Whether there is a skip: the drift is at or beyond the threshold.
+    #[tactic(auto, using(timestamp::proofs::Size::size_least), unfolding(crate::specs::TimeKeeper::skips_of))]
+    pub fn skips(self, stamp: Timestamp, server: f64) -> bool
+        ensures { result ≡ skips_of stamp self.overshoot server self.settings }
+    {
+        self.timestamp_drift_seconds(stamp, server).abs() >= self.settings.skip
+    }
+
+    // Frames while the overshoot is negative, 65 at most.
+    pub(crate) fn advance(self, scene: &mut Scene, tape: &mut Tape<'_>) -> Advanced
+        requires { (self.settings.m ≤ most_steps) × (tape.old.at ≡ 0) }
+        ensures advances { Advances (run_of most_frames self.settings scene.old self.overshoot) tape.old.words.now scene.new result tape.new.words.now }
+        ensures few { result.at ≤ most_frames * 5000 }
+        ensures at { result.at ≡ tape.new.at }
+        ensures lent { tape.new.words.ghost_name ≡ tape.old.words.ghost_name }
+    {
+        let rules = frame_rules(self.settings);
+        let mut o = self.overshoot;
+        let mut n: u32 = 0;
+        while o < 0.0 {
+            if n == refusals::MOST_FRAMES {
+                return Advanced {
+                    overshoot: o,
+                    frames: n,
+                    at: tape.at,
+                    stop: Stop::TooManyFrames,
+                };
+            }
+            let stops = client_frame::step(scene, rules, tape);
+            n += 1;
+            o = o + self.settings.timestep;
+            if stops {
+                return Advanced {
+                    overshoot: o,
+                    frames: n,
+                    at: tape.at,
+                    stop: Stop::StatusStops,
+                };
+            }
+        }
+        Advanced {
+            overshoot: o,
+            frames: n,
+            at: tape.at,
+            stop: Stop::Done,
+        }
+    }
+
+    // The frames and the skip of an update, by the delta and the server's time. What it ends with is left to the caller, who first looks at
+    // all refusals.
+    pub fn update(self, scene: &mut Scene, delta: f64, server: f64, tape: &mut [u32]) -> Advanced
+        requires { self.settings.m ≤ most_steps }
+        ensures { Advances (unended_of self.settings scene.old self.overshoot delta server) tape.old scene.new result tape.new }
+    {
+        let stamp = scene.worlds.last_completed_timestamp();
+        let c = self.compensated_delta(stamp, delta, server);
+        let start = TimeKeeper {
+            overshoot: self.overshoot - c,
+            ..self
+        };
+        let mut tape = Tape { words: tape, at: 0 };
+        let a = start.advance(scene, &mut tape);
+        let stop = a.stop;
+        match stop {
+            Stop::Done => timeskip(scene, a, server, self.settings, &mut tape),
+            Stop::TooManyFrames => a,
+            Stop::StatusStops => a,
+        }
     }
 }

@@ -13,7 +13,7 @@ ghost use Rattle.session.specs.Calls.{times_ok, worlds_update_of, update_of};
 
 use client::Scene;
 use clocksync::{Clock, Heard};
-use fixed_timestepper::Advanced;
+use fixed_timestepper::{Advanced, TimeKeeper};
 use inbox_scan::Scan;
 use refusals::Verdict;
 use session_answers::Updated;
@@ -124,7 +124,11 @@ fn update_worlds(
     let t = session.clock.tick(settings, delta);
     let clock = t.clock.settle(settings, scan.heard);
     let server = server_time(clock, seconds) + settings.lag;
-    let a = fixed_timestepper::update(&mut scene, session.overshoot, delta, server, settings, tape);
+    let keeper = TimeKeeper {
+        settings,
+        overshoot: session.overshoot,
+    };
+    let a = keeper.update(&mut scene, delta, server, tape);
     if let Err(refusal) = verdict_at_end(settings, a, tape.len()) {
         return session_answers::refuse(refusal, tape);
     }
@@ -150,7 +154,7 @@ pub fn update(
     ) {
         return session_answers::refuse(refusal, tape);
     }
-    if session_state::has_worlds(session.stage) {
+    if session.stage.has_worlds() {
         return update_worlds(session, delta, seconds, inbox, found, tape);
     }
     update_clock(session, delta, seconds, found.worldly, found.heard, tape)

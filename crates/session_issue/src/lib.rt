@@ -53,9 +53,9 @@ pub fn issue(session: &mut Session, handle: u32) -> Issued
     let verdict = refusals::of_issue(
         handle < refusals::HANDLE_ROOM,
         session.is_sound(),
-        session_state::has_worlds(session.stage),
+        session.stage.has_worlds(),
         full,
-        session_state::is_ready(session.stage),
+        session.stage.is_ready(),
     );
     if let Err(refusal) = verdict {
         return Issued {

@@ -53,7 +53,7 @@ fn report_worlds(session: &Session) -> ReportAnswer
 pub fn report(session: &Session) -> ReportAnswer
     ensures { result ≡ report_of session.now }
 {
-    let verdict = refusals::of_report(session.is_sound(), session_state::has_worlds(session.stage));
+    let verdict = refusals::of_report(session.is_sound(), session.stage.has_worlds());
     match verdict {
         Ok(()) => report_worlds(session),
         Err(refusal) => refuse_report(refusal),

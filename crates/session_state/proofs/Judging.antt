@@ -4,7 +4,6 @@ use mathlib.Core.Bool.{Bool, true, false, cond, ◌&&◌}
 use Prim.Native.Nat.{ℕ}
 use lib.Dec.{eqb}
 use lib.Ieee.{Float, le, eq}
-use borrow.Author.Tests.{eq-eqb, ne_eqb}
 use Rattle.timestamp.specs.declared.Timestamp.{Timestamp}
 use Rattle.simulation.specs.declared.Simulation.{Simulation}
 use Rattle.client.specs.declared.ClientWorldSimulations.{ClientWorldSimulations}
@@ -37,22 +36,22 @@ init_out w ha hs h = sym (ap (λ (x : Bool). cond x (world_of w (new_side_of w))
     ∙ h))
 
 module _ (w : ClientWorldSimulations) {o n : Timestamp} (ho : o ≡ old_stamp_of w) (hn : n ≡ new_stamp_of w) where
-  same_by : (b : Bool) → eqb o.0 n.0 ≡ b → eqb (old_stamp_of w).0 (new_stamp_of w).0 ≡ b
-  same_by b h = sym (λ i. eqb (ho i).0 (hn i).0) ∙ h
+  same_by : {b : Bool} → eqb o.0 n.0 ≡ b → eqb (old_stamp_of w).0 (new_stamp_of w).0 ≡ b
+  same_by h = sym (λ i. eqb (ho i).0 (hn i).0) ∙ h
 
   -- equal stamps, and a weight from 0 up: 1 decides
-  pub weight_equal_in : o.0 ≡ n.0 → le zero64 w.weight ≡ true → le w.weight one64 ≡ weight_sound w
+  pub weight_equal_in : eqb o.0 n.0 ≡ true → le zero64 w.weight ≡ true → le w.weight one64 ≡ weight_sound w
   unfolding weight_sound
   weight_equal_in e h = (λ i. sym h i && le w.weight one64)
-      ∙ sym (ap (λ (x : Bool). cond x (between zero64 one64 w.weight) (eq w.weight zero64)) (same_by true (eq-eqb _ _ e)))
+      ∙ sym (ap (λ (x : Bool). cond x (between zero64 one64 w.weight) (eq w.weight zero64)) (same_by e))
 
   -- equal stamps, and a weight below 0
-  pub weight_equal_out : o.0 ≡ n.0 → le zero64 w.weight ≡ false → false ≡ weight_sound w
+  pub weight_equal_out : eqb o.0 n.0 ≡ true → le zero64 w.weight ≡ false → false ≡ weight_sound w
   unfolding weight_sound
   weight_equal_out e h = (λ i. sym h i && le w.weight one64)
-      ∙ sym (ap (λ (x : Bool). cond x (between zero64 one64 w.weight) (eq w.weight zero64)) (same_by true (eq-eqb _ _ e)))
+      ∙ sym (ap (λ (x : Bool). cond x (between zero64 one64 w.weight) (eq w.weight zero64)) (same_by e))
 
   -- stamps apart: the weight is 0
-  pub weight_apart : (o.0 ≡ n.0 → ⊥) → eq w.weight zero64 ≡ weight_sound w
+  pub weight_apart : eqb o.0 n.0 ≡ false → eq w.weight zero64 ≡ weight_sound w
   unfolding weight_sound
-  weight_apart e = sym (ap (λ (x : Bool). cond x (between zero64 one64 w.weight) (eq w.weight zero64)) (same_by false (ne_eqb _ _ e)))
+  weight_apart e = sym (ap (λ (x : Bool). cond x (between zero64 one64 w.weight) (eq w.weight zero64)) (same_by e))

@@ -18,6 +18,22 @@ pub enum Stage {
     Ready,
 }
 
+impl Stage {
+    // Whether worlds exist in the stage.
+    pub fn has_worlds(self) -> bool
+        ensures { result ≡ has_worlds self }
+    {
+        !matches!(self, Stage::SyncingClock)
+    }
+
+    // Whether the stage is the last one.
+    pub fn is_ready(self) -> bool
+        ensures { result ≡ is_ready self }
+    {
+        matches!(self, Stage::Ready)
+    }
+}
+
 // All state of a client.
 #[derive(Clone, Copy)]
 pub struct Session {
@@ -26,28 +42,6 @@ pub struct Session {
     pub clock: Clock,
     pub worlds: ClientWorldSimulations,
     pub overshoot: f64,
-}
-
-// Whether worlds exist in a stage.
-pub fn has_worlds(stage: Stage) -> bool
-    ensures { result ≡ has_worlds stage }
-{
-    match stage {
-        Stage::SyncingClock => false,
-        Stage::SyncingInitialState => true,
-        Stage::Ready => true,
-    }
-}
-
-// Whether a stage is the last one.
-pub fn is_ready(stage: Stage) -> bool
-    ensures { result ≡ is_ready stage }
-{
-    match stage {
-        Stage::SyncingClock => false,
-        Stage::SyncingInitialState => false,
-        Stage::Ready => true,
-    }
 }
 
 // A queued snapshot's handle is within 24 bits.
@@ -65,7 +59,7 @@ pub(crate) fn weight_sound(w: &ClientWorldSimulations) -> bool
     let t = w.weight;
     let old = w.last_completed_timestamp();
     let new = w.new_timestamp();
-    if old.0 == new.0 {
+    if old == new {
         if t >= 0.0 {
             return t <= 1.0;
         }
@@ -75,6 +69,7 @@ pub(crate) fn weight_sound(w: &ClientWorldSimulations) -> bool
 }
 
 // The old world is initialised only if the new one is.
+#[tactic(auto, unfolding(crate::specs::Sound::init_sound))]
 pub(crate) fn init_sound(w: &ClientWorldSimulations) -> bool
     ensures { result ≡ init_sound w.now }
 {

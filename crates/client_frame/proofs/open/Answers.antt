@@ -1,11 +1,12 @@
 -- `open` meets its contract: blending the weight moves on, and healthy nothing happens. Assumes nothing.
-use Rattle.client_frame.proofs.Framing.{opened_blending, opened_healthy}
+use Rattle.client.proofs.Happening.{plays_still}
+use Rattle.client_frame.specs.Frame.{opened_of}
 use Rattle.client_frame.proofs.open.Goals as goal
 
 pub returns-in-Blending-clause-plays : goal.returns-in-Blending-clause-plays
-returns-in-Blending-clause-plays c =
-    opened_blending c.args.t c.args.q c.args.progress c.args.scene.now c.args.tape.now c.in-Blending.is c.blend_on.ensures
+unfolding opened_of
+returns-in-Blending-clause-plays c = rw (c.in-Blending.is, c.blend_on.ensures) (plays_still _ _)
 
 pub returns-in-Healthy-clause-plays : goal.returns-in-Healthy-clause-plays
-returns-in-Healthy-clause-plays c =
-    opened_healthy c.args.t c.args.q c.args.progress c.args.scene.now c.in-Fastforwarding.is c.args.tape.now c.in-Healthy.is
+unfolding opened_of
+returns-in-Healthy-clause-plays c = rw (c.in-Fastforwarding.is, c.in-Healthy.is) (plays_still _ _)

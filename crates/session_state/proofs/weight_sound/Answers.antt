@@ -1,19 +1,17 @@
 -- `weight_sound` meets its contract: by whether the stamps are equal. Assumes nothing.
+use native.Mathlib.Omega.{arith}
 use lib.Ieee.{of_bits}
-use Rattle.session_state.proofs.Judging.{weight_equal_in, weight_equal_out, weight_apart}
+use Rattle.session_state.specs.Sound.{weight_sound}
 use Rattle.session_state.proofs.weight_sound.Goals as goal
 
 pub returns-then-t : goal.returns-then-t
-unfolding of_bits
-returns-then-t c =
-    weight_equal_in _ c.last_completed_timestamp-old.ensures c.new_timestamp-new.ensures c.if-old-new.true c.if-t.true
+unfolding weight_sound of_bits
+returns-then-t c = grind arith
 
-pub returns-then-old-new : goal.returns-then-old-new
-unfolding of_bits
-returns-then-old-new c =
-    weight_equal_out _ c.last_completed_timestamp-old.ensures c.new_timestamp-new.ensures c.if-old-new.true c.if-t.false
+pub returns-then-eq : goal.returns-then-eq
+unfolding weight_sound of_bits
+returns-then-eq c = grind arith
 
 pub returns : goal.returns
-unfolding of_bits
-returns c =
-    weight_apart _ c.last_completed_timestamp-old.ensures c.new_timestamp-new.ensures c.if-old-new.false
+unfolding weight_sound of_bits
+returns c = grind arith

@@ -3,7 +3,7 @@ use Rattle.std.proofs.Common.{rules}
 use mathlib.Core.Path.{refl}
 use Rattle.refusals.specs.declared.Stop.TheVariants.{TooManyFrames, StatusStops}
 use Rattle.fixed_timestepper.proofs.Updating.{update_done, update_stopped, advances_on}
-use Rattle.fixed_timestepper.proofs.update.Goals as goal
+use Rattle.fixed_timestepper.proofs.TimeKeeper.update.Goals as goal
 
 pub advance-a-requires : goal.advance-a-requires
 advance-a-requires c = (c.requires, refl)

@@ -3,7 +3,7 @@ use native.Mathlib.Omega.{arith}
 use mathlib.Core.Path.{refl}
 use lib.Ieee.{of_bits}
 use Rattle.fixed_timestepper.proofs.Running.{running_start, running_full, running_done, running_stops, running_on, few_left, framed_as}
-use Rattle.fixed_timestepper.proofs.advance.Goals as goal
+use Rattle.fixed_timestepper.proofs.TimeKeeper.advance.Goals as goal
 
 pub loop-o-init : goal.loop-o-init
 loop-o-init c = running_start _ _ _ _ c.requires.1
@@ -23,7 +23,7 @@ pub returns-then-stops-clause-advances : goal.returns-then-stops-clause-advances
 unfolding of_bits
 returns-then-stops-clause-advances c =
     running_stops _ _ _ c.loop-o.invariant c.loop-o-test.true (few_left c.loop-o.invariant.bound c.if-n-eq-MOST_FRAMES.false)
-    (framed_as c.args.settings _ c.frame_rules-rules.ensures c.step-stops.ensures.frames) c.step-stops.ensures.few c.if-stops.true refl
+    (framed_as c.args.self.settings _ c.frame_rules-rules.ensures c.step-stops.ensures.frames) c.step-stops.ensures.few c.if-stops.true refl
 
 pub loop-o-smaller : goal.loop-o-smaller
 loop-o-smaller c =
@@ -33,7 +33,7 @@ pub loop-o-preserved : goal.loop-o-preserved
 unfolding of_bits
 loop-o-preserved c =
     running_on _ _ _ c.loop-o.invariant c.loop-o-test.true (few_left c.loop-o.invariant.bound c.if-n-eq-MOST_FRAMES.false)
-    (framed_as c.args.settings _ c.frame_rules-rules.ensures c.step-stops.ensures.frames) c.step-stops.ensures.few c.if-stops.false refl
+    (framed_as c.args.self.settings _ c.frame_rules-rules.ensures c.step-stops.ensures.frames) c.step-stops.ensures.few c.if-stops.false refl
 
 pub returns-clause-advances : goal.returns-clause-advances
 unfolding of_bits
