@@ -13,6 +13,7 @@ pub fn is_later(a: Timestamp, b: Timestamp) -> bool
 }
 
 // Whether the new world is ahead of the old one.
+#[tactic(auto, unfolding(crate::specs::Status::overshot_of))]
 pub fn is_overshot(new: Timestamp, old: Timestamp) -> bool
     ensures { result ≡ overshot_of new old }
 {
@@ -20,6 +21,7 @@ pub fn is_overshot(new: Timestamp, old: Timestamp) -> bool
 }
 
 // Whether a queued snapshot is later than the new world.
+#[tactic(auto, unfolding(crate::specs::Status::newer_of))]
 pub fn is_snapshot_newer(queued: Option<QueuedSnapshot>, new: Timestamp) -> bool
     ensures { result ≡ newer_of queued new }
 {

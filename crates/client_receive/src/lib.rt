@@ -50,6 +50,7 @@ pub fn receive_command(scene: &mut Scene, entry: u64) -> bool
 }
 
 // Whether a snapshot is later than the client's stamp.
+#[tactic(auto, unfolding(crate::specs::Receive::from_future_of))]
 pub(crate) fn is_from_future(stamp: Timestamp, old: Timestamp) -> bool
     ensures { result ≡ from_future_of stamp old }
 {
@@ -57,6 +58,7 @@ pub(crate) fn is_from_future(stamp: Timestamp, old: Timestamp) -> bool
 }
 
 // Whether a snapshot is later than the last one queued, where there was one.
+#[tactic(auto, unfolding(crate::specs::Receive::fresh_of))]
 pub(crate) fn is_fresh(last: Option<Timestamp>, stamp: Timestamp) -> bool
     ensures { result ≡ fresh_of last stamp }
 {
@@ -64,6 +66,7 @@ pub(crate) fn is_fresh(last: Option<Timestamp>, stamp: Timestamp) -> bool
 }
 
 // The last queued stamp is the queued snapshot's, where there is one.
+#[tactic(auto, unfolding(crate::specs::Receive::noted_of))]
 pub(crate) fn noted(queued: Option<QueuedSnapshot>, last: Option<Timestamp>) -> Option<Timestamp>
     ensures { result ≡ noted_of queued last }
 {

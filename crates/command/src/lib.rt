@@ -57,6 +57,7 @@ pub struct Span {
 
 impl Span {
     // Whether an entry is among them.
+    #[tactic(auto, unfolding(crate::specs::Ranks::spanned))]
     pub fn holds(self, entry: u64) -> bool
         ensures { result ≡ rank_within self.around self.from self.end entry }
     {
@@ -74,6 +75,7 @@ pub enum Outcome {
 }
 
 // The entry of a command: the stamp of the frame that it is for, times 2^32, and its handle.
+#[tactic(auto, unfolding(crate::specs::Entries::entry_of))]
 pub fn entry_of(stamp: Timestamp, handle: u32) -> u64
     ensures { result ≡ entry_of stamp handle }
 {
@@ -81,6 +83,7 @@ pub fn entry_of(stamp: Timestamp, handle: u32) -> u64
 }
 
 // The stamp of an entry.
+#[tactic(auto, unfolding(crate::specs::Entries::stamp_in))]
 pub fn stamp_of(entry: u64) -> Timestamp
     ensures { result.0 ≡ stamp_in entry }
 {
@@ -88,6 +91,7 @@ pub fn stamp_of(entry: u64) -> Timestamp
 }
 
 // The handle of an entry.
+#[tactic(auto, unfolding(crate::specs::Entries::handle_in))]
 pub fn handle_of(entry: u64) -> u32
     ensures { result ≡ handle_in entry }
 {
@@ -104,6 +108,7 @@ fn is_plain(entry: u64) -> bool
 
 impl CommandBuffer {
     // A buffer that holds nothing.
+    #[tactic(auto, unfolding(crate::specs::Buffer::laid))]
     pub fn new(timestamp: Timestamp) -> CommandBuffer
         ensures { result ≡ laid [] timestamp }
     {
@@ -331,6 +336,7 @@ fn rank_of(s: Timestamp, m: Timestamp) -> u32
 }
 
 // Whether an entry is in the accepted range around m.
+#[tactic(auto, unfolding(crate::specs::Buffer::in_range_of))]
 pub fn in_range(entry: u64, m: Timestamp) -> bool
     ensures { result ≡ in_range_of m entry }
 {

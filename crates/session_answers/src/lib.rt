@@ -78,6 +78,7 @@ pub fn unplayed(refusal: Verdict, request: bool, tape: &mut [u32]) -> Updated
 }
 
 // A refused update: the tape zeroed, everything else 0. The session is left as it is.
+#[tactic(auto, unfolding(crate::specs::Answers::refused_with))]
 pub fn refuse(refusal: Refusal, tape: &mut [u32]) -> Updated
     ensures { Leaves (λ s. refused_with refusal s (length tape.old)) result tape.new }
 {
@@ -85,6 +86,7 @@ pub fn refuse(refusal: Refusal, tape: &mut [u32]) -> Updated
 }
 
 // An update that nothing refuses: the session that its scene leaves, with the end of the worlds, and zeros on the rest of the tape.
+#[tactic(auto, unfolding(crate::specs::Inner::accepted_by))]
 pub fn accept(
     session: &mut Session,
     clock: Clock,

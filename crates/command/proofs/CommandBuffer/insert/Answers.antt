@@ -14,9 +14,6 @@ returns-then-self-ge-BUFFER_ROOM c =
     inserted_full _ _ (sym c.in_range.ensures ∙ c.if-not-in_range.false)
     (held_full c.args.self.now (search rules) (omega (arith, c.if-self-ge-BUFFER_ROOM.true)))
 
-pub place-requires : goal.place-requires
-place-requires c = held_below c.args.self.now (omega (arith, c.if-self-ge-BUFFER_ROOM.false))
-
 pub returns : goal.returns
 returns c =
     inserted_taken _ _ (sym c.in_range.ensures ∙ c.if-not-in_range.false)

@@ -1,11 +1,6 @@
 -- `update_clock` meets its contract: refused, or the clock moved on. Assumes nothing.
-use Rattle.session.proofs.Answering.{clock_refused, clock_moved}
+use Rattle.session.proofs.Answering.{clock_moved}
 use Rattle.session.proofs.in_place.update_clock.Goals as goal
-
-pub returns-in-Err : goal.returns-in-Err
-returns-in-Err c =
-    let a = c.args in
-    clock_refused a.session.now a.delta a.seconds a.worldly a.heard _ c.while_syncing.ensures c.in-Err.is (c.refuse.ensures.updates _)
 
 pub returns : goal.returns
 returns c =

@@ -1,8 +1,0 @@
--- `snapshot_word` meets its contract: the kind, the bit of the side and the low 24 bits of the handle, as numbers. Assumes nothing.
-use native.Mathlib.Omega.{arith}
-use Rattle.tape.specs.Words.{snapshot_word}
-use Rattle.tape.proofs.snapshot_word.Goals as goal
-
-pub returns : goal.returns
-unfolding snapshot_word
-returns c = omega arith
