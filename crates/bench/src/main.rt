@@ -65,7 +65,7 @@ impl Sums {
     }
 }
 
-// The number of a status.
+// The number of a status, for the checksum alone.
 fn status_number(status: ReconciliationStatus) -> u64 {
     match status {
         ReconciliationStatus::AwaitingSnapshot => 1,
@@ -79,7 +79,7 @@ fn time_bits(time: Option<f64>) -> u64 {
     time.map_or(0, |time| std::num::f64_to_bits_with_nan(time))
 }
 
-// A call of a script.
+// A call of a script: each case has a meaning of its own.
 #[derive(Drop)]
 enum Call<'a> {
     Update {
@@ -240,7 +240,7 @@ fn read_bytes(stdin: &mut impl Read, bytes: &mut [u8]) -> io::Result<usize>
     Ok(count)
 }
 
-// Reads the words of a script, low byte first.
+// Reads the words of a script, low byte first. Its room is that of the arrays of `main`: with slices the check ran out of its stack.
 fn read_script(
     stdin: &mut impl Read,
     bytes: &mut [u8; BYTE_ROOM],

@@ -56,7 +56,7 @@ impl ClientWorldSimulations {
 }
 
 impl Scene {
-    // The world of a side steps.
+    // The world of a side steps. A world does not know its side, and the tape is not the scene's, so all three are named.
     pub fn step_side(&mut self, side: Side, tape: &mut Tape<'_>)
         requires { tape.old.at < 3000000000 }
         ensures plays { Plays (done_at self.old (side_number side) (step_of (world_of self.old.worlds (side_number side)) (side_number side)))

@@ -1,4 +1,3 @@
 pub mod Induction
-pub mod Bounds
 pub mod Framing
 pub mod Catching

@@ -26,7 +26,7 @@ pub struct Clock {
     pub id: Option<u32>,
 }
 
-// A clock whose timer was moved on, and whether a request goes out.
+// A clock whose timer was moved on, and whether a request goes out: a flag, since the clock is there either way.
 #[derive(Clone, Copy)]
 pub struct Ticked {
     pub clock: Clock,
@@ -189,7 +189,7 @@ pub(crate) fn measured_offset(send: f64, server: f64, seconds: f64) -> f64
     server - (send + seconds) / 2.0
 }
 
-// Samples laid out from the front, the slots after them at 0.
+// Samples laid out from the front, the slots after them at 0. An array, which a clock holds: no heap, and a session of a fixed size.
 pub fn laid(samples: &[f64]) -> [f64; refusals::SAMPLE_ROOM]
     requires { length samples.now ≤ sample_room }
     ensures { result ≡ laid_out samples.now }

@@ -39,7 +39,8 @@ const STAMP_PLACE: u64 = 1 << 32;
 // An entry below this has no bit set above its stamp.
 const ENTRY_ROOM: u64 = 1 << 48;
 
-// The entries with their count, and the midpoint of the range of stamps that are accepted, which the Rust calls the timestamp.
+// The entries with their count, and the midpoint of the range of stamps that are accepted, which the Rust calls the timestamp. The entries are an array:
+// no heap, and a session of a fixed size.
 #[derive(Clone, Copy)]
 pub struct CommandBuffer {
     pub entries: [u64; 64],
@@ -47,7 +48,7 @@ pub struct CommandBuffer {
     pub timestamp: Timestamp,
 }
 
-// The entries whose rank around a stamp is `from` or more and below `end`.
+// The entries whose rank around a stamp is `from` or more and below `end`. Ranks are numbers: `rank_of` says what they are.
 #[derive(Clone, Copy)]
 pub struct Span {
     pub around: Timestamp,

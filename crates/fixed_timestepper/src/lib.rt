@@ -153,7 +153,7 @@ impl TimeKeeper {
         self.timestamp_drift_seconds(stamp, server).abs() >= self.settings.skip
     }
 
-    // Frames while the overshoot is negative, 65 at most.
+    // Frames while the overshoot is negative, 65 at most. A `while`: it tests a float and counts nothing, and how many rounds it has is not known before.
     pub(crate) fn advance(self, scene: &mut Scene, tape: &mut Tape<'_>) -> Advanced
         requires { (self.settings.m ≤ most_steps) × (tape.old.at ≡ 0) }
         ensures advances { Advances (run_of most_frames self.settings scene.old self.overshoot) tape.old.words.now scene.new result tape.new.words.now }

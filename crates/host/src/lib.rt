@@ -14,7 +14,8 @@ use refusals::{LONGEST_TIME, LONGEST_TIMESTEP, Refusal, SAMPLE_ROOM, SHORTEST_TI
 use std::cmp::Ordering;
 use timestamp::Timestamp;
 
-// The frames of a span as C lays them out. The spare word is 0 and fills the record, so that no byte of it is left undetermined.
+// The frames of a span as C lays them out, with the number of the refusal. The spare word is 0 and fills the record, so that no byte of it is left
+// undetermined.
 #[repr(C)]
 #[derive(Clone, Copy)]
 pub struct HostSpanFrames {

@@ -133,7 +133,7 @@ fn head_of(word: u32) -> Result<Head, Refusal>
     }
 }
 
-// The value of the word at a place, which has to be of the kind and its value below room.
+// The value of the word at a place, which has to be of the kind (the number in its top bits) and its value below room.
 fn word_at(words: &[u32], at: usize, kind: u32, room: u32) -> Result<u32, Refusal>
     ensures { result ≡ due_word_of kind room (drop at words.now) }
 {

@@ -12,7 +12,7 @@ use inbox::{Message, Reader, Reading};
 use refusals::{Refusal, Verdict};
 use timestamp::Timestamp;
 
-// What an inbox holds. Of one over 4,096 words nothing is read.
+// What an inbox holds. Of one over 4,096 words nothing is read. The two flags tell of it beside the rest, which is there either way.
 #[derive(Clone, Copy)]
 pub struct Scan {
     pub verdict: Verdict,

@@ -78,7 +78,7 @@ impl From<Refusal> for u32 {
     }
 }
 
-// The number of a verdict: 0 where nothing refuses.
+// The number of a verdict: 0 where nothing refuses. A function: a verdict is the library's Result, for which no crate of ours can write a `From`.
 pub fn number(verdict: Verdict) -> u32
     ensures { result ≡ number_in verdict }
 {

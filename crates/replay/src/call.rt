@@ -10,7 +10,7 @@ const INBOX_ROOM: usize = 4097;
 // Of samples one byte more is kept than the 64 of the longest right call have. More are as wrong a length, which the call itself refuses.
 pub const SAMPLE_ROOM: usize = 513;
 
-// A line. An empty one and a comment are passed over.
+// A line: each case has a meaning of its own. An empty one and a comment are passed over.
 #[derive(Drop)]
 pub enum Line {
     Call(Call),

@@ -45,7 +45,7 @@ impl<R: Read + Drop> Iterator for Field<'_, R> {
     }
 }
 
-// The digit that a byte is, in lower case.
+// The digit that a byte of text is, in lower case alone, which `to_digit` would not ask.
 fn digit(byte: u8) -> Option<u8>
     ensures { IfSome result (λ d. d < 16) }
 {
@@ -168,7 +168,7 @@ impl<R: Read + Drop> Input<R> {
         number.ok_or(Stop::BadCall)
     }
 
-    // A number in decimal, without a sign.
+    // A number in decimal, without a sign. Read from the stream byte by byte, so not by `parse`.
     pub(crate) fn decimal(&mut self) -> Result<u64, Stop> {
         let first = self.first_byte()?;
         self.decimal_from(first)
@@ -189,7 +189,7 @@ impl<R: Read + Drop> Input<R> {
         i16::try_from(value).map_err(|_| Stop::BadCall)
     }
 
-    // A number of so many hexadecimal digits.
+    // A number of so many hexadecimal digits, read in the same way.
     fn hex(&mut self, digits: usize) -> Result<u64, Stop> {
         let mut number = with_digit(0, self.first_byte()?, 16);
         let mut count = 1usize;

@@ -18,7 +18,7 @@ pub struct OpenAnswer {
     pub session: Session,
 }
 
-// The answer of `update`: frames are F, steps are C, and words are those played.
+// The answer of `update`: frames are F, steps are C, words are those played, and a request goes out or not.
 #[derive(Clone, Copy)]
 pub struct UpdateAnswer {
     pub refusal: Verdict,

@@ -12,6 +12,7 @@ use command::{CommandBuffer, Outcome};
 use tape::{Side, Tape, snapshot_word, step_word};
 use timestamp::Timestamp;
 
+// One world. `init` is a flag, as in the Rust: the commands are there whether a snapshot has initialised the world or not.
 #[derive(Clone, Copy)]
 pub struct Simulation {
     pub commands: CommandBuffer,

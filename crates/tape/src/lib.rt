@@ -3,8 +3,6 @@
 #![tactic(auto)]
 
 ghost use Rattle.std.specs.Prelude.{◌≡◌, [], ◌∷◌, ◌<◌};
-ghost use Rattle.std.specs.Float.{binary64};
-ghost use Rattle.std.specs.Float.Ieee.{to_bits};
 ghost use Rattle.tape.specs.Sides.{side_number, side_named, other_of};
 ghost use Rattle.tape.specs.Words.{side_bit, step_word, command_word, snapshot_word, publish_word, mix_word, none_word, weight_word, weight_words, mix_words};
 ghost use Rattle.tape.specs.Tape.{Puts, PutsOn, cleared};
@@ -37,7 +35,8 @@ impl From<u32> for Side {
     }
 }
 
-// A tape that is lent, and the place of its next word.
+// A tape that is lent, and the place of its next word. Each function that puts words on it bounds that place, so that the count fits the machine; an
+// invariant cannot, since each word adds one.
 #[derive(Drop)]
 pub struct Tape<'a> {
     pub words: &'a mut [u32],
@@ -58,7 +57,7 @@ impl Tape<'_> {
         requires { self.old.at < 4000000000 }
         ensures { PutsOn self.old (mix_words weight) self.new }
     {
-        let bits = bits_of(weight);
+        let bits = std::num::f64_to_bits_with_nan(weight);
         self.put(mix_word());
         self.put_weight(bits);
     }
@@ -116,9 +115,6 @@ const RIGHT: u32 = 1 << 27;
 const WEIGHT_PART: u64 = 1 << 28;
 
 const HIGHEST_PART: u64 = 1 << 56;
-
-// The bits of the quiet NaN.
-const QUIET_NAN: u64 = 0x7ff8 << 48;
 
 // The bit of a side.
 fn side_bit(side: Side) -> u32
@@ -184,14 +180,4 @@ fn weight_word(part: u64) -> u32
     ensures { result ≡ weight_word part }
 {
     WEIGHT + (part % WEIGHT_PART) as u32
-}
-
-// The bits of a float; those of the quiet NaN where it is no number.
-pub fn bits_of(x: f64) -> u64
-    ensures { result ≡ to_bits binary64 x }
-{
-    if x != x {
-        return QUIET_NAN;
-    }
-    f64::to_bits(x)
 }

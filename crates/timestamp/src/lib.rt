@@ -38,7 +38,7 @@ impl Timestamp {
         Timestamp(self.0.wrapping_sub(n))
     }
 
-    // The order of two stamps: the sign of their signed difference. Of two that are 32,768 apart each is less than the other.
+    // The order of two stamps: the sign of their signed difference. Of two that are 32,768 apart each is less than the other, so this is no `Ord`.
     pub fn cmp(self, other: Timestamp) -> Ordering
         ensures { result ≡ order_of self.0 other.0 }
     {
@@ -60,7 +60,7 @@ impl Timestamp {
         d <= 16382 || d >= 49153
     }
 
-    // The stamp of a time, its frame count cut toward zero.
+    // The stamp of a time, its frame count cut toward zero. A time has two numbers here, so this is no `From`.
     pub fn from_seconds(seconds: f64, timestep: f64) -> Timestamp
         ensures { result.0 ≡ bits_of (stamp_of (from_seconds seconds timestep)) }
     {
@@ -92,7 +92,7 @@ impl From<i16> for Timestamp {
 pub struct FloatTimestamp(pub f64);
 
 impl FloatTimestamp {
-    // The frame count of a time.
+    // The frame count of a time, of two numbers as well.
     #[tactic(auto, unfolding(crate::specs::FloatTimestamps::from_seconds))]
     pub fn from_seconds(seconds: f64, timestep: f64) -> FloatTimestamp
         ensures { result.0 ≡ from_seconds seconds timestep }
@@ -100,7 +100,8 @@ impl FloatTimestamp {
         FloatTimestamp::from_unwrapped(seconds / timestep)
     }
 
-    // A number of frames wrapped into the stamps' space. The remainder has the sign of its dividend, so a negative one is moved up.
+    // A number of frames wrapped into the stamps' space, which a `From` would not say. The remainder has the sign of its dividend, so a negative one is
+    // moved up.
     pub fn from_unwrapped(frames: f64) -> FloatTimestamp
         ensures { result.0 ≡ from_unwrapped frames }
     {
