@@ -56,16 +56,10 @@ pub fn queued_sound(queued: Option<QueuedSnapshot>) -> bool
 pub(crate) fn weight_sound(w: &ClientWorldSimulations) -> bool
     ensures { result ≡ weight_sound w.now }
 {
-    let t = w.weight;
-    let old = w.last_completed_timestamp();
-    let new = w.new_timestamp();
-    if old == new {
-        if t >= 0.0 {
-            return t <= 1.0;
-        }
-        return false;
+    if w.last_completed_timestamp() == w.new_timestamp() {
+        return settings::within(0.0, 1.0, w.weight);
     }
-    t == 0.0
+    w.weight == 0.0
 }
 
 // The old world is initialised only if the new one is.
@@ -75,10 +69,7 @@ pub(crate) fn init_sound(w: &ClientWorldSimulations) -> bool
 {
     let old = w.get_side(w.old_side());
     let new = w.get_side(w.new_side());
-    if old.init {
-        return new.init;
-    }
-    true
+    !old.init || new.init
 }
 
 // The three buffers are sound.
@@ -101,10 +92,7 @@ pub(crate) fn worlds_sound(w: &ClientWorldSimulations) -> bool
 pub fn overshoot_sound(overshoot: f64, timestep: f64) -> bool
     ensures { result ≡ overshoot_sound overshoot timestep }
 {
-    if overshoot >= 0.0 {
-        return overshoot <= timestep;
-    }
-    false
+    settings::within(0.0, timestep, overshoot)
 }
 
 // Once worlds exist there is an offset and an id; before, there is no offset.

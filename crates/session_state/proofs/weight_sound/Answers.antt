@@ -4,10 +4,6 @@ use lib.Ieee.{of_bits}
 use Rattle.session_state.specs.Sound.{weight_sound}
 use Rattle.session_state.proofs.weight_sound.Goals as goal
 
-pub returns-then-t : goal.returns-then-t
-unfolding weight_sound of_bits
-returns-then-t c = grind arith
-
 pub returns-then-eq : goal.returns-then-eq
 unfolding weight_sound of_bits
 returns-then-eq c = grind arith
