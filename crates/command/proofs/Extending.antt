@@ -1,6 +1,6 @@
 -- A buffer that takes the entries of another that pass a test, one after the other: what its loop keeps. Assumes nothing.
-use mathlib.Core.Path.{◌≡◌, sym, ap, ◌∙◌}
-use mathlib.Core.List.{List, [], ◌∷◌, ◌++◌, append_assoc, append-nil}
+use mathlib.Core.Path.{◌≡◌}
+use mathlib.Core.List.{List, [], ◌∷◌, ◌++◌, append_assoc}
 use mathlib.Core.Bool.{Bool, true, false}
 use Prim.Native.Nat.{ℕ, ◌+◌, ◌≤◌, ◌<◌}
 use native.Mathlib.Omega.{arith}
@@ -17,13 +17,7 @@ use Rattle.command.proofs.Holding.{held_of, clean, laid_then}
 pub record Extended (a : CommandBuffer) (p : Entry → Bool) (items : List Entry) (i : ℕ) (b : CommandBuffer) : Type 0 where
   pub whole : b ≡ laid (held a ++ filter_b p (take i items)) a.timestamp
 
-pub extended_none : {a : CommandBuffer} (p : Entry → Bool) (items : List Entry) → a ≡ laid (held a) a.timestamp → Extended a p items 0 a
-extended_none {a} p items e = record { whole = e ∙ ap (λ (xs : List Entry). laid xs a.timestamp) (sym (append-nil (held a))) }
-
 module _ {a b : CommandBuffer} {p : Entry → Bool} {items : List Entry} {i : ℕ} (s : Extended a p items i b) where
-  pub extended_all : length items ≤ i → b ≡ laid (held a ++ filter_b p items) a.timestamp
-  extended_all h = rw (take_all i items h) at s.whole
-
   module _ (d : Entry) (h : i < length items) where
     pub extended_room : p (get_or items i d) ≡ true → length (held a) + length (filter_b p items) ≤ 64
         → (b ≡ laid (held b) b.timestamp) × (length (held b) + 1 ≤ 64)

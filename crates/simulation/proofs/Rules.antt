@@ -2,7 +2,7 @@
 use Rattle.std.specs.Ordering.{is_lt}
 use mathlib.Core.Path.{◌≡◌, refl, ap, sym, ◌∙◌}
 use mathlib.Core.Bool.{true, false}
-use mathlib.Core.List.{List, [], ◌∷◌}
+use mathlib.Core.List.{[], ◌∷◌}
 use Prim.Native.Nat.{ℕ, ◌+◌, ◌-◌}
 use native.Mathlib.Omega.{arith}
 use lib.ListN.{length}
@@ -15,15 +15,11 @@ use Rattle.tape.specs.Words.{step_word, snapshot_word}
 use Rattle.tape.proofs.Writing.{on_none, on_then, on_as}
 use Rattle.command.specs.declared.CommandBuffer.{CommandBuffer}
 use Rattle.command.specs.Entries.{Entry}
-use Rattle.command.specs.Buffer.{Moved, Insertion, held, laid, inserted_of}
+use Rattle.command.specs.Buffer.{Moved, Insertion, held, inserted_of}
 use Rattle.command.specs.Buffer.{moved_of, taken_of, rest_of, emptied_of, command_words, Applies, AppliesAll}
 use Rattle.command.proofs.Applying.{words-length}
 use Rattle.simulation.specs.declared.Simulation.{Simulation}
-use Rattle.simulation.specs.World.{Scheduled, world_with, next_stamp, new_world, scheduled_of, step_of, resets_back, reset_of, Does, load_of, Loads}
-
--- a new world
-pub new_is : (t : Timestamp) {b : CommandBuffer} → b ≡ laid [] t → world_with b false ≡ new_world t
-new_is t e = ap (λ (x : CommandBuffer). world_with x false) e
+use Rattle.simulation.specs.World.{Scheduled, world_with, next_stamp, scheduled_of, step_of, resets_back, reset_of, Does, load_of, Loads}
 
 -- a command that was offered
 pub scheduled_is : (w : Simulation) (e : Entry) {i : Insertion} → i ≡ inserted_of w.commands e

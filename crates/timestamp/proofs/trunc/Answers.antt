@@ -58,12 +58,6 @@ module _ (c : Joined-below_one) where
   few : c.if-below_one.cleared < 64
   few = clears_lt (bits s) c.if-below_one.cleared clears
 
-pub overflow_shr-result : goal.overflow_shr-result
-overflow_shr-result c = few c.before
-
-pub overflow_shl-result : goal.overflow_shl-result
-overflow_shl-result c = few c.before
-
 pub float_from_bits-result : goal.float_from_bits-result
 unfolding bits s
 float_from_bits-result c = shifted_no_nan (bits (s c.before)) c.if-below_one.cleared (within (s c.before)) (clears c.before)
