@@ -4,6 +4,7 @@ ghost use Rattle.client.specs.Ledgers.{empty_ledger, with_held, takes, applies, 
 
 use super::Ledger;
 use command::CommandBuffer;
+use simulation::{Loaded, Stepped};
 
 impl Ledger {
     // A ledger with nothing in it.
@@ -28,20 +29,20 @@ impl Ledger {
     }
 
     // Counts so many more applied and left out.
-    pub fn count(&mut self, applied: usize, leftout: usize)
-        ensures { self.new ≡ applies self.old applied leftout }
+    pub fn count(&mut self, done: Stepped)
+        ensures { self.new ≡ applies self.old done.applied done.leftout }
     {
-        self.applied = self.applied.wrapping_add(applied);
-        self.leftout = self.leftout.wrapping_add(leftout);
+        self.applied = self.applied.wrapping_add(done.applied);
+        self.leftout = self.leftout.wrapping_add(done.leftout);
     }
 
     // Counts so many more copied, replaced and left out.
-    pub fn count_load(&mut self, copied: usize, replaced: usize, leftout: usize)
-        ensures { self.new ≡ loads self.old copied replaced leftout }
+    pub fn count_load(&mut self, done: Loaded)
+        ensures { self.new ≡ loads self.old done.copied done.replaced done.leftout }
     {
-        self.copied = self.copied.wrapping_add(copied);
-        self.replaced = self.replaced.wrapping_add(replaced);
-        self.leftout = self.leftout.wrapping_add(leftout);
+        self.copied = self.copied.wrapping_add(done.copied);
+        self.replaced = self.replaced.wrapping_add(done.replaced);
+        self.leftout = self.leftout.wrapping_add(done.leftout);
     }
 
     // The ledger with so many held.

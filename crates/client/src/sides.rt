@@ -66,11 +66,11 @@ impl Scene {
         match side {
             Side::Left => {
                 let done = self.worlds.left.step(side, tape);
-                self.left.count(done.applied, done.leftout);
+                self.left.count(done);
             }
             Side::Right => {
                 let done = self.worlds.right.step(side, tape);
-                self.right.count(done.applied, done.leftout);
+                self.right.count(done);
             }
         }
     }
@@ -86,12 +86,12 @@ impl Scene {
             Side::Left => {
                 let world = &mut self.worlds.left;
                 let done = world.reset_last_completed_timestamp(stamp, side, tape);
-                self.left.count(done.applied, done.leftout);
+                self.left.count(done);
             }
             Side::Right => {
                 let world = &mut self.worlds.right;
                 let done = world.reset_last_completed_timestamp(stamp, side, tape);
-                self.right.count(done.applied, done.leftout);
+                self.right.count(done);
             }
         }
     }

@@ -188,7 +188,7 @@ pub fn loads_too_far(q: Option<QueuedSnapshot>, old: Timestamp) -> bool
 {
     q.is_some_and(|snapshot| {
         let behind = old.sub(snapshot.stamp).0;
-        behind >= 32768 && behind < 65535
+        (32768..65535).contains(&behind)
     })
 }
 

@@ -25,16 +25,12 @@ pub fn load_snapshot(scene: &mut Scene, side: Side, snapshot: QueuedSnapshot, ta
         Side::Left => {
             let world = &mut scene.worlds.left;
             let loaded = world.apply_completed_snapshot(base, stamp, handle, side, tape);
-            scene
-                .left
-                .count_load(loaded.copied, loaded.replaced, loaded.leftout);
+            scene.left.count_load(loaded);
         }
         Side::Right => {
             let world = &mut scene.worlds.right;
             let loaded = world.apply_completed_snapshot(base, stamp, handle, side, tape);
-            scene
-                .right
-                .count_load(loaded.copied, loaded.replaced, loaded.leftout);
+            scene.right.count_load(loaded);
         }
     }
 }

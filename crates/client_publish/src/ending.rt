@@ -15,13 +15,11 @@ pub fn tween_weight(overshoot: f64, timestep: f64) -> f64
 }
 
 // Whether a tween weight is in 0 to 1; false for a NaN. Where it is not, the Rust stops: refusal 27.
+#[tactic(auto, unfolding(crate::specs::Ending::weight_ok))]
 pub fn is_weight(t: f64) -> bool
     ensures { result ≡ weight_ok t }
 {
-    if t >= 0.0 {
-        return t <= 1.0;
-    }
-    false
+    t >= 0.0 && t <= 1.0
 }
 
 // The time between two stamps at a weight, not wrapped.

@@ -68,11 +68,7 @@ pub fn publish_old_state(s: &Scene, tape: &mut Tape<'_>) -> Option<Timestamp>
 pub fn is_near_one(weight: f64) -> bool
     ensures { result ≡ near_one weight }
 {
-    let d = weight - 1.0;
-    if d < 0.0 {
-        return -d < f64::EPSILON;
-    }
-    d < f64::EPSILON
+    (weight - 1.0).abs() < f64::EPSILON
 }
 
 // Both worlds are initialised: the old one at weight 0, the new one near weight 1, and a mix in between.

@@ -63,7 +63,7 @@ impl Span {
         ensures { result ≡ rank_within self.around self.from self.end entry }
     {
         let k = rank_in(entry, self.around);
-        self.from <= k && k < self.end
+        (self.from..self.end).contains(&k)
     }
 }
 
@@ -352,7 +352,7 @@ pub fn rank_in(entry: u64, m: Timestamp) -> u32
 }
 
 // Puts the command words of the entries in a span, in their order.
-pub fn apply_between(entries: &[u64], span: Span, side: Side, tape: &mut Tape<'_>)
+fn apply_between(entries: &[u64], span: Span, side: Side, tape: &mut Tape<'_>)
     requires { (length entries.now ≤ buffer_room) × (tape.old.at < 4000000000) }
     ensures { PutsOn tape.old (command_words (side_number side) (filter_b (rank_within span.around span.from span.end) entries.now)) tape.new }
 {

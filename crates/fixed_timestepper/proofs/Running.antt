@@ -85,6 +85,20 @@ running_full c from start {was} {tape} {s} {o} {n} r h e =
     let z : 65 - n ≡ 0 = omega arith in
     over_with c from start TooManyFrames r (ap (λ (k : ℕ). run_of k c s o) z ∙ full_at c s o h)
 
+pub full_whole : (c : Settings) (from : Scene) (start : Float) {was tape : Tape} {s : Scene} {o : Float} {n : ℕ}
+    → Running c from start was tape s o n → lt o zero64 ≡ true → n ≡ 65
+    → Advances (run_of 65 c from start) was.words.now s (record { overshoot = o; frames = 65; at = tape.at; stop = TooManyFrames }) tape.words.now
+full_whole c from start {was} {tape} {s} {o} {n} r h e =
+    subst (λ (k : ℕ). Advances (run_of 65 c from start) was.words.now s (record { overshoot = o; frames = k; at = tape.at; stop = TooManyFrames }) tape.words.now) e
+    (running_full c from start r h e)
+
+pub done_whole : (c : Settings) (from : Scene) (start : Float) {was tape : Tape} {s : Scene} {o : Float} {n : ℕ}
+    → Running c from start was tape s o n → lt o zero64 ≡ false → n ≡ 65
+    → Advances (run_of 65 c from start) was.words.now s (record { overshoot = o; frames = 65; at = tape.at; stop = Done }) tape.words.now
+done_whole c from start {was} {tape} {s} {o} {n} r h e =
+    subst (λ (k : ℕ). Advances (run_of 65 c from start) was.words.now s (record { overshoot = o; frames = k; at = tape.at; stop = Done }) tape.words.now) e
+    (running_done c from start r h)
+
 -- ---- one frame more
 
 -- a run with a frame in front

@@ -163,31 +163,37 @@ impl TimeKeeper {
     {
         let rules = frame_rules(self.settings);
         let mut o = self.overshoot;
-        let mut n: u32 = 0;
-        while o < 0.0 {
-            if n == refusals::MOST_FRAMES {
+        for n in 0..refusals::MOST_FRAMES {
+            if !(o < 0.0) {
                 return Advanced {
                     overshoot: o,
                     frames: n,
                     at: tape.at,
-                    stop: Stop::TooManyFrames,
+                    stop: Stop::Done,
                 };
             }
             let stops = client_frame::step(scene, rules, tape);
-            n += 1;
             o = o + self.settings.timestep;
             if stops {
                 return Advanced {
                     overshoot: o,
-                    frames: n,
+                    frames: n + 1,
                     at: tape.at,
                     stop: Stop::StatusStops,
                 };
             }
         }
+        if o < 0.0 {
+            return Advanced {
+                overshoot: o,
+                frames: refusals::MOST_FRAMES,
+                at: tape.at,
+                stop: Stop::TooManyFrames,
+            };
+        }
         Advanced {
             overshoot: o,
-            frames: n,
+            frames: refusals::MOST_FRAMES,
             at: tape.at,
             stop: Stop::Done,
         }

@@ -68,11 +68,6 @@ const SEND_AT: usize = 1;
 // The place in a clock message of the server's time.
 const SERVER_AT: usize = 4;
 
-// The bit of a float that has its sign.
-const SIGN_BIT: u64 = 1 << 63;
-// The pattern of the infinity. Those above it, but for the sign, are of no float.
-const INFINITY: u64 = 0x7ff0_0000_0000_0000;
-
 // The message at a place, and the place after it: the end of the words after one that is wrong or missing.
 #[tactic(auto, using(crate::proofs::Steps::read_ok, crate::proofs::Steps::read_err))]
 pub(crate) fn message_at(words: &[u32], at: usize) -> Step
@@ -181,11 +176,7 @@ fn clock_of(id: u32, send: u64, server: u64) -> Reading
 fn time_of(bits: u64) -> Result<f64, Refusal>
     ensures { result ≡ inbox_time_of bits }
 {
-    // no float is made of a NaN's pattern: but for the sign, one is above the infinity's
-    if bits % SIGN_BIT > INFINITY {
-        return Err(Refusal::ClockTime);
-    }
-    let time = f64::from_bits(bits);
+    let time = std::num::f64_from_bits_with_nan(bits);
     refusals::require(is_time(time), Refusal::ClockTime)?;
     Ok(time)
 }

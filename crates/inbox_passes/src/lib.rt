@@ -2,21 +2,20 @@
 #![tactic(auto)]
 
 ghost use Rattle.std.specs.Prelude.{◌≡◌};
-ghost use Rattle.client_receive.specs.Receive.{none_received};
 ghost use Rattle.inbox_passes.specs.Passes.{receive_one, received_in};
 
 use client::Scene;
 use inbox::{Message, Reader, Reading};
 
-// The commands of an inbox, in their order. Gives whether a buffer that takes one of them was full.
-pub fn receive_commands(words: &[u32], scene: &mut Scene) -> bool
-    ensures { record { scene = scene.new; full = result } ≡ received_in words.now (none_received scene.old) }
+// The commands of an inbox, in their order. Gives whether a buffer that takes one of them was full, or one was before (`full`).
+pub fn receive_commands(words: &[u32], scene: &mut Scene, full: bool) -> bool
+    ensures { record { scene = scene.new; full = result } ≡ received_in words.now (record { scene = scene.old; full = full }) }
 {
-    let mut full = false;
+    let mut filled = full;
     for message in Reader::new(words) {
-        full = receive_one(scene, full, message);
+        filled = receive_one(scene, filled, message);
     }
-    full
+    filled
 }
 
 // A command is received; any other message is passed over. Once a buffer was full it stays said.

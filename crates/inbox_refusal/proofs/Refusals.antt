@@ -97,6 +97,10 @@ pub refusal_found : (words : List ℕ) → length words ≤ 4096 → refusal_of 
 unfolding refusal_of
 refusal_found words h = rw (le-ltb 4096 (length words) h) (sym (lowest_over accepted (messages_of words) (messages_bounded words)))
 
+-- of any length: the lowest of the messages'
+pub refusal_lowest : (words : List ℕ) → refusal_in (messages_of words) ≡ over lowest_with accepted (messages_of words)
+refusal_lowest words = sym (lowest_over accepted (messages_of words) (messages_bounded words))
+
 -- an inbox that is not refused has at most 4,096 words
 pub accepted_few : (words : List ℕ) → refusal_of words ≡ accepted → length words ≤ 4096
 unfolding refusal_of

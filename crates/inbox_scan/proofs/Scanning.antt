@@ -6,8 +6,8 @@ use Rattle.refusals.specs.declared.Refusal.TheVariants.{Length}
 use Rattle.refusals.specs.Refusals.{Verdict, accepted}
 use Rattle.inbox.specs.Inbox.{Reading, messages_of, some}
 use Rattle.inbox.specs.Passes.{over}
-use Rattle.inbox_refusal.specs.Refusal.{lowest_with}
-use Rattle.inbox_refusal.proofs.Refusals.{refusal_long, refusal_found}
+use Rattle.inbox_refusal.specs.Refusal.{lowest_with, refusal_of}
+use Rattle.inbox_refusal.proofs.Refusals.{refusal_long, refusal_lowest}
 use Rattle.inbox_passes.specs.Passes.{is_for_worlds, has_for_worlds, hear_one, heard_in, keep_one, noted_in}
 use Rattle.inbox_passes.proofs.Reading as Reading
 use Rattle.clocksync.specs.declared.Heard.{Heard}
@@ -15,7 +15,7 @@ use Rattle.client.specs.declared.Snapshots.{Snapshots}
 use Rattle.client.specs.declared.ClientWorldSimulations.{ClientWorldSimulations}
 use Rattle.client.specs.Sides.{old_stamp_of, with_snapshots}
 use Rattle.inbox_scan.specs.declared.Scan.{Scan}
-use Rattle.inbox_scan.specs.Scan.{is_command, has_command, kept_in, Scans}
+use Rattle.inbox_scan.specs.Scan.{is_command, has_command, kept_in, Scans, ScansAll}
 use Rattle.inbox_scan.specs.Inner.{scan_one}
 
 or_false : (b : Bool) → b ≡ b || false
@@ -45,18 +45,30 @@ scan_over seconds old a [] = refl
 scan_over seconds old a (m ∷ ms) = scan_over seconds old (scan_one seconds old a m) ms
 
 module _ (words : List ℕ) (seconds : Float) (known : Heard) (was : Snapshots) (old : Timestamp) where
-  -- at most 4,096 words: what all messages leave
-  pub scans_read : {r : Scan} → length words ≤ 4096 → r ≡ over (scan_one seconds old) (scan_with accepted false false known was) (messages_of words)
-      → Scans words seconds known was old r
+  -- what all messages leave
+  pub scans_all : {r : Scan} → r ≡ over (scan_one seconds old) (scan_with accepted false false known was) (messages_of words)
+      → ScansAll words seconds known was old r
   unfolding has_for_worlds has_command heard_in kept_in
-  scans_read {r} few e =
+  scans_all {r} e =
       let all = e ∙ scan_over seconds old (scan_with accepted false false known was) (messages_of words) in
       record {
-        verdict = ap (λ (x : Scan). x.verdict) all ∙ sym (refusal_found words few);
-        worldly = rw (le-ltb 4096 (length words) few) (ap (λ (x : Scan). x.worldly) all ∙ met_over is_for_worlds false (messages_of words));
-        commands = rw (le-ltb 4096 (length words) few) (ap (λ (x : Scan). x.commands) all ∙ met_over is_command false (messages_of words));
-        heard = rw (le-ltb 4096 (length words) few) (ap (λ (x : Scan). x.heard) all);
-        snapshots = rw (le-ltb 4096 (length words) few) (ap (λ (x : Scan). x.snapshots) all);
+        verdict = ap (λ (x : Scan). x.verdict) all ∙ sym (refusal_lowest words);
+        worldly = ap (λ (x : Scan). x.worldly) all ∙ met_over is_for_worlds false (messages_of words);
+        commands = ap (λ (x : Scan). x.commands) all ∙ met_over is_command false (messages_of words);
+        heard = ap (λ (x : Scan). x.heard) all;
+        snapshots = ap (λ (x : Scan). x.snapshots) all;
+      }
+
+  -- at most 4,096 words: they are what the inbox holds
+  pub scans_read : {r : Scan} → length words ≤ 4096 → ScansAll words seconds known was old r → Scans words seconds known was old r
+  unfolding refusal_of
+  scans_read {r} few k =
+      record {
+        verdict = rw (le-ltb 4096 (length words) few) k.verdict;
+        worldly = rw (le-ltb 4096 (length words) few) k.worldly;
+        commands = rw (le-ltb 4096 (length words) few) k.commands;
+        heard = rw (le-ltb 4096 (length words) few) k.heard;
+        snapshots = rw (le-ltb 4096 (length words) few) k.snapshots;
       }
 
   -- more: refused, and none is read

@@ -5,7 +5,7 @@ use Rattle.timestamp.specs.declared.Timestamp.{Timestamp}
 use Rattle.inbox.specs.declared.Message.TheVariants.{Command, Snapshot, Clock}
 use Rattle.inbox.specs.Inbox.{Reading, messages_of, some}
 use Rattle.inbox.specs.Passes.{over}
-use Rattle.inbox_refusal.specs.Refusal.{refusal_of}
+use Rattle.inbox_refusal.specs.Refusal.{refusal_of, refusal_in}
 use Rattle.inbox_passes.specs.Passes.{has_for_worlds, heard_in, keep_one}
 use Rattle.clocksync.specs.declared.Heard.{Heard}
 use Rattle.client.specs.declared.Snapshots.{Snapshots}
@@ -29,6 +29,14 @@ kept_in old words s = over (keep_one old) s (messages_of words)
 -- what an inbox over 4,096 words gives, of which nothing is read, and what any other gives
 abbrev pub unless_long : {A : Type 0} → List ℕ → A → A → A
 unless_long words was all = cond (ltb most_words (length words)) was all
+
+-- what all messages of an inbox of any length tell
+pub record ScansAll (words : List ℕ) (seconds : Float) (known : Heard) (was : Snapshots) (old : Timestamp) (r : Scan) : Type 0 where
+  pub verdict : r.verdict ≡ refusal_in (messages_of words)
+  pub worldly : r.worldly ≡ has_for_worlds words
+  pub commands : r.commands ≡ has_command words
+  pub heard : r.heard ≡ heard_in seconds words known
+  pub snapshots : r.snapshots ≡ kept_in old words was
 
 -- what is given of an inbox. Each field looks at messages of its own kind, and no message changes the stamp `old`: so one reading gives what 01's passes give
 pub record Scans (words : List ℕ) (seconds : Float) (known : Heard) (was : Snapshots) (old : Timestamp) (r : Scan) : Type 0 where

@@ -69,7 +69,7 @@ fn receive_commands(any: bool, inbox: &[u32], scene: &mut Scene) -> bool
     ensures { record { scene = scene.new; full = result } ≡ received_in inbox.now (none_received scene.old) }
 {
     if any {
-        return inbox_passes::receive_commands(inbox, scene);
+        return inbox_passes::receive_commands(inbox, scene, false);
     }
     false
 }

@@ -161,7 +161,7 @@ pub fn store_count(needed: u32, rate: f64) -> usize
     ensures { result ≡ store_of needed rate }
 {
     let n = discard_count(needed, rate);
-    (needed as usize) + n * 2
+    needed as usize + n * 2
 }
 
 // The update maximum is at most so many timesteps.
@@ -192,7 +192,7 @@ fn thresholds_pass(s: Settings) -> bool
 pub fn samples_pass(needed: u32, rate: f64) -> bool
     ensures { result ≡ samples_pass needed rate }
 {
-    needed >= 1 && needed <= refusals::MOST_NEEDED && within(0.0, 1.0, rate)
+    (1..=refusals::MOST_NEEDED).contains(&needed) && within(0.0, 1.0, rate)
 }
 
 // The samples, and how many steps a frame may catch up.
@@ -200,5 +200,5 @@ pub fn samples_pass(needed: u32, rate: f64) -> bool
 fn counts_pass(s: Settings) -> bool
     ensures { result ≡ counts_pass s }
 {
-    samples_pass(s.needed, s.rate) && s.m >= 1 && s.m <= refusals::MOST_STEPS
+    samples_pass(s.needed, s.rate) && (1..=refusals::MOST_STEPS).contains(&s.m)
 }

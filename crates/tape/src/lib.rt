@@ -28,9 +28,9 @@ impl Side {
 
 // The side of a number: 0 is left, any other number right.
 impl From<u32> for Side {
-    fn from(n: u32) -> Side
-        ensures { result ≡ side_named n }
-    {
+    ghost from_gives = { λ n side. side ≡ side_named n };
+
+    fn from(n: u32) -> Side {
         if n == 0 { Side::Left } else { Side::Right }
     }
 }

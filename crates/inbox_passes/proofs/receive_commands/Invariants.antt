@@ -1,8 +1,7 @@
 -- `receive_commands`: what the messages that are left make of the scene gives what the whole gives. Assumes nothing.
 use Rattle.inbox.specs.Reader.{left_in}
-use Rattle.client_receive.specs.Receive.{none_received}
 use Rattle.inbox_passes.proofs.Receiving.{Receiving}
 use Rattle.inbox_passes.proofs.receive_commands.Given as goal
 
 abbrev pub invariant-loop-message : goal.invariant-loop-message
-invariant-loop-message l = Receiving l.words (none_received l.fn.scene) (left_in l.message-iterator) l.scene l.full
+invariant-loop-message l = Receiving l.words (record { scene = l.fn.scene; full = l.full }) (left_in l.message-iterator) l.scene l.filled

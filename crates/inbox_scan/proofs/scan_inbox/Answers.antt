@@ -1,7 +1,5 @@
 -- `scan_inbox` meets its contract, by the count of the words. Assumes nothing.
-use Rattle.std.proofs.Common.{rules, arith}
-use Rattle.inbox.proofs.Passes.{passed}
-use Rattle.inbox_scan.specs.Inner.{scan_one}
+use Rattle.std.proofs.Common.{arith}
 use Rattle.inbox_scan.proofs.Scanning.{scans_long, scans_read}
 use Rattle.inbox_scan.proofs.scan_inbox.Goals as goal
 
@@ -11,5 +9,4 @@ returns-then-words-gt-MOST_WORDS c = scans_long c.args.words.now c.args.seconds 
 pub returns : goal.returns
 returns c =
     let a = c.args in
-    scans_read a.words.now a.seconds a.heard a.snapshots a.old (omega arith)
-    (passed _ (scan_one a.seconds a.old) _ _ c.new.ensures c.fold.ensures.ran (λ s m t f k. search rules))
+    scans_read a.words.now a.seconds a.heard a.snapshots a.old (omega arith) c.scan_messages.ensures
