@@ -17,7 +17,8 @@ use client::{
 use tape::{Side, Tape};
 use timestamp::Timestamp;
 
-// What a frame goes by: the most steps of the new world to catch up, and how far a blend's weight moves on.
+// What a frame goes by: the most steps of the new world to catch up, and how far a blend's weight moves on. Each contract bounds the steps: settings
+// that do not pass have their answers too, so no type can.
 #[derive(Clone, Copy)]
 pub struct Rules {
     pub m: u32,

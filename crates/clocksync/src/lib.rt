@@ -34,7 +34,7 @@ pub struct Ticked {
 }
 
 // What the clock messages of an inbox have told so far: the client's number, the offset by the last of them, and whether one named
-// another client.
+// another client: a flag, since the others are there either way.
 #[derive(Clone, Copy)]
 pub struct Heard {
     pub id: Option<u32>,

@@ -16,7 +16,8 @@ use settings::Settings;
 use tape::Tape;
 use timestamp::{FloatTimestamp, Timestamp};
 
-// What an update goes by: the settings, and how far the worlds are past the client's time, in seconds.
+// What an update goes by: the settings, and how far the worlds are past the client's time, in seconds. The stamp is the worlds' and the server's time
+// that of the call, so both are handed in.
 #[derive(Clone, Copy)]
 pub struct TimeKeeper {
     pub settings: Settings,
@@ -153,7 +154,7 @@ impl TimeKeeper {
         self.timestamp_drift_seconds(stamp, server).abs() >= self.settings.skip
     }
 
-    // Frames while the overshoot is negative, 65 at most. A `while`: it tests a float and counts nothing, and how many rounds it has is not known before.
+    // Frames while the overshoot is negative, 65 at most.
     pub(crate) fn advance(self, scene: &mut Scene, tape: &mut Tape<'_>) -> Advanced
         requires { (self.settings.m ≤ most_steps) × (tape.old.at ≡ 0) }
         ensures advances { Advances (run_of most_frames self.settings scene.old self.overshoot) tape.old.words.now scene.new result tape.new.words.now }

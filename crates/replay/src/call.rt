@@ -18,6 +18,7 @@ pub enum Line {
     End,
 }
 
+// A call: each case has a meaning of its own.
 #[derive(Drop)]
 pub enum Call {
     Open(Settings),

@@ -2,6 +2,7 @@
 use std::alloc::{AllocError, AllocFailed};
 use std::io;
 
+// Each case has a meaning of its own.
 #[derive(Drop)]
 pub enum Stop {
     // a line that is no call

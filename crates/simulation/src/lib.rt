@@ -60,7 +60,7 @@ impl Simulation {
         self.commands.insert(entry)
     }
 
-    // One frame: the commands up to it are applied, the world steps, and its stamp moves on.
+    // One frame: the commands up to it are applied, the world steps, and its stamp moves on. A world does not know its side, nor has it the tape.
     pub fn step(&mut self, side: Side, tape: &mut Tape<'_>) -> Stepped
         requires { tape.old.at < 3000000000 }
         ensures does { Does (step_of self.old (side_number side)) tape.old self.new result tape.new }
