@@ -1,6 +1,6 @@
 // Where the reconciliation stands, judged from the worlds' stamps, the weight and the queued snapshot.
 ghost use Rattle.std.specs.Prelude.{◌≡◌};
-ghost use Rattle.client.specs.Status.{later_of, overshot_of, newer_of, status_of};
+ghost use Rattle.client.specs.Status.{later_of, newer_of, status_of};
 
 use super::{ClientWorldSimulations, FastforwardingHealth, QueuedSnapshot, ReconciliationStatus};
 use timestamp::Timestamp;
@@ -10,14 +10,6 @@ pub fn is_later(a: Timestamp, b: Timestamp) -> bool
     ensures { result ≡ later_of a b }
 {
     a.cmp(b).is_gt()
-}
-
-// Whether the new world is ahead of the old one.
-#[tactic(auto, unfolding(crate::specs::Status::overshot_of))]
-pub fn is_overshot(new: Timestamp, old: Timestamp) -> bool
-    ensures { result ≡ overshot_of new old }
-{
-    is_later(new, old)
 }
 
 // Whether a queued snapshot is later than the new world.
@@ -42,7 +34,7 @@ impl ClientWorldSimulations {
             }
             return ReconciliationStatus::AwaitingSnapshot;
         }
-        if is_overshot(new, old) {
+        if is_later(new, old) {
             return ReconciliationStatus::Fastforwarding(FastforwardingHealth::Overshot);
         }
         if is_snapshot_newer(self.snapshots.queued, new) {

@@ -3,6 +3,7 @@
 
 ghost use Rattle.std.specs.Prelude.{◌≡◌, ◌+◌, ◌<◌};
 ghost use Rattle.tape.specs.Sides.{side_number};
+ghost use Rattle.tape.specs.Tape.{count_end};
 ghost use Rattle.client.specs.Sides.{Plays};
 ghost use Rattle.client_load.specs.Load.{readied_with, loaded_of};
 
@@ -11,7 +12,7 @@ use tape::{Side, Tape};
 
 // A snapshot is loaded into a side, which is the new one from then on. The base is drained up to it before it is copied.
 pub fn load_snapshot(scene: &mut Scene, side: Side, snapshot: QueuedSnapshot, tape: &mut Tape<'_>)
-    requires { tape.old.at < 3000000000 }
+    requires { tape.old.at < count_end }
     ensures plays { Plays (loaded_of scene.old (side_number side) snapshot.stamp snapshot.handle) tape.old scene.new tape.new }
     ensures one { tape.new.at ≡ tape.old.at + 1 }
 {

@@ -19,7 +19,7 @@ pub fn tween_weight(overshoot: f64, timestep: f64) -> f64
 pub fn is_weight(t: f64) -> bool
     ensures { result ≡ weight_ok t }
 {
-    t >= 0.0 && t <= 1.0
+    timestamp::within(0.0, 1.0, t)
 }
 
 // The time between two stamps at a weight, not wrapped.
@@ -27,7 +27,7 @@ pub(crate) fn time_between(before: Timestamp, after: Timestamp, t: f64) -> f64
     ensures { result ≡ time_of before after t }
 {
     let from = FloatTimestamp::from(before);
-    let difference = FloatTimestamp::from(after.sub(before));
+    let difference = FloatTimestamp::from(after - before);
     from.0 + t * difference.0
 }
 
@@ -54,7 +54,7 @@ pub fn revised(last: Option<Timestamp>, old: Timestamp, lag: u16) -> Option<Time
     if l.in_comparable_range(old) && !status::is_later(l, old) {
         return last;
     }
-    Some(old.sub_frames(lag).sub_frames(lag))
+    Some(old - lag - lag)
 }
 
 // What every update ends with: the displayed time at a shaped weight, the base's stamp, and the last queued stamp.

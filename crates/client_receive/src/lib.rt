@@ -2,38 +2,20 @@
 #![tactic(auto)]
 
 ghost use Rattle.std.specs.Prelude.{◌≡◌};
-ghost use Rattle.command.specs.Buffer.{taken_by};
 ghost use Rattle.client.specs.Ledgers.{takes};
 ghost use Rattle.client_receive.specs.Inner.{any_full};
-ghost use Rattle.client_receive.specs.Receive.{full_by, received_of, from_future_of, fresh_of, noted_of, snapshots_of};
+ghost use Rattle.client_receive.specs.Receive.{received_of, fresh_of, noted_of, snapshots_of};
 
 use client::{QueuedSnapshot, Scene, Snapshots, status};
 use command::Outcome;
 use timestamp::Timestamp;
-
-// Whether an insertion found its buffer full.
-pub fn is_full(o: Outcome) -> bool
-    ensures { result ≡ full_by o }
-{
-    matches!(o, Outcome::Full)
-}
-
-// How many entries an insertion put in.
-pub fn taken_by(o: Outcome) -> usize
-    ensures { result ≡ taken_by o }
-{
-    match o {
-        Outcome::Taken => 1,
-        Outcome::OutOfRange | Outcome::Full => 0,
-    }
-}
 
 // Whether one of three insertions found its buffer full.
 #[tactic(auto, unfolding(crate::specs::Inner::any_full))]
 pub(crate) fn any_full(base: Outcome, left: Outcome, right: Outcome) -> bool
     ensures { result ≡ any_full base left right }
 {
-    is_full(base) || is_full(left) || is_full(right)
+    base.is_full() || left.is_full() || right.is_full()
 }
 
 // A command goes to the base, the old and the new world. Gives whether one of them takes it but has no room: refusal 23. None of the three looks
@@ -44,17 +26,9 @@ pub fn receive_command(scene: &mut Scene, entry: u64) -> bool
     let base = scene.worlds.base.insert(entry);
     let left = scene.worlds.left.schedule_command(entry);
     let right = scene.worlds.right.schedule_command(entry);
-    scene.left.count_taken(taken_by(left));
-    scene.right.count_taken(taken_by(right));
+    scene.left.count_taken(left.taken());
+    scene.right.count_taken(right.taken());
     any_full(base, left, right)
-}
-
-// Whether a snapshot is later than the client's stamp.
-#[tactic(auto, unfolding(crate::specs::Receive::from_future_of))]
-pub(crate) fn is_from_future(stamp: Timestamp, old: Timestamp) -> bool
-    ensures { result ≡ from_future_of stamp old }
-{
-    status::is_later(stamp, old)
 }
 
 // Whether a snapshot is later than the last one queued, where there was one.
@@ -77,7 +51,8 @@ pub(crate) fn noted(queued: Option<QueuedSnapshot>, last: Option<Timestamp>) -> 
 pub fn snapshots_with(s: Snapshots, old: Timestamp, stamp: Timestamp, handle: u32) -> Snapshots
     ensures { result ≡ snapshots_of s old stamp handle }
 {
-    if is_from_future(stamp, old) {
+    // it is from the future
+    if status::is_later(stamp, old) {
         return Snapshots {
             lastreceived: Some(stamp),
             ..s

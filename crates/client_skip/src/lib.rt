@@ -1,10 +1,11 @@
 // A skip to another stamp (`reset_last_completed_timestamp` of src/client.rs of crystalorb).
 #![tactic(auto)]
 
-ghost use Rattle.std.specs.Prelude.{◌≡◌, ◌+◌, ◌<◌, ◌≤◌};
+ghost use Rattle.std.specs.Prelude.{◌≡◌, ◌+◌, ◌*◌, ◌≤◌};
 ghost use Rattle.refusals.specs.Limits.{buffer_room};
+ghost use Rattle.tape.specs.Tape.{count_end};
 ghost use Rattle.client.specs.Sides.{Plays};
-ghost use Rattle.client_skip.specs.Skip.{reset_side, reset_along, skips_back, emptied_base, skipped_of};
+ghost use Rattle.client_skip.specs.Skip.{reset_side, reset_along, emptied_base, skipped_of};
 
 use client::Scene;
 use tape::Tape;
@@ -12,7 +13,7 @@ use timestamp::Timestamp;
 
 // The new world goes along with a skip where its stamp is the old one's.
 pub(crate) fn reset_along(scene: &mut Scene, stamp: Timestamp, tape: &mut Tape<'_>)
-    requires { tape.old.at < 3000000000 }
+    requires { tape.old.at + buffer_room ≤ count_end }
     ensures plays { Plays (reset_along scene.old stamp) tape.old scene.new tape.new }
     ensures few { tape.new.at ≤ tape.old.at + buffer_room }
 {
@@ -24,23 +25,16 @@ pub(crate) fn reset_along(scene: &mut Scene, stamp: Timestamp, tape: &mut Tape<'
     }
 }
 
-// Whether a skip goes to an earlier stamp.
-pub fn skips_back(stamp: Timestamp, old: Timestamp) -> bool
-    ensures { result ≡ skips_back stamp old }
-{
-    stamp.cmp(old).is_lt()
-}
-
 // A skip: equal stamps move together, and the base is emptied where it goes back, so that none of its commands is played at a wrong time later.
 pub fn reset_last_completed_timestamp(scene: &mut Scene, stamp: Timestamp, tape: &mut Tape<'_>)
-    requires { tape.old.at < 2500000000 }
+    requires { tape.old.at + 2 * buffer_room ≤ count_end }
     ensures { Plays (skipped_of scene.old stamp) tape.old scene.new tape.new }
 {
     let old = scene.worlds.last_completed_timestamp();
     let side = scene.worlds.old_side();
     reset_along(scene, stamp, tape);
     scene.reset_side(side, stamp, tape);
-    if skips_back(stamp, old) {
+    if stamp.cmp(old).is_lt() {
         scene.worlds.base.drain_all();
     }
 }

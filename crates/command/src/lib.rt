@@ -7,7 +7,7 @@
 ghost use Rattle.std.specs.Prelude.{◌≡◌, [], ◌∷◌, ◌++◌, not, ◌+◌, ◌≤◌, ◌<◌, length};
 ghost use Rattle.refusals.specs.Limits.{buffer_room};
 ghost use Rattle.tape.specs.Sides.{side_number};
-ghost use Rattle.tape.specs.Tape.{PutsOn};
+ghost use Rattle.tape.specs.Tape.{count_end, PutsOn};
 ghost use Rattle.command.specs.Lists.{filter_b};
 ghost use Rattle.command.specs.Entries.{entry_of, stamp_in, handle_in, plain_entry};
 ghost use Rattle.command.specs.Buffer.{held, laid, in_range_of, placed_of, inserted_of};
@@ -35,6 +35,9 @@ pub const RANKS: u32 = 65536;
 
 // An entry is its stamp times this, and its handle.
 const STAMP_PLACE: u64 = 1 << 32;
+
+// There are so many stamps.
+const STAMPS: u64 = 1 << 16;
 
 // An entry below this has no bit set above its stamp.
 const ENTRY_ROOM: u64 = 1 << 48;
@@ -75,12 +78,31 @@ pub enum Outcome {
     Full,
 }
 
+impl Outcome {
+    // Whether the buffer that takes the entry was full.
+    pub fn is_full(self) -> bool
+        ensures { result ≡ full_by self }
+    {
+        matches!(self, Outcome::Full)
+    }
+
+    // How many entries were put in.
+    pub fn taken(self) -> usize
+        ensures { result ≡ taken_by self }
+    {
+        match self {
+            Outcome::Taken => 1,
+            Outcome::OutOfRange | Outcome::Full => 0,
+        }
+    }
+}
+
 // The entry of a command: the stamp of the frame that it is for, times 2^32, and its handle.
 #[tactic(auto, unfolding(crate::specs::Entries::entry_of))]
 pub fn entry_of(stamp: Timestamp, handle: u32) -> u64
     ensures { result ≡ entry_of stamp handle }
 {
-    (stamp.0 as u64) * STAMP_PLACE + (handle as u64)
+    u64::from(stamp.0) * STAMP_PLACE + u64::from(handle)
 }
 
 // The stamp of an entry.
@@ -88,7 +110,7 @@ pub fn entry_of(stamp: Timestamp, handle: u32) -> u64
 pub fn stamp_of(entry: u64) -> Timestamp
     ensures { result.0 ≡ stamp_in entry }
 {
-    Timestamp((entry / STAMP_PLACE % 65536) as u16)
+    Timestamp((entry / STAMP_PLACE % STAMPS) as u16)
 }
 
 // The handle of an entry.
@@ -188,7 +210,7 @@ impl CommandBuffer {
 
     // Takes the same entries, and puts the command word of each on the tape, for a world, oldest first.
     pub fn apply_up_to(&mut self, s: Timestamp, side: Side, tape: &mut Tape<'_>)
-        requires { tape.old.at < 4000000000 }
+        requires { tape.old.at + buffer_room ≤ count_end }
         ensures applied { Applies self.old s (side_number side) tape.old self.new tape.new }
         ensures few { tape.new.at ≤ tape.old.at + buffer_room }
     {
@@ -214,7 +236,7 @@ impl CommandBuffer {
 
     // Takes every entry, and puts the command word of each on the tape, oldest first.
     pub fn apply_all(&mut self, side: Side, tape: &mut Tape<'_>)
-        requires { tape.old.at < 4000000000 }
+        requires { tape.old.at + buffer_room ≤ count_end }
         ensures applied { AppliesAll self.old (side_number side) tape.old self.new tape.new }
         ensures few { tape.new.at ≤ tape.old.at + buffer_room }
     {
@@ -235,14 +257,12 @@ impl CommandBuffer {
             return false;
         }
         let mut lo = 0;
-        for e in self.held() {
+        self.held().iter().all(|e| {
             let k = rank_in(*e, self.timestamp);
-            if !entry_sound(k, lo, *e) {
-                return false;
-            }
+            let sound = entry_sound(k, lo, *e);
             lo = k;
-        }
-        true
+            sound
+        })
     }
 
     // Takes an entry, where there is room, after all that are not later than it.
@@ -333,7 +353,7 @@ pub fn entry_sound(k: u32, lo: u32, entry: u64) -> bool
 fn rank_of(s: Timestamp, m: Timestamp) -> u32
     ensures { result ≡ rank_of m.0 s.0 }
 {
-    s.sub(m).add(MIDDLE).0 as u32
+    u32::from((s - m + MIDDLE).0)
 }
 
 // Whether an entry is in the accepted range around m.
@@ -353,7 +373,7 @@ pub fn rank_in(entry: u64, m: Timestamp) -> u32
 
 // Puts the command words of the entries in a span, in their order.
 fn apply_between(entries: &[u64], span: Span, side: Side, tape: &mut Tape<'_>)
-    requires { (length entries.now ≤ buffer_room) × (tape.old.at < 4000000000) }
+    requires { (length entries.now ≤ buffer_room) × (tape.old.at + buffer_room ≤ count_end) }
     ensures { PutsOn tape.old (command_words (side_number side) (filter_b (rank_within span.around span.from span.end) entries.now)) tape.new }
 {
     for e in entries {

@@ -40,8 +40,8 @@ fn counted(span: u64, p: u32, q: u32) -> SpanFrames
     requires { span_passes span p q ≡ true }
     ensures { result ≡ counted_of span p q }
 {
-    let parts = span * p as u64;
-    let frame = q as u64 * SECOND;
+    let parts = span * u64::from(p);
+    let frame = u64::from(q) * SECOND;
     SpanFrames {
         frames: parts / frame,
         remainder: parts % frame,

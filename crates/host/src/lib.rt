@@ -46,10 +46,10 @@ pub fn kadwunge_stamp_order(first: i16, second: i16) -> i32
 pub fn kadwunge_frame_stamp(seconds: f64, timestep: f64) -> i32
     ensures { result ≡ frame_stamp_of seconds timestep }
 {
-    if !settings::within(SHORTEST_TIMESTEP, LONGEST_TIMESTEP, timestep) {
+    if !timestamp::within(SHORTEST_TIMESTEP, LONGEST_TIMESTEP, timestep) {
         return TIMESTEP_OUT_OF_RANGE;
     }
-    if !settings::within(-LONGEST_TIME, LONGEST_TIME, seconds) {
+    if !timestamp::within(-LONGEST_TIME, LONGEST_TIME, seconds) {
         return SECONDS_OUT_OF_RANGE;
     }
     i32::from(i16::from(Timestamp::from_seconds(seconds, timestep)))
@@ -100,39 +100,30 @@ fn mean_of_bytes(needed: u32, rate: f64, samples: &[u8], room: usize) -> Result<
     require(settings::samples_pass(needed, rate), Refusal::Settings)?;
     let n = settings::store_count(needed, rate);
     require(samples.len() == 8 * n && room == 8, Refusal::Samples)?;
-    mean_of_first(samples, n, settings::discard_count(needed, rate))
+    let (words, _) = samples.as_chunks::<8>();
+    mean_of_words(words, settings::discard_count(needed, rate))
 }
 
-// The mean of the first n samples of bytes, where each is finite and within 2^33.
-fn mean_of_first(samples: &[u8], n: usize, discard: usize) -> Result<f64, Refusal>
-    requires { (n ≤ sample_room) × (8 * n ≤ length samples.now) }
-    ensures { result ≡ judged_mean discard (floats_of samples.now n) }
+// The mean of samples of 8 bytes each, where each is finite and within 2^33.
+fn mean_of_words(words: &[[u8; 8]], discard: usize) -> Result<f64, Refusal>
+    requires { length words.now ≤ sample_room }
+    ensures { result ≡ judged_mean discard (map float_in words.now) }
 {
     let mut room = [0.0; SAMPLE_ROOM];
-    let floats = &mut room[..n];
-    read_floats(samples, floats);
+    let floats = &mut room[..words.len()];
+    read_floats(words, floats);
     require(mean::all_sound(floats), Refusal::Samples)?;
     Ok(mean::mean_of(floats, discard))
 }
 
-// Reads as many floats of bytes as there is room for.
-fn read_floats(bytes: &[u8], out: &mut [f64])
-    requires { 8 * length out.old ≤ length bytes.now }
-    ensures { out.new ≡ floats_of bytes.now (length out.old) }
+// Reads a float of each word, low byte first.
+fn read_floats(words: &[[u8; 8]], out: &mut [f64])
+    requires { length out.old ≡ length words.now }
+    ensures { out.new ≡ map float_in words.now }
 {
-    for i in 0..out.len() {
-        out[i] = std::num::f64_from_bits_with_nan(word_at(bytes, 8 * i));
+    for (float, word) in out.iter_mut().zip(words) {
+        *float = std::num::f64_from_bits_with_nan(u64::from_le_bytes(*word));
     }
-}
-
-// The number in the 8 bytes at a place, low byte first.
-fn word_at(bytes: &[u8], at: usize) -> u64
-    requires { at + 8 ≤ length bytes.now }
-    ensures { result ≡ word_at bytes.now at }
-{
-    let mut word = [0; 8];
-    word.copy_from_slice(&bytes[at..at + 8]);
-    u64::from_le_bytes(word)
 }
 
 // Writes a number into 8 bytes, low byte first.

@@ -3,7 +3,6 @@
 #![tactic(auto)]
 
 ghost use Rattle.std.specs.Prelude.{◌≡◌, ◌+◌, ◌^◌, ◌≤◌, ◌<◌, length, drop};
-ghost use Rattle.timestamp.specs.Floats.{time_ok};
 ghost use Rattle.inbox.specs.Inbox.{due_word_of, head_of, joined_of, float_bits_of, inbox_time_of, clock_of, read_at};
 ghost use Rattle.inbox.specs.Inner.{step_of};
 
@@ -157,8 +156,8 @@ fn join(high: u32, middle: u32, low: u32) -> u64
     requires low_fits { low < VALUE_ROOM }
     ensures { result ≡ joined_of high middle low }
 {
-    let room = VALUE_ROOM as u64;
-    (high as u64 * room + middle as u64) * room + low as u64
+    let room = u64::from(VALUE_ROOM);
+    (u64::from(high) * room + u64::from(middle)) * room + u64::from(low)
 }
 
 // A clock message, both of whose times have to be in range.
@@ -177,13 +176,7 @@ fn time_of(bits: u64) -> Result<f64, Refusal>
     ensures { result ≡ inbox_time_of bits }
 {
     let time = std::num::f64_from_bits_with_nan(bits);
-    refusals::require(is_time(time), Refusal::ClockTime)?;
+    let in_range = timestamp::within(-refusals::LONGEST_TIME, refusals::LONGEST_TIME, time);
+    refusals::require(in_range, Refusal::ClockTime)?;
     Ok(time)
-}
-
-// Whether a float is within 2^32 on both sides of 0.
-fn is_time(x: f64) -> bool
-    ensures { result ≡ time_ok x }
-{
-    x >= -refusals::LONGEST_TIME && x <= refusals::LONGEST_TIME
 }

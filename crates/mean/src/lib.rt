@@ -42,8 +42,8 @@ fn insert(samples: &mut [f64], x: f64)
     let last = samples.len() - 1;
     let start = place(&samples[..last], x);
     let mut moved = x;
-    for i in start..samples.len() {
-        moved = std::mem::replace(&mut samples[i], moved);
+    for slot in &mut samples[start..] {
+        moved = std::mem::replace(slot, moved);
     }
 }
 
@@ -66,7 +66,7 @@ fn sum(samples: &[f64]) -> f64
 pub fn sample_sound(x: f64) -> bool
     ensures { result ≡ sample_ok x }
 {
-    settings::within(-refusals::LARGEST_SAMPLE, refusals::LARGEST_SAMPLE, x)
+    timestamp::within(-refusals::LARGEST_SAMPLE, refusals::LARGEST_SAMPLE, x)
 }
 
 // Whether each of the samples is.

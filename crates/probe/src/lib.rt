@@ -9,20 +9,20 @@ ghost use Rattle.timestamp.specs.FloatTimestamps.{from_unwrapped, from_seconds, 
 
 use timestamp::{FloatTimestamp, Timestamp};
 
-// Timestamp::add
+// Timestamp + u16
 #[unsafe(no_mangle)]
 pub extern "C" fn probe_add(s: u16, n: u16) -> u16
     ensures { result ≡ sum_of s n }
 {
-    Timestamp(s).add(n).0
+    (Timestamp(s) + n).0
 }
 
-// Timestamp::sub
+// Timestamp - Timestamp
 #[unsafe(no_mangle)]
 pub extern "C" fn probe_sub(a: u16, b: u16) -> u16
     ensures { result ≡ difference_of a b }
 {
-    Timestamp(a).sub(Timestamp(b)).0
+    (Timestamp(a) - Timestamp(b)).0
 }
 
 // Timestamp::in_comparable_range
@@ -73,12 +73,12 @@ pub extern "C" fn probe_from_timestamp(t: u16) -> f64
     FloatTimestamp::from(Timestamp(t)).0
 }
 
-// FloatTimestamp::sub
+// FloatTimestamp - FloatTimestamp
 #[unsafe(no_mangle)]
 pub extern "C" fn probe_float_sub(x: f64, y: f64) -> f64
     ensures { result ≡ float_difference_of x y }
 {
-    FloatTimestamp(x).sub(FloatTimestamp(y)).0
+    (FloatTimestamp(x) - FloatTimestamp(y)).0
 }
 
 // FloatTimestamp::as_seconds

@@ -26,8 +26,8 @@ use settings::Settings;
 pub fn times_ok(delta: f64, seconds: f64) -> bool
     ensures { result ≡ times_ok delta seconds }
 {
-    settings::within(-refusals::HOUR, refusals::HOUR, delta)
-        && settings::within(-refusals::LONGEST_TIME, refusals::LONGEST_TIME, seconds)
+    timestamp::within(-refusals::HOUR, refusals::HOUR, delta)
+        && timestamp::within(-refusals::LONGEST_TIME, refusals::LONGEST_TIME, seconds)
 }
 
 // What an inbox holds for a session: it is read once.

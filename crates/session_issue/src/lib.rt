@@ -47,7 +47,7 @@ impl Issued {
 pub fn issue(session: &mut Session, handle: u32) -> Issued
     ensures { issue_with session.new result ≡ issue_of session.old handle }
 {
-    let stamp = session.worlds.last_completed_timestamp().add(1);
+    let stamp = session.worlds.last_completed_timestamp() + 1;
     let mut scene = session.scene();
     let full = client_receive::receive_command(&mut scene, command::entry_of(stamp, handle));
     let verdict = refusals::of_issue(

@@ -57,7 +57,7 @@ pub(crate) fn weight_sound(w: &ClientWorldSimulations) -> bool
     ensures { result ≡ weight_sound w.now }
 {
     if w.last_completed_timestamp() == w.new_timestamp() {
-        return settings::within(0.0, 1.0, w.weight);
+        return timestamp::within(0.0, 1.0, w.weight);
     }
     w.weight == 0.0
 }
@@ -92,7 +92,7 @@ pub(crate) fn worlds_sound(w: &ClientWorldSimulations) -> bool
 pub fn overshoot_sound(overshoot: f64, timestep: f64) -> bool
     ensures { result ≡ overshoot_sound overshoot timestep }
 {
-    settings::within(0.0, timestep, overshoot)
+    timestamp::within(0.0, timestep, overshoot)
 }
 
 // Once worlds exist there is an offset and an id; before, there is no offset.

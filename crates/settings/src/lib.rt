@@ -6,11 +6,11 @@ ghost use Rattle.std.specs.Prelude.{◌≡◌};
 ghost use Rattle.timestamp.specs.Timestamps.{bits_of};
 ghost use Rattle.settings.specs.Settings.{lag_frames_of, at_least_one, discard_of, store_of};
 ghost use Rattle.settings.specs.Settings.{seconds_pass, thresholds_pass, samples_pass, counts_pass, passes_of};
-ghost use Rattle.timestamp.specs.Floats.{between};
 ghost use Rattle.settings.specs.Settings.{lag_frame_count_of, blend_progress_of, samples_to_discard_of, samples_to_store_of};
 ghost use Rattle.settings.specs.Tweening.{method_of, known_of, shaped_of};
 
 use refusals::{LONGEST_LATENCY, LONGEST_TIMESTEP, SHORTEST_TIMESTEP};
+use timestamp::within;
 
 // How the displayed state is chosen between the two frames next to the present time.
 #[derive(Clone, Copy)]
@@ -125,13 +125,6 @@ impl Settings {
     }
 }
 
-// x is from lo to hi. A NaN is not.
-pub fn within(lo: f64, hi: f64, x: f64) -> bool
-    ensures { result ≡ between lo hi x }
-{
-    x >= lo && x <= hi
-}
-
 // How many frames of the timestep a lag is.
 #[tactic(auto, unfolding(crate::specs::Settings::lag_frames_of, timestamp::specs::FloatTimestamps::stamp_of))]
 pub(crate) fn lag_frames(lag: f64, timestep: f64) -> i16
@@ -156,7 +149,7 @@ fn at_least_one(x: f64) -> f64
     if x > 1.0 { x } else { 1.0 }
 }
 
-// How many samples are stored: those needed and those left out at both ends.
+// How many samples are stored: those needed and those left out at both ends. The cast is no `usize::from`, since std has none of a u32.
 pub fn store_count(needed: u32, rate: f64) -> usize
     ensures { result ≡ store_of needed rate }
 {

@@ -6,7 +6,8 @@
 ghost use Rattle.std.specs.Prelude.{◌≡◌, ◌+◌, ◌<◌, ◌≤◌};
 ghost use Rattle.refusals.specs.Limits.{buffer_room};
 ghost use Rattle.tape.specs.Sides.{side_number};
-ghost use Rattle.simulation.specs.World.{new_world, scheduled_of, step_of, resets_back, reset_of, load_of, Does, Loads};
+ghost use Rattle.tape.specs.Tape.{count_end};
+ghost use Rattle.simulation.specs.World.{new_world, scheduled_of, step_of, reset_of, load_of, Does, Loads};
 
 use command::{CommandBuffer, Outcome};
 use tape::{Side, Tape, snapshot_word, step_word};
@@ -62,11 +63,11 @@ impl Simulation {
 
     // One frame: the commands up to it are applied, the world steps, and its stamp moves on. A world does not know its side, nor has it the tape.
     pub fn step(&mut self, side: Side, tape: &mut Tape<'_>) -> Stepped
-        requires { tape.old.at < 3000000000 }
+        requires { tape.old.at + buffer_room + 1 ≤ count_end }
         ensures does { Does (step_of self.old (side_number side)) tape.old self.new result tape.new }
         ensures few { tape.new.at ≤ tape.old.at + buffer_room + 1 }
     {
-        let next = self.commands.timestamp.add(1);
+        let next = self.commands.timestamp + 1;
         let start = tape.at;
         self.commands.apply_up_to(next, side, tape);
         let applied = tape.at - start;
@@ -84,7 +85,7 @@ impl Simulation {
         side: Side,
         tape: &mut Tape<'_>,
     ) -> Loaded
-        requires { tape.old.at < 3000000000 }
+        requires { tape.old.at < count_end }
         ensures { Loads (load_of self.old base.now stamp) (side_number side) handle tape.old self.new result tape.new }
     {
         tape.put(snapshot_word(side, handle));
@@ -106,11 +107,11 @@ impl Simulation {
         side: Side,
         tape: &mut Tape<'_>,
     ) -> Stepped
-        requires { tape.old.at < 3000000000 }
+        requires { tape.old.at + buffer_room ≤ count_end }
         ensures does { Does (reset_of self.old stamp (side_number side)) tape.old self.new result tape.new }
         ensures few { tape.new.at ≤ tape.old.at + buffer_room }
     {
-        let back = resets_back(stamp, self.commands.timestamp);
+        let back = stamp.cmp(self.commands.timestamp).is_lt();
         let leftout = self.commands.update_timestamp(stamp);
         if !back {
             return Stepped {
@@ -125,11 +126,4 @@ impl Simulation {
             leftout,
         }
     }
-}
-
-// Whether a reset from the stamp `now` goes back.
-pub fn resets_back(stamp: Timestamp, now: Timestamp) -> bool
-    ensures { result ≡ resets_back stamp now }
-{
-    stamp.cmp(now).is_lt()
 }

@@ -1,6 +1,6 @@
 -- What stands on a tape, as document 01 has it under "Inbox and tape": words put on it from a place on, and zeros past the last one.
 -- Definitions only. Assumes nothing.
-use Rattle.std.specs.Prelude.{ℕ, ◌+◌, ◌-◌, ◌≡◌, List, length, replicate}
+use Rattle.std.specs.Prelude.{ℕ, ◌+◌, ◌-◌, ◌^◌, ◌≡◌, List, length, replicate}
 use Rattle.std.proofs.lemmas.List.Edits.{sets}
 use Rattle.tape.specs.declared.Tape.{Tape}
 
@@ -15,6 +15,10 @@ words_from tape from = length tape - from
 -- the tape with zeros from a place to its end
 unfoldable pub cleared : List ℕ → ℕ → List ℕ
 cleared tape from = written tape from (replicate (words_from tape from) 0)
+
+-- the count of a tape's words stays below this or is this
+abbrev pub count_end : ℕ
+count_end = 2 ^ 32
 
 -- words put on the tape `was` from a place on: the next place counts them all, and the tape has those that fit
 pub record Puts (was : List ℕ) (place : ℕ) (words : List ℕ) (next : ℕ) (last : List ℕ) : Type 0 where

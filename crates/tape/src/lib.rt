@@ -2,10 +2,11 @@
 // so that the count says how long the tape should have been. The Rust has no such thing: the tape stands for the calls on its `World`.
 #![tactic(auto)]
 
-ghost use Rattle.std.specs.Prelude.{◌≡◌, [], ◌∷◌, ◌<◌};
+ghost use Rattle.std.specs.Prelude.{◌≡◌, [], ◌∷◌, ◌+◌, ◌%◌, ◌<◌, ◌≤◌};
+ghost use Rattle.refusals.specs.Limits.{handle_room};
 ghost use Rattle.tape.specs.Sides.{side_number, side_named, other_of};
 ghost use Rattle.tape.specs.Words.{side_bit, step_word, command_word, snapshot_word, publish_word, mix_word, none_word, weight_word, weight_words, mix_words};
-ghost use Rattle.tape.specs.Tape.{Puts, PutsOn, cleared};
+ghost use Rattle.tape.specs.Tape.{count_end, PutsOn, cleared};
 
 // One of the two worlds.
 #[derive(Clone, Copy, PartialEq, Eq)]
@@ -35,8 +36,8 @@ impl From<u32> for Side {
     }
 }
 
-// A tape that is lent, and the place of its next word. Each function that puts words on it bounds that place, so that the count fits the machine; an
-// invariant cannot, since each word adds one.
+// A tape that is lent, and the place of its next word. Each function that puts words on it asks that the count has room for them; an invariant cannot say
+// that, since each word adds one.
 #[derive(Drop)]
 pub struct Tape<'a> {
     pub words: &'a mut [u32],
@@ -46,15 +47,18 @@ pub struct Tape<'a> {
 impl Tape<'_> {
     // Puts one word, where there is room; the next place is counted in any case.
     pub fn put(&mut self, word: u32)
-        requires { self.old.at < 4294967296 }
+        requires { self.old.at < count_end }
         ensures { PutsOn self.old (word ∷ []) self.new }
     {
-        self.at = put(self.words, self.at, word);
+        if self.at < self.words.len() {
+            self.words[self.at] = word;
+        }
+        self.at += 1;
     }
 
     // Puts the four words of a mix: its own, and the three of its weight.
     pub fn put_mix(&mut self, weight: f64)
-        requires { self.old.at < 4000000000 }
+        requires { self.old.at + 4 ≤ count_end }
         ensures { PutsOn self.old (mix_words weight) self.new }
     {
         let bits = std::num::f64_to_bits_with_nan(weight);
@@ -64,24 +68,13 @@ impl Tape<'_> {
 
     // Puts the three words of a weight's bits, the high one first.
     fn put_weight(&mut self, bits: u64)
-        requires { self.old.at < 4000000001 }
+        requires { self.old.at + 3 ≤ count_end }
         ensures { PutsOn self.old (weight_words bits) self.new }
     {
         self.put(weight_word(bits / HIGHEST_PART));
         self.put(weight_word(bits / WEIGHT_PART));
         self.put(weight_word(bits));
     }
-}
-
-// Puts one word at a place, where there is room. Gives the next place.
-fn put(tape: &mut [u32], at: usize, word: u32) -> usize
-    requires { at < 4294967296 }
-    ensures { Puts tape.old at (word ∷ []) result tape.new }
-{
-    if at < tape.len() {
-        tape[at] = word;
-    }
-    at + 1
 }
 
 // Zeroes the tape from a place to its end.
@@ -126,12 +119,28 @@ fn side_bit(side: Side) -> u32
     }
 }
 
+// The word of a kind for a world.
+fn sided(kind: u32, side: Side) -> u32
+    requires { kind ≤ PUBLISH }
+    ensures { result ≡ kind + side_bit (side_number side) }
+{
+    kind + side_bit(side)
+}
+
+// The word of a kind for a world, with a handle.
+fn handled(kind: u32, side: Side, handle: u32) -> u32
+    requires { kind ≤ PUBLISH }
+    ensures { result ≡ kind + (side_bit (side_number side) + handle % handle_room) }
+{
+    sided(kind, side) + handle % refusals::HANDLE_ROOM
+}
+
 // The word for a step of a world.
 #[tactic(auto, unfolding(crate::specs::Words::step_word))]
 pub fn step_word(side: Side) -> u32
     ensures { result ≡ step_word (side_number side) }
 {
-    STEP + side_bit(side)
+    sided(STEP, side)
 }
 
 // The word for a command applied to a world.
@@ -139,7 +148,7 @@ pub fn step_word(side: Side) -> u32
 pub fn command_word(side: Side, handle: u32) -> u32
     ensures { result ≡ command_word (side_number side) handle }
 {
-    COMMAND + side_bit(side) + handle % refusals::HANDLE_ROOM
+    handled(COMMAND, side, handle)
 }
 
 // The word for a snapshot loaded into a world.
@@ -147,7 +156,7 @@ pub fn command_word(side: Side, handle: u32) -> u32
 pub fn snapshot_word(side: Side, handle: u32) -> u32
     ensures { result ≡ snapshot_word (side_number side) handle }
 {
-    SNAPSHOT + side_bit(side) + handle % refusals::HANDLE_ROOM
+    handled(SNAPSHOT, side, handle)
 }
 
 // The word for the publishing of a world as it is.
@@ -155,7 +164,7 @@ pub fn snapshot_word(side: Side, handle: u32) -> u32
 pub fn publish_word(side: Side) -> u32
     ensures { result ≡ publish_word (side_number side) }
 {
-    PUBLISH + side_bit(side)
+    sided(PUBLISH, side)
 }
 
 // The word for the publishing of a mix of the two worlds.

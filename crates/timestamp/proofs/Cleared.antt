@@ -8,7 +8,7 @@ use native.Mathlib.Nat.{eq_of_mul-eq-mul_right}
 use lib.Pow.{field}
 use lib.Bits.{and_mask, bit_and}
 use lib.Arith.{digits_div, digits_mod}
-use lib.Ieee.{Float, nan, inf, fin, binary64, up, down, round, odd, ne, is_nan, of_fields, of_bits, nan_bits}
+use lib.Ieee.{Float, nan, inf, fin, binary64, up, down, round, odd, is_nan, of_fields, of_bits, nan_bits}
 use lib.Ieee.Fits.{round-fits, down_pos}
 use lib.Ieee.Bits.{of_bits-fits}
 use lib.Ieee.Exact.{HasValue, odd_sign, round_exact}
@@ -52,12 +52,12 @@ expo b = b / 2 ^ 52 % 2 ^ 11
 pub expo_is : (b : ℕ) → bit_and (b / 2 ^ 52) 2047 ≡ expo b
 expo_is b = and_mask (b / 2 ^ 52) 11
 
--- a value that equals itself is a number
-pub no_nan_of : (x : Float) → ne x x ≡ false → T (not (is_nan x))
-unfolding is_nan ne
-no_nan_of nan h = subst T h tt
-no_nan_of (inf s) h = tt
-no_nan_of (fin s m e) h = tt
+-- there is one NaN
+pub nan_of : (x : Float) → is_nan x ≡ true → x ≡ nan
+unfolding is_nan
+nan_of nan h = refl
+nan_of (inf s) h = absurd (subst T (sym h) tt)
+nan_of (fin s m e) h = absurd (subst T (sym h) tt)
 
 pub of_bits_is : (b : ℕ) → of_bits binary64 b ≡ of_fields binary64 (sign b) (expo b) (b % 2 ^ 52)
 unfolding of_bits

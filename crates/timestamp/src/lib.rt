@@ -7,57 +7,68 @@ ghost use Rattle.std.specs.Prelude.{◌≡◌};
 ghost use Rattle.std.specs.Float.{binary64};
 ghost use Rattle.std.specs.Float.Ieee.{rem};
 ghost use Rattle.timestamp.specs.Timestamps.{sum_of, difference_of, signed_of, bits_of, order_of, in_range};
+ghost use Rattle.timestamp.specs.Floats.{between};
 ghost use Rattle.timestamp.specs.Whole.{trunc_of, ceil_of, floor_of, round_of};
 ghost use Rattle.timestamp.specs.FloatTimestamps.{from_unwrapped, from_seconds, float_difference_of, as_seconds, float_of, stamp_of, ceil_stamp_of, cycle64};
 
 use std::cmp::Ordering;
+use std::ops::{Add, Sub};
 
 // The stamp of a frame: 16 bits, read as a signed number by `i16::from` alone.
 #[derive(Clone, Copy, PartialEq, Eq)]
 pub struct Timestamp(pub u16);
 
-impl Timestamp {
-    // The stamp n frames later, modulo 65,536.
-    pub fn add(self, n: u16) -> Timestamp
-        ensures { result.0 ≡ sum_of self.0 n }
-    {
+// The stamp n frames later, modulo 65,536.
+impl Add<u16> for Timestamp {
+    type Output = Timestamp;
+
+    ghost add_gives = { λ s n t. t.0 ≡ sum_of s.0 n };
+
+    fn add(self, n: u16) -> Timestamp {
         Timestamp(self.0.wrapping_add(n))
     }
+}
 
-    // How many frames the stamp is after the other, modulo 65,536.
-    pub fn sub(self, other: Timestamp) -> Timestamp
-        ensures { result.0 ≡ difference_of self.0 other.0 }
-    {
-        Timestamp(self.0.wrapping_sub(other.0))
-    }
+// The stamp n frames earlier, modulo 65,536.
+impl Sub<u16> for Timestamp {
+    type Output = Timestamp;
 
-    // The stamp n frames earlier, modulo 65,536.
-    pub fn sub_frames(self, n: u16) -> Timestamp
-        ensures { result.0 ≡ difference_of self.0 n }
-    {
+    ghost sub_gives = { λ s n t. t.0 ≡ difference_of s.0 n };
+
+    fn sub(self, n: u16) -> Timestamp {
         Timestamp(self.0.wrapping_sub(n))
     }
+}
 
+// How many frames the stamp is after the other, modulo 65,536.
+impl Sub for Timestamp {
+    type Output = Timestamp;
+
+    ghost sub_gives = { λ a b d. d.0 ≡ difference_of a.0 b.0 };
+
+    fn sub(self, other: Timestamp) -> Timestamp {
+        self - other.0
+    }
+}
+
+// Stamps are compared up to so many frames before the midpoint of their range, and up to one less after it.
+const COMPARABLE: i16 = i16::MAX / 2;
+
+impl Timestamp {
     // The order of two stamps: the sign of their signed difference. Of two that are 32,768 apart each is less than the other, so this is no `Ord`.
+    #[tactic(auto, unfolding(crate::specs::Timestamps::order_of))]
     pub fn cmp(self, other: Timestamp) -> Ordering
         ensures { result ≡ order_of self.0 other.0 }
     {
-        let d = self.sub(other).0;
-        if d == 0 {
-            Ordering::Equal
-        } else if d < 32768 {
-            Ordering::Greater
-        } else {
-            Ordering::Less
-        }
+        i16::from(self - other).cmp(&0)
     }
 
-    // Whether the stamp is in the range around the midpoint in which stamps are compared: 16,383 before to 16,382 after it.
+    // Whether the stamp is in the range around the midpoint in which stamps are compared.
+    #[tactic(auto, unfolding(crate::specs::Timestamps::in_range))]
     pub fn in_comparable_range(self, midpoint: Timestamp) -> bool
         ensures { result ≡ in_range midpoint.0 self.0 }
     {
-        let d = self.sub(midpoint).0;
-        d <= 16382 || d >= 49153
+        (-COMPARABLE..COMPARABLE).contains(&i16::from(self - midpoint))
     }
 
     // The stamp of a time, its frame count cut toward zero. A time has two numbers here, so this is no `From`.
@@ -113,13 +124,6 @@ impl FloatTimestamp {
         }
     }
 
-    // The difference of two frame counts, wrapped.
-    pub fn sub(self, other: FloatTimestamp) -> FloatTimestamp
-        ensures { result.0 ≡ float_difference_of self.0 other.0 }
-    {
-        FloatTimestamp::from_unwrapped(self.0 - other.0)
-    }
-
     // The frame count in seconds.
     pub fn as_seconds(self, timestep: f64) -> f64
         ensures { result ≡ as_seconds self.0 timestep }
@@ -143,6 +147,17 @@ impl FloatTimestamp {
     }
 }
 
+// The difference of two frame counts, wrapped.
+impl Sub for FloatTimestamp {
+    type Output = FloatTimestamp;
+
+    ghost sub_gives = { λ x y d. d.0 ≡ float_difference_of x.0 y.0 };
+
+    fn sub(self, other: FloatTimestamp) -> FloatTimestamp {
+        FloatTimestamp::from_unwrapped(self.0 - other.0)
+    }
+}
+
 // The frame count of a stamp.
 impl From<Timestamp> for FloatTimestamp {
     ghost from_gives = { λ t x. x.0 ≡ float_of t.0 };
@@ -159,7 +174,7 @@ fn remainder(x: f64) -> f64
     ensures { result ≡ rem binary64 x cycle64 }
 {
     // a NaN has no bits to work on
-    if x != x {
+    if x.is_nan() {
         return x;
     }
     let bits = f64::to_bits(x);
@@ -189,7 +204,7 @@ pub fn trunc(x: f64) -> f64
     ensures { result ≡ trunc_of x }
 {
     // a NaN has no bits to work on
-    if x != x {
+    if x.is_nan() {
         return x;
     }
     let bits = f64::to_bits(x);
@@ -237,4 +252,11 @@ pub fn round(x: f64) -> f64
         return t - 1.0;
     }
     t
+}
+
+// Whether x is from lo to hi. A NaN is not.
+pub fn within(lo: f64, hi: f64, x: f64) -> bool
+    ensures { result ≡ between lo hi x }
+{
+    x >= lo && x <= hi
 }

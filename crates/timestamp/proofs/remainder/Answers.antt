@@ -1,19 +1,18 @@
 -- `remainder` meets its contract: the bits below 65,536 are shifted out, and zeros in, and what is over them is left (proofs/Multiple.antt). Assumes nothing.
 use Rattle.std.proofs.Common.{◌≡◌, ℕ, ◌+◌, ◌-◌, ◌/◌, ◌*◌, ◌%◌, ◌^◌, ◌<◌, ◌≤◌, true, not, T, sym, ap, ◌∙◌, subst, arith}
 use lib.Bits.{bit_and}
-use lib.Ieee.{Float, binary64, ne, fits, to_bits, of_bits, nan_bits, rem, sub}
+use lib.Ieee.{Float, binary64, is_nan, fits, to_bits, of_bits, nan_bits, rem, sub}
 use lib.Ieee.Bits.{of_bits-to_bits, to_bits-lt}
-use lib.Ieee.Compare.{differs_from_itself}
 use Rattle.timestamp.specs.FloatTimestamps.{cycle64}
-use Rattle.timestamp.proofs.Cleared.{expo, expo_is, no_nan_of, shifted_back}
+use Rattle.timestamp.proofs.Cleared.{expo, expo_is, nan_of, shifted_back}
 use Rattle.timestamp.proofs.Patterns.{no_nan}
 use Rattle.timestamp.proofs.Multiple.{below_cycle, no_remainder, multiple_alone, kept_no_nan, nothing_left, taken_off}
 use Rattle.timestamp.proofs.remainder.Goals as goal
 use Rattle.timestamp.proofs.remainder.Goals.{Start, Else-exponent-gt1091}
 
-nan-left : (x : Float) → ne x x ≡ true → x ≡ rem binary64 x cycle64
+nan-left : (x : Float) → is_nan x ≡ true → x ≡ rem binary64 x cycle64
 unfolding rem
-nan-left x h = let e = differs_from_itself x (subst T (sym h) tt) in e ∙ ap (λ (z : Float). rem binary64 z cycle64) (sym e)
+nan-left x h = nan_of x h ∙ ap (λ (z : Float). rem binary64 z cycle64) (sym (nan_of x h))
 
 held : (c : Start) → T (fits binary64 c.args.x)
 held c = subst T (sym c.well_formed.0.1) tt
@@ -30,22 +29,19 @@ within : (c : Start) → bits c < 2 ^ 64
 unfolding bits
 within c = to_bits-lt binary64 c.args.x (held c)
 
-pub returns-then-x : goal.returns-then-x
-returns-then-x c = nan-left c.args.x c.if-x.true
-
-pub float_to_bits-bits : goal.float_to_bits-bits
-float_to_bits-bits c = no_nan_of c.args.x c.if-x.false
+pub returns-then-is_nan : goal.returns-then-is_nan
+returns-then-is_nan c = nan-left c.args.x (sym c.is_nan.ensures.value ∙ c.if-is_nan.true)
 
 pub returns-then-exponent-lt1039 : goal.returns-then-exponent-lt1039
 unfolding bits
 returns-then-exponent-lt1039 c =
-    let s = c.before.before in
+    let s = c.before.before.before in
     subst (λ (z : Float). z ≡ rem binary64 z cycle64) (is s) (below_cycle (bits s) (omega (arith, expo_is (bits s), c.if-exponent-lt1039.true)))
 
 pub returns-then-exponent-eq2047 : goal.returns-then-exponent-eq2047
 unfolding bits
 returns-then-exponent-eq2047 c =
-    let s = c.before.before.before in
+    let s = c.before.before.before.before in
     subst (λ (z : Float). sub binary64 z z ≡ rem binary64 z cycle64) (is s) (no_remainder (bits s) (sym (expo_is (bits s)) ∙ c.if-exponent-eq2047.true))
 
 -- the sign's bit alone is no NaN's pattern, and is within 64 bits
@@ -54,24 +50,24 @@ sign_no_nan b h = subst (λ (n : ℕ). T (not (nan_bits binary64 n))) (sym (shif
 
 pub float_from_bits-result : goal.float_from_bits-result
 unfolding bits
-float_from_bits-result c = let s = c.before.before.before.before in sign_no_nan (bits s) (within s)
+float_from_bits-result c = let s = c.before.before.before.before.before in sign_no_nan (bits s) (within s)
 
 pub returns-then-exponent-gt1091 : goal.returns-then-exponent-gt1091
 unfolding bits
 returns-then-exponent-gt1091 c =
-    let s = c.before.before.before.before in
+    let s = c.before.before.before.before.before in
     ap (of_bits binary64) (shifted_back (bits s) 63 (within s))
     ∙ multiple_alone (bits s) (within s) (omega (arith, expo_is (bits s), c.if-exponent-gt1091.true)) (λ e. c.if-exponent-eq2047.false (expo_is (bits s) ∙ e))
     ∙ ap (λ (z : Float). rem binary64 z cycle64) (is s)
 
 pub float_from_bits-result-then-multiple-bits : goal.float_from_bits-result-then-multiple-bits
 unfolding bits
-float_from_bits-result-then-multiple-bits c = let s = c.before.before.before.before.before in sign_no_nan (bits s) (within s)
+float_from_bits-result-then-multiple-bits c = let s = c.before.before.before.before.before.before in sign_no_nan (bits s) (within s)
 
 -- ---- from 2 ^ 16 to 2 ^ 69 in size
 module _ (c : Else-exponent-gt1091) where
   s : Start
-  s = c.before.before.before.before
+  s = c.before.before.before.before.before
 
   -- the number of bits that are shifted out
   abbrev k : ℕ

@@ -1,16 +1,15 @@
 -- `trunc` meets its contract: the bits below the point are shifted out, and zeros in (proofs/Cleared.antt). Assumes nothing.
 use Rattle.std.proofs.Common.{◌≡◌, ℕ, ◌^◌, ◌<◌, true, T, sym, ap, ◌∙◌, subst, inl, inr, arith}
-use lib.Ieee.{Float, binary64, ne, fits, to_bits, of_bits}
+use lib.Ieee.{Float, binary64, is_nan, fits, to_bits, of_bits}
 use lib.Ieee.Bits.{of_bits-to_bits, to_bits-lt}
-use lib.Ieee.Compare.{differs_from_itself}
 use Rattle.timestamp.specs.Whole.{trunc_of}
-use Rattle.timestamp.proofs.Cleared.{expo_is, no_nan_of, Clears, clears_lt, shifted_whole, shifted_no_nan, large}
+use Rattle.timestamp.proofs.Cleared.{expo_is, nan_of, Clears, clears_lt, shifted_whole, shifted_no_nan, large}
 use Rattle.timestamp.proofs.trunc.Goals as goal
 use Rattle.timestamp.proofs.trunc.Goals.{Joined-below_one, Start, then-below_one, else-below_one}
 
-nan-stays : (x : Float) → ne x x ≡ true → x ≡ trunc_of x
+nan-stays : (x : Float) → is_nan x ≡ true → x ≡ trunc_of x
 unfolding trunc_of
-nan-stays x h = let e = differs_from_itself x (subst T (sym h) tt) in e ∙ ap trunc_of (sym e)
+nan-stays x h = nan_of x h ∙ ap trunc_of (sym (nan_of x h))
 
 held : (c : Start) → T (fits binary64 c.args.x)
 held c = subst T (sym c.well_formed.0.1) tt
@@ -27,22 +26,19 @@ within : (c : Start) → bits c < 2 ^ 64
 unfolding bits
 within c = to_bits-lt binary64 c.args.x (held c)
 
-pub returns-then-x : goal.returns-then-x
-returns-then-x c = nan-stays c.args.x c.if-x.true
-
-pub float_to_bits-bits : goal.float_to_bits-bits
-float_to_bits-bits c = no_nan_of c.args.x c.if-x.false
+pub returns-then-is_nan : goal.returns-then-is_nan
+returns-then-is_nan c = nan-stays c.args.x (sym c.is_nan.ensures.value ∙ c.if-is_nan.true)
 
 pub returns-then-exponent-gt1075 : goal.returns-then-exponent-gt1075
 unfolding bits
 returns-then-exponent-gt1075 c =
-    let s = c.before.before in
+    let s = c.before.before.before in
     sym (is s) ∙ large (bits s) (omega (arith, expo_is (bits s), c.if-exponent-gt1075.true)) ∙ ap trunc_of (is s)
 
 -- ---- up to 2 ^ 53
 module _ (c : Joined-below_one) where
   s : Start
-  s = c.before.before.before
+  s = c.before.before.before.before
 
   -- the number of bits that are shifted out is right
   clears : Clears (bits s) c.if-below_one.cleared
