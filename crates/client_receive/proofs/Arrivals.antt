@@ -6,7 +6,7 @@ use lib.Dec.{eqb}
 use Rattle.timestamp.specs.declared.Timestamp.{Timestamp}
 use Rattle.tape.specs.Sides.{is_left}
 use Rattle.command.specs.Entries.{Entry}
-use Rattle.command.specs.Buffer.{Insertion, inserted_of, taken_by}
+use Rattle.command.specs.Buffer.{Insertion, inserted_of, taken_by, full_by}
 use Rattle.simulation.specs.World.{Scheduled, scheduled_of}
 use Rattle.std.specs.Prelude.{Option, Some}
 use Rattle.client.specs.declared.Snapshots.{Snapshots}
@@ -16,7 +16,7 @@ use Rattle.client.specs.Ledgers.{takes}
 use Rattle.client.specs.Sides.{new_side_of, old_side_of, world_of, with_world, with_ledger, ledger_of, with_left, with_right, with_base, with_worlds}
 use Rattle.client.specs.Sides.{with_ledgers}
 use Rattle.client_receive.specs.Inner.{any_full}
-use Rattle.client_receive.specs.Receive.{Received, full_by, offered_base, offered_side, received_of}
+use Rattle.client_receive.specs.Receive.{Received, offered_base, offered_side, received_of}
 use Rattle.client_receive.specs.Receive.{from_future_of, fresh_of, noted_of, snapshots_by, snapshots_of}
 
 -- ---- commands

@@ -2,7 +2,7 @@
 -- Definitions only. Assumes nothing.
 use Rattle.std.specs.Prelude.{Bool, ◌||◌}
 use Rattle.command.specs.declared.Outcome.{Outcome}
-use Rattle.client_receive.specs.Receive.{full_by}
+use Rattle.command.specs.Buffer.{full_by}
 
 -- one of three insertions found its buffer full
 unfoldable pub any_full : Outcome → Outcome → Outcome → Bool

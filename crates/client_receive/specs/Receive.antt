@@ -5,7 +5,7 @@ use Rattle.timestamp.specs.declared.Timestamp.{Timestamp}
 use Rattle.command.specs.Entries.{Entry}
 use Rattle.command.specs.declared.Outcome.{Outcome}
 use Rattle.command.specs.declared.Outcome.TheVariants.{Taken, OutOfRange, Full}
-use Rattle.command.specs.Buffer.{inserted_of, taken_by}
+use Rattle.command.specs.Buffer.{inserted_of, taken_by, full_by}
 use Rattle.simulation.specs.World.{scheduled_of}
 use Rattle.client.specs.declared.QueuedSnapshot.{QueuedSnapshot}
 use Rattle.client.specs.declared.Snapshots.{Snapshots}
@@ -19,12 +19,6 @@ use Rattle.client.specs.Status.{later_of}
 pub record Received : Type 0 where
   pub scene : Scene
   pub full : Bool
-
--- a buffer takes the command but holds 64: refusal 23
-abbrev pub full_by : Outcome → Bool
-full_by Taken = false
-full_by OutOfRange = false
-full_by Full = true
 
 -- nothing is received yet
 abbrev pub none_received : Scene → Received

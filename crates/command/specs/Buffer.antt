@@ -85,6 +85,12 @@ taken_by Taken = 1
 taken_by OutOfRange = 0
 taken_by Full = 0
 
+-- a buffer takes the command but holds 64: refusal 23
+abbrev pub full_by : Outcome → Bool
+full_by Taken = false
+full_by OutOfRange = false
+full_by Full = true
+
 -- a buffer of whose entries some go and the others are left: where none go its slots stay as they are, and else it is laid out anew
 unfoldable pub leaving : (gone left : List Entry) → CommandBuffer → CommandBuffer
 leaving [] left b = b

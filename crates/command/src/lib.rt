@@ -10,7 +10,7 @@ ghost use Rattle.tape.specs.Sides.{side_number};
 ghost use Rattle.tape.specs.Tape.{count_end, PutsOn};
 ghost use Rattle.command.specs.Lists.{filter_b};
 ghost use Rattle.command.specs.Entries.{entry_of, stamp_in, handle_in, plain_entry};
-ghost use Rattle.command.specs.Buffer.{held, laid, in_range_of, placed_of, inserted_of};
+ghost use Rattle.command.specs.Buffer.{held, laid, in_range_of, placed_of, inserted_of, taken_by, full_by};
 ghost use Rattle.command.specs.Buffer.{moved_of, drained_of, drained_all_of, command_words, Applies, AppliesAll};
 ghost use Rattle.command.specs.Soundness.{sound_buffer};
 ghost use Rattle.command.specs.Ranks.{rank_of, rank_within, sifted_of, waits_of, sound_rank, HasRoom};
