@@ -141,6 +141,10 @@ frame_of rules s = and_then (frame_opened rules s) (shown_of rules.m (blended_by
 unfoldable pub frame_stops : Rules → Scene → Bool
 frame_stops rules s = stops_of (status_of s.worlds) (snapshot_of s) s.worlds (frame_of rules s).scene.worlds
 
+-- a frame puts at most so many words: a load, or a reset with 64 commands, the words of what is published, and of 65 steps with 64 commands each
+abbrev pub most_frame_words : ℕ
+most_frame_words = 5000
+
 -- a frame as the code leaves it, with the scene s
 pub record Frames (p : Played) (stops : Bool) (was : Tape) (s : Scene) (at_stop : Bool) (now : Tape) : Type 0 where
   pub scene : s ≡ p.scene

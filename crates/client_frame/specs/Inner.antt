@@ -9,7 +9,13 @@ use Rattle.client.specs.declared.ReconciliationStatus.{ReconciliationStatus}
 use Rattle.client.specs.declared.ReconciliationStatus.TheVariants.{AwaitingSnapshot, Fastforwarding, Blending}
 use Rattle.client.specs.declared.ClientWorldSimulations.{ClientWorldSimulations}
 use Rattle.client.specs.Status.{status_of}
-use Rattle.client_frame.specs.Frame.{is_obsolete, too_far_of}
+use Rattle.client.specs.Sides.{old_stamp_of, new_stamp_of}
+use Rattle.client_frame.specs.declared.FrameStart.{FrameStart}
+use Rattle.client_frame.specs.Frame.{loads_of, is_obsolete, too_far_of}
+
+-- what the next frame of these worlds begins with
+unfoldable pub start_of : ClientWorldSimulations → FrameStart
+start_of w = record { status = status_of w; loads = loads_of (status_of w) w.snapshots.queued; old = old_stamp_of w; new = new_stamp_of w }
 
 -- refusal 26 by the stamps `old` and `new` that the worlds have before the frame, and the worlds e after it
 unfoldable pub stops_by : ReconciliationStatus → Option QueuedSnapshot → (old new : Timestamp) → (e : ClientWorldSimulations) → Bool

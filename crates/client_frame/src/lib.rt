@@ -5,11 +5,12 @@
 ghost use Rattle.std.specs.Prelude.{◌≡◌, ◌+◌, ◌*◌, ◌<◌, ◌≤◌};
 ghost use Rattle.refusals.specs.Limits.{most_steps, buffer_room};
 ghost use Rattle.tape.specs.Sides.{side_number};
+ghost use Rattle.tape.specs.Tape.{count_end};
 ghost use Rattle.client.specs.Sides.{Plays, old_stamp_of};
 ghost use Rattle.client_publish.specs.Inner.{States};
 ghost use Rattle.client_frame.specs.Frame.{loads_of, loaded_queued, blended_on, reset_new, opened_of, caught_up_of, caught_of, simulated_of};
-ghost use Rattle.client_frame.specs.Frame.{blended_by, published_by, is_obsolete, too_far_of, shown_of, frame_of, frame_stops, Frames};
-ghost use Rattle.client_frame.specs.Inner.{stops_by};
+ghost use Rattle.client_frame.specs.Frame.{blended_by, published_by, is_obsolete, too_far_of, shown_of, frame_of, frame_stops, Frames, most_frame_words};
+ghost use Rattle.client_frame.specs.Inner.{start_of, stops_by};
 
 use client::{
     ClientWorldSimulations, FastforwardingHealth, QueuedSnapshot, ReconciliationStatus, Scene,
@@ -23,6 +24,130 @@ use timestamp::Timestamp;
 pub struct Rules {
     pub m: u32,
     pub progress: f64,
+}
+
+// There are so many stamps up to the one half the space away.
+const HALF_CYCLE: u16 = 1 << 15;
+
+// What a frame begins with: where the reconciliation stands, the snapshot that the frame loads, and the stamps of both worlds.
+#[derive(Clone, Copy)]
+pub struct FrameStart {
+    pub status: ReconciliationStatus,
+    pub loads: Option<QueuedSnapshot>,
+    pub old: Timestamp,
+    pub new: Timestamp,
+}
+
+impl FrameStart {
+    // What the next frame of these worlds begins with.
+    pub fn of(worlds: &ClientWorldSimulations) -> FrameStart
+        ensures { result ≡ start_of worlds.now }
+    {
+        let status = worlds.infer_current_reconciliation_status();
+        FrameStart {
+            status,
+            loads: loads(status, worlds.snapshots.queued),
+            old: worlds.last_completed_timestamp(),
+            new: worlds.new_timestamp(),
+        }
+    }
+
+    // The status opens the frame: awaiting, the queued snapshot is loaded into the old side, which then is the new one; blending, the weight moves on;
+    // obsolete, it is loaded; overshot, the new world is reset.
+    #[tactic(auto, unfolding(crate::specs::Frame::opened_of))]
+    pub(crate) fn open(self, scene: &mut Scene, progress: f64, tape: &mut Tape<'_>)
+        requires { tape.old.at + buffer_room ≤ count_end }
+        ensures plays { Plays (opened_of self.status self.loads progress scene.old) tape.old scene.new tape.new }
+        ensures few { tape.new.at ≤ tape.old.at + buffer_room }
+    {
+        match self.status {
+            ReconciliationStatus::AwaitingSnapshot => {
+                let side = scene.worlds.old_side();
+                load_queued(scene, self.loads, side, tape);
+            }
+            ReconciliationStatus::Blending(_) => blend_on(scene, progress),
+            ReconciliationStatus::Fastforwarding(h) => match h {
+                FastforwardingHealth::Healthy => {}
+                FastforwardingHealth::Obsolete => {
+                    let side = scene.worlds.new_side();
+                    load_queued(scene, self.loads, side, tape);
+                }
+                FastforwardingHealth::Overshot => reset_new(scene, tape),
+            },
+        }
+    }
+
+    // Whether the frame publishes by the weight and not the old world.
+    pub fn is_blended(self) -> bool
+        ensures { result ≡ blended_by self.status self.loads }
+    {
+        match self.status {
+            ReconciliationStatus::AwaitingSnapshot => self.loads.is_none(),
+            ReconciliationStatus::Blending(_) => true,
+            ReconciliationStatus::Fastforwarding(h) => matches!(h, FastforwardingHealth::Overshot),
+        }
+    }
+
+    // The state that the frame publishes: by the weight, or the old world.
+    pub(crate) fn publish_state(self, scene: &Scene, tape: &mut Tape<'_>) -> Option<Timestamp>
+        requires { tape.old.at + 4 ≤ count_end }
+        ensures { States (published_by (blended_by self.status self.loads) scene.now) scene.now tape.old result tape.new }
+    {
+        if self.is_blended() {
+            return client_publish::publish_blended_state(scene, tape);
+        }
+        client_publish::publish_old_state(scene, tape)
+    }
+
+    // What the frame publishes.
+    pub(crate) fn publish(self, scene: &mut Scene, tape: &mut Tape<'_>)
+        requires { tape.old.at + 4 ≤ count_end }
+        ensures plays { Plays (published_by (blended_by self.status self.loads) scene.old) tape.old scene.new tape.new }
+        ensures few { tape.new.at ≤ tape.old.at + 4 }
+    {
+        let state = self.publish_state(scene, tape);
+        client_publish::with_state(scene, state);
+    }
+
+    // The worlds' steps and what is published.
+    pub(crate) fn show(self, scene: &mut Scene, m: u32, tape: &mut Tape<'_>)
+        requires { (tape.old.at + (69 + m * 65) ≤ count_end) × (m ≤ most_steps) }
+        ensures plays { Plays (shown_of m (blended_by self.status self.loads) scene.old) tape.old scene.new tape.new }
+        ensures few { tape.new.at ≤ tape.old.at + (69 + m * 65) }
+    {
+        simulate_next_frame(scene, m, tape);
+        self.publish(scene, tape);
+    }
+
+    // Whether the Rust stops in the frame, which leaves the worlds `after`: refusal 26.
+    #[tactic(auto, unfolding(crate::specs::Inner::stops_by))]
+    pub(crate) fn stops(self, after: &ClientWorldSimulations) -> bool
+        ensures { result ≡ stops_by self.status self.loads self.old self.new after.now }
+    {
+        let ReconciliationStatus::Fastforwarding(h) = self.status else {
+            return false;
+        };
+        match h {
+            FastforwardingHealth::Healthy => {
+                (self.old - self.new).0 == HALF_CYCLE
+                    || is_obsolete(after.infer_current_reconciliation_status())
+            }
+            FastforwardingHealth::Obsolete => loads_too_far(self.loads, self.old),
+            FastforwardingHealth::Overshot => false,
+        }
+    }
+}
+
+// One frame. Gives whether the Rust would have stopped in it.
+pub fn step(scene: &mut Scene, rules: Rules, tape: &mut Tape<'_>) -> bool
+    requires { (tape.old.at + most_frame_words ≤ count_end) × (rules.m ≤ most_steps) }
+    ensures frames { Frames (frame_of rules scene.old) (frame_stops rules scene.old) tape.old scene.new result tape.new }
+    ensures few { tape.new.at ≤ tape.old.at + most_frame_words }
+{
+    let start = FrameStart::of(&scene.worlds);
+    start.open(scene, rules.progress, tape);
+    start.show(scene, rules.m, tape);
+    start.stops(&scene.worlds)
 }
 
 // The snapshot that a frame of this status loads.
@@ -47,7 +172,7 @@ pub(crate) fn blend_on(scene: &mut Scene, progress: f64)
 // The new world is set to the old one's stamp.
 #[tactic(auto, unfolding(crate::specs::Frame::reset_new))]
 pub(crate) fn reset_new(scene: &mut Scene, tape: &mut Tape<'_>)
-    requires { tape.old.at < 3000000000 }
+    requires { tape.old.at + buffer_room ≤ count_end }
     ensures plays { Plays (reset_new scene.old) tape.old scene.new tape.new }
     ensures few { tape.new.at ≤ tape.old.at + buffer_room }
 {
@@ -64,43 +189,13 @@ pub(crate) fn load_queued(
     side: Side,
     tape: &mut Tape<'_>,
 )
-    requires { tape.old.at < 3000000000 }
+    requires { tape.old.at < count_end }
     ensures plays { Plays (loaded_queued scene.old queued (side_number side)) tape.old scene.new tape.new }
     ensures few { tape.new.at ≤ tape.old.at + 1 }
 {
     match queued {
         None => {}
         Some(snapshot) => client_load::load_snapshot(scene, side, snapshot, tape),
-    }
-}
-
-// What a frame begins with: awaiting, the sides are swapped for the queued snapshot; obsolete, it is loaded; overshot, the new world is reset.
-#[tactic(auto, unfolding(crate::specs::Frame::opened_of))]
-pub(crate) fn open(
-    scene: &mut Scene,
-    t: ReconciliationStatus,
-    q: Option<QueuedSnapshot>,
-    progress: f64,
-    tape: &mut Tape<'_>,
-)
-    requires { tape.old.at < 3000000000 }
-    ensures plays { Plays (opened_of t q progress scene.old) tape.old scene.new tape.new }
-    ensures few { tape.new.at ≤ tape.old.at + buffer_room }
-{
-    match t {
-        ReconciliationStatus::AwaitingSnapshot => {
-            let side = scene.worlds.old_side();
-            load_queued(scene, q, side, tape);
-        }
-        ReconciliationStatus::Blending(_) => blend_on(scene, progress),
-        ReconciliationStatus::Fastforwarding(h) => match h {
-            FastforwardingHealth::Healthy => {}
-            FastforwardingHealth::Obsolete => {
-                let side = scene.worlds.new_side();
-                load_queued(scene, q, side, tape);
-            }
-            FastforwardingHealth::Overshot => reset_new(scene, tape),
-        },
     }
 }
 
@@ -114,7 +209,7 @@ pub(crate) fn has_caught_up(new: Timestamp, old: Timestamp) -> bool
 
 // The new world steps until it has reached the old one's stamp, m times at most.
 pub(crate) fn catch_up(scene: &mut Scene, m: u32, tape: &mut Tape<'_>)
-    requires { (tape.old.at < 2500000000) × (m ≤ most_steps) }
+    requires { (tape.old.at + m * 65 ≤ count_end) × (m ≤ most_steps) }
     ensures plays { Plays (caught_of m (old_stamp_of scene.old.worlds) scene.old) tape.old scene.new tape.new }
     ensures few { tape.new.at ≤ tape.old.at + m * 65 }
 {
@@ -131,45 +226,13 @@ pub(crate) fn catch_up(scene: &mut Scene, m: u32, tape: &mut Tape<'_>)
 
 // The old world steps, and then the new one catches up.
 pub(crate) fn simulate_next_frame(scene: &mut Scene, m: u32, tape: &mut Tape<'_>)
-    requires { (tape.old.at < 2100000000) × (m ≤ most_steps) }
+    requires { (tape.old.at + (65 + m * 65) ≤ count_end) × (m ≤ most_steps) }
     ensures plays { Plays (simulated_of m scene.old) tape.old scene.new tape.new }
-    ensures few { tape.new.at ≤ tape.old.at + 65 + m * 65 }
+    ensures few { tape.new.at ≤ tape.old.at + (65 + m * 65) }
 {
     let side = scene.worlds.old_side();
     scene.step_side(side, tape);
     catch_up(scene, m, tape);
-}
-
-// Whether a frame of this status, that loads q, publishes by the weight and not the old world.
-pub fn is_blended(t: ReconciliationStatus, q: Option<QueuedSnapshot>) -> bool
-    ensures { result ≡ blended_by t q }
-{
-    match t {
-        ReconciliationStatus::AwaitingSnapshot => q.is_none(),
-        ReconciliationStatus::Blending(_) => true,
-        ReconciliationStatus::Fastforwarding(h) => matches!(h, FastforwardingHealth::Overshot),
-    }
-}
-
-// The state that the frame publishes: by the weight, or the old world.
-pub(crate) fn publish_state(scene: &Scene, blended: bool, tape: &mut Tape<'_>) -> Option<Timestamp>
-    requires { tape.old.at < 3000000000 }
-    ensures { States (published_by blended scene.now) scene.now tape.old result tape.new }
-{
-    if blended {
-        return client_publish::publish_blended_state(scene, tape);
-    }
-    client_publish::publish_old_state(scene, tape)
-}
-
-// What the frame publishes.
-pub(crate) fn publish(scene: &mut Scene, blended: bool, tape: &mut Tape<'_>)
-    requires { tape.old.at < 3000000000 }
-    ensures plays { Plays (published_by blended scene.old) tape.old scene.new tape.new }
-    ensures few { tape.new.at ≤ tape.old.at + 4 }
-{
-    let state = publish_state(scene, blended, tape);
-    client_publish::with_state(scene, state);
 }
 
 // Whether a status is Fastforwarding with Obsolete.
@@ -188,56 +251,7 @@ pub fn loads_too_far(q: Option<QueuedSnapshot>, old: Timestamp) -> bool
     ensures { result ≡ too_far_of q old }
 {
     q.is_some_and(|snapshot| {
-        let behind = old.sub(snapshot.stamp).0;
-        (32768..65535).contains(&behind)
+        let behind = (old - snapshot.stamp).0;
+        (HALF_CYCLE..u16::MAX).contains(&behind)
     })
-}
-
-// Whether the Rust stops in a frame of this status that loads q, begins with the stamps `old` and `new` of the worlds and leaves the worlds
-// `after`: refusal 26.
-#[tactic(auto, unfolding(crate::specs::Inner::stops_by))]
-pub(crate) fn stops(
-    t: ReconciliationStatus,
-    q: Option<QueuedSnapshot>,
-    old: Timestamp,
-    new: Timestamp,
-    after: &ClientWorldSimulations,
-) -> bool
-    ensures { result ≡ stops_by t q old new after.now }
-{
-    let ReconciliationStatus::Fastforwarding(h) = t else {
-        return false;
-    };
-    match h {
-        FastforwardingHealth::Healthy => {
-            old.sub(new).0 == 32768 || is_obsolete(after.infer_current_reconciliation_status())
-        }
-        FastforwardingHealth::Obsolete => loads_too_far(q, old),
-        FastforwardingHealth::Overshot => false,
-    }
-}
-
-// The worlds' steps and what is published.
-pub(crate) fn show(scene: &mut Scene, m: u32, blended: bool, tape: &mut Tape<'_>)
-    requires { (tape.old.at < 2100000000) × (m ≤ most_steps) }
-    ensures plays { Plays (shown_of m blended scene.old) tape.old scene.new tape.new }
-    ensures few { tape.new.at ≤ tape.old.at + 69 + m * 65 }
-{
-    simulate_next_frame(scene, m, tape);
-    publish(scene, blended, tape);
-}
-
-// One frame. Gives whether the Rust would have stopped in it.
-pub fn step(scene: &mut Scene, rules: Rules, tape: &mut Tape<'_>) -> bool
-    requires { (tape.old.at < 2000000000) × (rules.m ≤ most_steps) }
-    ensures frames { Frames (frame_of rules scene.old) (frame_stops rules scene.old) tape.old scene.new result tape.new }
-    ensures few { tape.new.at ≤ tape.old.at + 5000 }
-{
-    let t = scene.worlds.infer_current_reconciliation_status();
-    let q = loads(t, scene.worlds.snapshots.queued);
-    let old = scene.worlds.last_completed_timestamp();
-    let new = scene.worlds.new_timestamp();
-    open(scene, t, q, rules.progress, tape);
-    show(scene, rules.m, is_blended(t, q), tape);
-    stops(t, q, old, new, &scene.worlds)
 }

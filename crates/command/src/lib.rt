@@ -257,12 +257,14 @@ impl CommandBuffer {
             return false;
         }
         let mut lo = 0;
-        self.held().iter().all(|e| {
+        for e in self.held() {
             let k = rank_in(*e, self.timestamp);
-            let sound = entry_sound(k, lo, *e);
+            if !entry_sound(k, lo, *e) {
+                return false;
+            }
             lo = k;
-            sound
-        })
+        }
+        true
     }
 
     // Takes an entry, where there is room, after all that are not later than it.

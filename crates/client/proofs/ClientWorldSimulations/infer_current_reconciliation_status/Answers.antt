@@ -1,6 +1,7 @@
 -- `infer_current_reconciliation_status` meets its contract: the tests in their order. Assumes nothing.
 use Rattle.std.proofs.Common.{sym, refl, ◌∙◌}
 use lib.Ieee.{of_bits}
+use Rattle.client.specs.Status.{overshot_of}
 use Rattle.client.proofs.Judging.{status_is}
 use Rattle.client.proofs.ClientWorldSimulations.infer_current_reconciliation_status.Goals as goal
 
@@ -22,29 +23,32 @@ returns-then-eq c =
     refl
     refl
 
-pub returns-then-is_overshot : goal.returns-then-is_overshot
-returns-then-is_overshot c =
+pub returns-then-is_later : goal.returns-then-is_later
+unfolding overshot_of
+returns-then-is_later c =
     status_is _ c.last_completed_timestamp-old.ensures
     c.new_timestamp-new.ensures
     (sym c.eq.ensures ∙ c.if-eq.false)
     refl
-    (sym c.is_overshot.ensures ∙ c.if-is_overshot.true)
+    (sym c.is_later.ensures ∙ c.if-is_later.true)
     refl
 
 pub returns-then-is_snapshot_newer : goal.returns-then-is_snapshot_newer
+unfolding overshot_of
 returns-then-is_snapshot_newer c =
     status_is _ c.last_completed_timestamp-old.ensures
     c.new_timestamp-new.ensures
     (sym c.eq.ensures ∙ c.if-eq.false)
     refl
-    (sym c.is_overshot.ensures ∙ c.if-is_overshot.false)
+    (sym c.is_later.ensures ∙ c.if-is_later.false)
     (sym c.is_snapshot_newer.ensures ∙ c.if-is_snapshot_newer.true)
 
 pub returns : goal.returns
+unfolding overshot_of
 returns c =
     status_is _ c.last_completed_timestamp-old.ensures
     c.new_timestamp-new.ensures
     (sym c.eq.ensures ∙ c.if-eq.false)
     refl
-    (sym c.is_overshot.ensures ∙ c.if-is_overshot.false)
+    (sym c.is_later.ensures ∙ c.if-is_later.false)
     (sym c.is_snapshot_newer.ensures ∙ c.if-is_snapshot_newer.false)

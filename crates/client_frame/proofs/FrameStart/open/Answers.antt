@@ -1,7 +1,7 @@
 -- `open` meets its contract: blending the weight moves on, and healthy nothing happens. Assumes nothing.
 use Rattle.client.proofs.Happening.{plays_still}
 use Rattle.client_frame.specs.Frame.{opened_of}
-use Rattle.client_frame.proofs.open.Goals as goal
+use Rattle.client_frame.proofs.FrameStart.open.Goals as goal
 
 pub returns-in-Blending-clause-plays : goal.returns-in-Blending-clause-plays
 unfolding opened_of
