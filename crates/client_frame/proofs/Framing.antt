@@ -17,10 +17,11 @@ use Rattle.client.specs.Status.{status_of}
 use Rattle.client_publish.specs.Publish.{with_state}
 use Rattle.client_publish.specs.Inner.{States}
 use Rattle.client_frame.specs.declared.Rules.{Rules}
+use Rattle.client_frame.specs.declared.FrameStart.{FrameStart}
 use Rattle.client_frame.specs.Frame.{loads_of, opened_of, stepped_side}
 use Rattle.client_frame.specs.Frame.{with_step, stepped_new, blended_by, published_by, shown_of, stops_of}
 use Rattle.client_frame.specs.Frame.{snapshot_of, frame_opened, frame_of, frame_stops, Frames}
-use Rattle.client_frame.specs.Inner.{stops_by}
+use Rattle.client_frame.specs.Inner.{start_of, stops_by}
 use Rattle.client_publish.proofs.Telling.{told_few, old_by, blended_by_lem}
 use Rattle.client.proofs.Happening.{plays_as, plays_then}
 
@@ -61,29 +62,19 @@ stops_is (Fastforwarding Overshot) q w e = refl
 
 -- ---- the frame
 
--- one frame: its status, the snapshot that it loads, its beginning, its steps and what it publishes, and whether it stops
-pub frame_plays : (rules : Rules) (s : Scene) {t : ReconciliationStatus} {q : Option QueuedSnapshot} {b stop : Bool} {was mid now : Tape}
-    {old new : Timestamp} {a u : Scene} → t ≡ status_of s.worlds → q ≡ loads_of t s.worlds.snapshots.queued
-    → old ≡ old_stamp_of s.worlds → new ≡ new_stamp_of s.worlds
-    → Plays (opened_of t q rules.progress s) was a mid
-    → b ≡ blended_by t q → Plays (shown_of rules.m b a) mid u now
-    → stop ≡ stops_by t q old new u.worlds → Frames (frame_of rules s) (frame_stops rules s) was u stop now
-unfolding frame_of frame_stops frame_opened snapshot_of
-frame_plays rules s {t} {q} {b} {stop} {was} {mid} {now} {old} {new} {a} {u} ht hq ho hn ha hb hr hs =
-    let m : ℕ = rules.m in
-    let p : Float = rules.progress in
-    let queued : Option QueuedSnapshot = s.worlds.snapshots.queued in
-    let loaded : q ≡ loads_of (status_of s.worlds) queued = hq ∙ ap (λ (x : ReconciliationStatus). loads_of x queued) ht in
-    let opens : Plays (opened_of (status_of s.worlds) (loads_of (status_of s.worlds) queued) p s) was a mid =
-    plays_as (λ i. opened_of (ht i) (loaded i) p s) ha in
-    let shows : Plays (shown_of m (blended_by (status_of s.worlds) (loads_of (status_of s.worlds) queued)) a) mid u now =
-    plays_as (λ i. shown_of m ((hb ∙ (λ j. blended_by (ht j) (loaded j))) i) a) hr in
-    let plays : Plays (and_then (opened_of (status_of s.worlds) (loads_of (status_of s.worlds) queued) p s)
-    (shown_of m (blended_by (status_of s.worlds) (loads_of (status_of s.worlds) queued)))) was u now =
-    plays_then (shown_of m (blended_by (status_of s.worlds) (loads_of (status_of s.worlds) queued))) opens shows in
+-- one frame: what it begins with, its beginning, its steps and what it publishes, and whether it stops
+pub frame_plays : (rules : Rules) (s : Scene) {x : FrameStart} {stop : Bool} {was mid now : Tape} {a u : Scene} → x ≡ start_of s.worlds
+    → Plays (opened_of x.status x.loads rules.progress s) was a mid
+    → Plays (shown_of rules.m (blended_by x.status x.loads) a) mid u now
+    → stop ≡ stops_by x.status x.loads x.old x.new u.worlds → Frames (frame_of rules s) (frame_stops rules s) was u stop now
+unfolding start_of frame_of frame_stops frame_opened snapshot_of
+frame_plays rules s {x} {stop} {was} {mid} {now} {a} {u} hx ha hr hs =
+    let opens = plays_as (λ i. opened_of (hx i).status (hx i).loads rules.progress s) ha in
+    let shows = plays_as (λ i. shown_of rules.m (blended_by (hx i).status (hx i).loads) a) hr in
+    let plays = plays_then _ opens shows in
     record {
       scene = plays.scene;
-      stopped = hs ∙ (λ i. stops_by (ht i) (loaded i) (ho i) (hn i) (plays.scene i).worlds)
-          ∙ stops_is (status_of s.worlds) (loads_of (status_of s.worlds) queued) s.worlds _;
+      stopped = hs ∙ (λ i. stops_by (hx i).status (hx i).loads (hx i).old (hx i).new (plays.scene i).worlds)
+          ∙ stops_is (status_of s.worlds) (snapshot_of s) s.worlds _;
       puts = plays.puts;
     }

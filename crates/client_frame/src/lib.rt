@@ -40,6 +40,7 @@ pub struct FrameStart {
 
 impl FrameStart {
     // What the next frame of these worlds begins with.
+    #[tactic(auto, unfolding(crate::specs::Inner::start_of))]
     pub fn of(worlds: &ClientWorldSimulations) -> FrameStart
         ensures { result ≡ start_of worlds.now }
     {
