@@ -2,12 +2,15 @@
 // in its order.
 #![tactic(auto)]
 
-ghost use Rattle.std.specs.Prelude.{◌≡◌, true, ◌≤◌, ◌<◌, ◌*◌};
+ghost use Rattle.std.specs.Prelude.{◌≡◌, true, ◌+◌, ◌*◌, ◌≤◌};
 ghost use Rattle.fixed_timestepper.specs.TimeKeeper.{at_least_zero, logical_of, drift_of, beyond_deadband, compensated_of, rules_of, run_of, skips_of};
 ghost use Rattle.fixed_timestepper.specs.TimeKeeper.{Advances};
 ghost use Rattle.fixed_timestepper.specs.TimeKeeper.{ended_of, unended_of};
-ghost use Rattle.fixed_timestepper.specs.Inner.{Skips};
-ghost use Rattle.refusals.specs.Limits.{most_frames, most_steps};
+ghost use Rattle.fixed_timestepper.specs.Inner.{Skips, keeper_after};
+ghost use Rattle.refusals.specs.Limits.{most_frames, most_steps, buffer_room};
+ghost use Rattle.timestamp.specs.Floats.{tween_of};
+ghost use Rattle.tape.specs.Tape.{count_end};
+ghost use Rattle.client_frame.specs.Frame.{most_frame_words};
 
 use client::{ClientWorldSimulations, Scene};
 use client_frame::Rules;
@@ -64,50 +67,6 @@ pub fn frame_rules(settings: Settings) -> Rules
     }
 }
 
-// The skip where the drift is at or beyond the threshold: to the server's frame, rounded up.
-pub(crate) fn timeskip(
-    scene: &mut Scene,
-    a: Advanced,
-    server: f64,
-    settings: Settings,
-    tape: &mut Tape<'_>,
-) -> Advanced
-    requires { (a.at ≡ tape.old.at) × (tape.old.at < 2500000000) }
-    ensures skips { Skips scene.old a server settings tape.old.words.now scene.new result tape.new.words.now }
-    ensures lent { tape.new.words.ghost_name ≡ tape.old.words.ghost_name }
-{
-    let keeper = TimeKeeper {
-        settings,
-        overshoot: a.overshoot,
-    };
-    let t = settings.timestep;
-    let stamp = scene.worlds.last_completed_timestamp();
-    if keeper.skips(stamp, server) {
-        let target = FloatTimestamp::from_seconds(server, t);
-        let corrected = target.ceil();
-        let overshoot = FloatTimestamp::from(corrected).sub(target).as_seconds(t);
-        client_skip::reset_last_completed_timestamp(scene, corrected, tape);
-        return Advanced {
-            overshoot,
-            at: tape.at,
-            ..a
-        };
-    }
-    a
-}
-
-// What every update ends with: the tween weight is shaped, and the time to display is worked out with it.
-pub fn ended(worlds: &mut ClientWorldSimulations, overshoot: f64, settings: Settings)
-    ensures { worlds.exit.now ≡ ended_of settings worlds.entry.now overshoot }
-{
-    let w = client_publish::ending::tween_weight(overshoot, settings.timestep);
-    client_publish::ending::post_update(
-        worlds,
-        settings.method.shape_interpolation_t(w),
-        settings.lag_compensation_frame_count(),
-    );
-}
-
 impl TimeKeeper {
     // The frame count that the worlds stand for: the client's stamp less the overshoot in frames.
     #[tactic(auto, unfolding(crate::specs::TimeKeeper::logical_of))]
@@ -115,7 +74,7 @@ impl TimeKeeper {
         ensures { result.0 ≡ logical_of stamp self.overshoot self.settings.timestep }
     {
         let overshoot = FloatTimestamp::from_seconds(self.overshoot, self.settings.timestep);
-        FloatTimestamp::from(stamp).sub(overshoot)
+        FloatTimestamp::from(stamp) - overshoot
     }
 
     // How far the worlds are ahead of the server's time, in seconds.
@@ -125,9 +84,7 @@ impl TimeKeeper {
     {
         let t = self.settings.timestep;
         let target = FloatTimestamp::from_seconds(server, t);
-        self.current_logical_timestamp(stamp)
-            .sub(target)
-            .as_seconds(t)
+        (self.current_logical_timestamp(stamp) - target).as_seconds(t)
     }
 
     // How many seconds an update plays: its delta less the drift before it, not negative and at most the maximum.
@@ -154,11 +111,65 @@ impl TimeKeeper {
         self.timestamp_drift_seconds(stamp, server).abs() >= self.settings.skip
     }
 
+    // The skip after frames that were played, where the drift is at or beyond the threshold: to the server's frame, rounded up.
+    pub(crate) fn timeskip(
+        self,
+        scene: &mut Scene,
+        a: Advanced,
+        server: f64,
+        tape: &mut Tape<'_>,
+    ) -> Advanced
+        requires { (a.at ≡ tape.old.at) × (tape.old.at + 2 * buffer_room ≤ count_end) }
+        ensures skips { Skips scene.old a server self.settings tape.old.words.now scene.new result tape.new.words.now }
+        ensures lent { tape.new.words.ghost_name ≡ tape.old.words.ghost_name }
+    {
+        let t = self.settings.timestep;
+        let stamp = scene.worlds.last_completed_timestamp();
+        if !self.after(a).skips(stamp, server) {
+            return a;
+        }
+        let target = FloatTimestamp::from_seconds(server, t);
+        let corrected = target.ceil();
+        let overshoot = (FloatTimestamp::from(corrected) - target).as_seconds(t);
+        client_skip::reset_last_completed_timestamp(scene, corrected, tape);
+        Advanced {
+            overshoot,
+            at: tape.at,
+            ..a
+        }
+    }
+
+    // The same settings after frames that were played.
+    pub fn after(self, a: Advanced) -> TimeKeeper
+        ensures { result ≡ keeper_after self a }
+    {
+        TimeKeeper {
+            overshoot: a.overshoot,
+            ..self
+        }
+    }
+
+    // The weight of the state after the displayed time, not yet shaped.
+    pub fn tween_weight(self) -> f64
+        ensures { result ≡ tween_of self.overshoot self.settings.timestep }
+    {
+        client_publish::ending::tween_weight(self.overshoot, self.settings.timestep)
+    }
+
+    // What every update ends with: the tween weight is shaped, and the time to display is worked out with it.
+    pub fn ended(self, worlds: &mut ClientWorldSimulations)
+        ensures { worlds.exit.now ≡ ended_of self.settings worlds.entry.now self.overshoot }
+    {
+        let shaped = self.settings.method.shape_interpolation_t(self.tween_weight());
+        let lag = self.settings.lag_compensation_frame_count();
+        client_publish::ending::post_update(worlds, shaped, lag);
+    }
+
     // Frames while the overshoot is negative, 65 at most.
     pub(crate) fn advance(self, scene: &mut Scene, tape: &mut Tape<'_>) -> Advanced
         requires { (self.settings.m ≤ most_steps) × (tape.old.at ≡ 0) }
         ensures advances { Advances (run_of most_frames self.settings scene.old self.overshoot) tape.old.words.now scene.new result tape.new.words.now }
-        ensures few { result.at ≤ most_frames * 5000 }
+        ensures few { result.at ≤ most_frames * most_frame_words }
         ensures at { result.at ≡ tape.new.at }
         ensures lent { tape.new.words.ghost_name ≡ tape.old.words.ghost_name }
     {
@@ -214,11 +225,9 @@ impl TimeKeeper {
         };
         let mut tape = Tape { words: tape, at: 0 };
         let a = start.advance(scene, &mut tape);
-        let stop = a.stop;
-        match stop {
-            Stop::Done => timeskip(scene, a, server, self.settings, &mut tape),
-            Stop::TooManyFrames => a,
-            Stop::StatusStops => a,
+        match a.stop {
+            Stop::Done => self.timeskip(scene, a, server, &mut tape),
+            Stop::TooManyFrames | Stop::StatusStops => a,
         }
     }
 }

@@ -1,5 +1,5 @@
 -- `update` meets its contract: the frames, and where they ended by themselves the skip. Assumes nothing.
-use Rattle.std.proofs.Common.{rules}
+use Rattle.std.proofs.Common.{rules, inl, inr}
 use mathlib.Core.Path.{refl}
 use Rattle.refusals.specs.declared.Stop.TheVariants.{TooManyFrames, StatusStops}
 use Rattle.fixed_timestepper.proofs.Updating.{update_done, update_stopped, advances_on}
@@ -16,12 +16,9 @@ returns-in-Done c =
 
 pub returns-in-TooManyFrames : goal.returns-in-TooManyFrames
 returns-in-TooManyFrames c =
-    advances_on (search (rules, c.advance-a.ensures.lent))
-    (update_stopped _ _ _ _ _ c.last_completed_timestamp-stamp.ensures c.compensated_delta-c.ensures refl TooManyFrames c.advance-a.ensures.advances
-    c.in-TooManyFrames.is (λ r. refl))
-
-pub returns-in-StatusStops : goal.returns-in-StatusStops
-returns-in-StatusStops c =
-    advances_on (search (rules, c.advance-a.ensures.lent))
-    (update_stopped _ _ _ _ _ c.last_completed_timestamp-stamp.ensures c.compensated_delta-c.ensures refl StatusStops c.advance-a.ensures.advances
-    c.in-StatusStops.is (λ r. refl))
+    advances_on (search (rules, c.advance-a.ensures.lent)) (elim c.in-TooManyFrames.is [
+      | inl e ↦ update_stopped _ _ _ _ _ c.last_completed_timestamp-stamp.ensures c.compensated_delta-c.ensures refl TooManyFrames
+          c.advance-a.ensures.advances e (λ r. refl)
+      | inr e ↦ update_stopped _ _ _ _ _ c.last_completed_timestamp-stamp.ensures c.compensated_delta-c.ensures refl StatusStops
+          c.advance-a.ensures.advances e (λ r. refl)
+    ])
