@@ -171,10 +171,6 @@ module _ (c : Settings) (from : Scene) (start : Float) {was tape mid : Tape} {s 
         puts = λ z last k. j.4 z last (puts_as (ap (λ (y : Run). y.played.words) e) k);
       }
 
--- there is a frame left
-pub few_left : {n : ℕ} → n ≤ 65 → (n ≡ 65 → ⊥) → n < 65
-few_left h k = omega (arith, h, k)
-
 -- a frame by the rules that the settings give
 pub framed_as : (c : Settings) (s : Scene) {rules : Rules} {was now : Tape} {u : Scene} {f : Bool} → rules ≡ rules_of c
     → Frames (frame_of rules s) (frame_stops rules s) was u f now → Frames (frame c s) (frame_stops (rules_of c) s) was u f now

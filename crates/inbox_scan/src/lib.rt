@@ -4,7 +4,7 @@
 
 ghost use Rattle.std.specs.Prelude.{◌≡◌};
 ghost use Rattle.inbox_scan.specs.Scan.{Scans, ScansAll};
-ghost use Rattle.inbox_scan.specs.Inner.{scan_one};
+ghost use Rattle.inbox_scan.specs.Inner.{nothing_found, scan_one};
 
 use client::Snapshots;
 use clocksync::Heard;
@@ -24,6 +24,21 @@ pub struct Scan {
     pub snapshots: Snapshots,
 }
 
+impl Scan {
+    // Nothing is found so far; this was known before.
+    fn nothing(heard: Heard, snapshots: Snapshots) -> Scan
+        ensures { result ≡ nothing_found heard snapshots }
+    {
+        Scan {
+            verdict: Ok(()),
+            worldly: false,
+            commands: false,
+            heard,
+            snapshots,
+        }
+    }
+}
+
 // What the messages of an inbox of any length tell a client of the stamp `old` at its time `seconds`.
 pub fn scan_messages(
     words: &[u32],
@@ -34,13 +49,7 @@ pub fn scan_messages(
 ) -> Scan
     ensures { ScansAll words.now seconds heard snapshots old result }
 {
-    let start = Scan {
-        verdict: Ok(()),
-        worldly: false,
-        commands: false,
-        heard,
-        snapshots,
-    };
+    let start = Scan::nothing(heard, snapshots);
     Reader::new(words).fold(start, |found, message| take(found, message, seconds, old))
 }
 
@@ -57,10 +66,7 @@ pub fn scan_inbox(
     if refusals::MOST_WORDS < words.len() {
         return Scan {
             verdict: Err(Refusal::Length),
-            worldly: false,
-            commands: false,
-            heard,
-            snapshots,
+            ..Scan::nothing(heard, snapshots)
         };
     }
     scan_messages(words, seconds, heard, snapshots, old)

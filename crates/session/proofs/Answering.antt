@@ -10,7 +10,7 @@ use lib.Ieee.{Float, binary64, add}
 use borrow.Author.Tests.{leb-true, ltb-true}
 use Rattle.timestamp.proofs.Tests.{apart}
 use Rattle.refusals.specs.Limits.{most_steps, most_words}
-use Rattle.std.specs.Prelude.{Ok, Err}
+use Rattle.std.specs.Prelude.{Result, Ok, Err}
 use Rattle.refusals.specs.declared.Refusal.{Refusal}
 use Rattle.refusals.specs.declared.Refusal.TheVariants.{Length}
 use Rattle.refusals.specs.Refusals.{Verdict, accepted, once_verdict_by, syncing_verdict_by, arrival_verdict_by, end_verdict_by}
@@ -43,7 +43,8 @@ use Rattle.inbox_scan.specs.Scan.{has_command, kept_in, Scans}
 use Rattle.inbox_scan.proofs.Arriving.{received_noted}
 use Rattle.client.specs.declared.Snapshots.{Snapshots}
 use Rattle.session_answers.specs.declared.UpdateAnswer.{UpdateAnswer}
-use Rattle.session_answers.specs.Answers.{Reply, unplayed_of, refused_with, unless_refused, accepted_of, Updates}
+use Rattle.session_answers.specs.declared.Updated.{Updated}
+use Rattle.session_answers.specs.Answers.{Leaves, answer_with, Reply, unplayed_of, refused_with, unless_refused, accepted_of, Updates}
 use Rattle.session_stage.specs.Stage.{synced_of, stage_after}
 use Rattle.session_state.specs.Session.{scene_of}
 use Rattle.client.specs.Ledgers.{closed_of}
@@ -51,7 +52,7 @@ use Rattle.session_answers.specs.Inner.{accepted_by}
 use Rattle.std.specs.Prelude.{unwrap_or}
 use Rattle.session.specs.Calls.{times_ok, heard_other, clock_after, request_of, clock_update_of, concluded_of, verdict_at_once}
 use Rattle.session.specs.Calls.{lagged_of, unreceived, scene_after, played_of, worlds_update_of, update_by, update_of}
-use Rattle.session.specs.Inner.{Scanned, clock_moved_by, arrived_in, end_verdict_of}
+use Rattle.session.specs.Inner.{Scanned, clock_moved_by, arrived_in, end_verdict_of, decided}
 
 -- ---- refused or not
 
@@ -59,15 +60,21 @@ use Rattle.session.specs.Inner.{Scanned, clock_moved_by, arrived_in, end_verdict
 updates_as : {x y : Reply} {r : UpdateAnswer} {last : List ℕ} → x ≡ y → Updates x r last → Updates y r last
 updates_as {x} {y} {r} {last} e h = subst (λ (z : Reply). Updates z r last) e h
 
--- an update that is refused
-refused_is : (s : Session) (len : ℕ) (a : Reply) {u v : Verdict} {e : Refusal} {r : UpdateAnswer} {last : List ℕ} → u ≡ v → u ≡ Err e
-    → Updates (refused_with e s len) r last → Updates (unless_refused v s len a) r last
-refused_is s len a h k g = updates_as (ap (λ (w : Verdict). unless_refused w s len a) (sym k ∙ h)) g
+-- an update by its verdict
+by_verdict : (s : Session) (len : ℕ) (a : Reply) {u v : Verdict} (w : Verdict) → u ≡ v → u ≡ w → unless_refused v s len a ≡ unless_refused w s len a
+by_verdict s len a w h k = ap (λ (x : Verdict). unless_refused x s len a) (sym h ∙ k)
 
--- one that is not
-accepted_by_lem : (s : Session) (len : ℕ) (a : Reply) {u v : Verdict} {r : UpdateAnswer} {last : List ℕ} → u ≡ v → u ≡ accepted → Updates a r last
-    → Updates (unless_refused v s len a) r last
-accepted_by_lem s len a h k g = updates_as (ap (λ (w : Verdict). unless_refused w s len a) (sym k ∙ h)) g
+-- an update that was refused by what it is decided by: its tape is zeroed then
+pub decided_refused : {reply : Reply} {was now : Session} {len : ℕ} {d : Result Updated Refusal} {e : Refusal} {mid last : List ℕ} {a : Updated}
+    → decided reply was len d now mid → d ≡ Err e → Leaves (λ s. refused_with e s (length mid)) a last → Updates reply (answer_with now a) last
+decided_refused {reply} {was} {now} {len} {d} {e} {mid} {last} {a} h k g =
+    let r = subst (λ (x : Result Updated Refusal). decided reply was len x now mid) k h in
+    updates_as (sym (r.0 ∙ (λ i. refused_with e (sym r.1.0 i) (sym r.1.1 i)))) (g.updates now)
+
+-- one that was not
+pub decided_told : {reply : Reply} {was now : Session} {len : ℕ} {d : Result Updated Refusal} {a : Updated} {last : List ℕ}
+    → decided reply was len d now last → d ≡ Ok a → Updates reply (answer_with now a) last
+decided_told {reply} {was} {now} {len} {d} {a} {last} h k = subst (λ (x : Result Updated Refusal). decided reply was len x now last) k h
 
 -- ---- refused at once
 
@@ -118,24 +125,24 @@ arrives words s {got} {n} hg hn =
 -- ---- an update of the clock alone
 
 -- by what was heard, it is the update by the inbox
-pub clock_heard : (s : Session) (delta seconds : Float) (inbox : List ℕ) (len : ℕ) {scan : Scan} {r : UpdateAnswer} {last : List ℕ}
-    → Scanned s seconds inbox scan → Updates (clock_moved_by s delta seconds scan.worldly scan.heard len) r last
-    → Updates (clock_update_of s delta seconds inbox len) r last
+pub clock_heard : (s : Session) (delta seconds : Float) (inbox : List ℕ) (len : ℕ) {scan : Scan}
+    → Scanned s seconds inbox scan → clock_moved_by s delta seconds scan.worldly scan.heard len ≡ clock_update_of s delta seconds inbox len
 unfolding clock_update_of
-clock_heard s delta seconds inbox len h u = updates_as (λ i. clock_moved_by s delta seconds (h.worldly i) (h.heard i) len) u
+clock_heard s delta seconds inbox len h = λ i. clock_moved_by s delta seconds (h.worldly i) (h.heard i) len
 
 module _ (s : Session) (delta seconds : Float) (worldly : Bool) (heard : Heard) (len : ℕ) {n : Verdict} {r : UpdateAnswer} {last : List ℕ}
     (hn : n ≡ syncing_verdict_by worldly heard.other) where
-  pub clock_refused : {e : Refusal} → n ≡ Err e → Updates (refused_with e s len) r last → Updates (clock_moved_by s delta seconds worldly heard len) r last
-  clock_refused k h = refused_is s len _ hn k h
+  pub clock_refused : {e : Refusal} → n ≡ Err e → clock_moved_by s delta seconds worldly heard len ≡ refused_with e s len
+  clock_refused {e} k = by_verdict s len _ (Err e) hn k
 
   pub clock_moved : {t : Ticked} {c : Clock} {next : Session} → n ≡ accepted → t ≡ ticked_of s.clock s.settings.period delta
       → c ≡ settled_of s.settings t.clock heard → next ≡ synced_of s c seconds
       → Updates (unplayed_of accepted next t.request len) r last → Updates (clock_moved_by s delta seconds worldly heard len) r last
   clock_moved k ht hc hx h =
-      accepted_by_lem s len _ hn k
-      (updates_as (λ i. unplayed_of accepted
-      ((hx ∙ (λ j. synced_of s ((hc ∙ ap (λ (x : Ticked). settled_of s.settings x.clock heard) ht) j) seconds)) i) (ht i).request len) h)
+      updates_as
+      ((λ i. unplayed_of accepted
+      ((hx ∙ (λ j. synced_of s ((hc ∙ ap (λ (x : Ticked). settled_of s.settings x.clock heard) ht) j) seconds)) i) (ht i).request len)
+      ∙ sym (by_verdict s len _ accepted hn k)) h
 
 -- ---- an update of the worlds
 
@@ -194,11 +201,6 @@ module _ (s : Session) (c : Clock) (request : Bool) (u : Run) {was mid : List �
   unfolding concluded_by concluded_of verdict
   concluded_is = (λ i. unless_refused (verdict_is i) s (length mid) (accepted_by s c request v a mid)) ∙ concluded_by_lem verdict refl
 
--- the verdict at the end, from the parts that the code has
-pub end_is : (c : Settings) (a : Advanced) (len : ℕ) {x : Float} {w f : Bool} {n : Verdict} → x ≡ tween_of a.overshoot c.timestep
-    → w ≡ weight_ok x → f ≡ leb a.at len → n ≡ end_verdict_by a.stop w f → n ≡ end_verdict_of c a len
-end_is c a len hx hw hf h = h ∙ (λ i. end_verdict_by a.stop ((hw ∙ ap weight_ok hx) i) (hf i))
-
 module _ (s : Session) (delta seconds : Float) (inbox : List ℕ) {scan : Scan} {scene : Scene} {got : Received} {n : Verdict}
     (hz : Scanned s seconds inbox scan) (hs : scene ≡ scene_of s) (hg : got ≡ arrived_in inbox (none_received scene))
     (hn : n ≡ arrival_verdict_by scan.heard.other got.full) where
@@ -210,53 +212,53 @@ module _ (s : Session) (delta seconds : Float) (inbox : List ℕ) {scan : Scan} 
   arrival_is : n ≡ arrival_verdict_by (heard_other s seconds inbox) (received_in inbox (unreceived s)).full
   arrival_is = hn ∙ (λ i. arrival_verdict_by (hz.heard i).other (received_is i).full)
 
-  pub worlds_refused : (len : ℕ) {e : Refusal} {r : UpdateAnswer} {last : List ℕ} → n ≡ Err e → Updates (refused_with e s len) r last
-      → Updates (worlds_update_of s delta seconds inbox len) r last
+  pub worlds_refused : (len : ℕ) {e : Refusal} → n ≡ Err e → worlds_update_of s delta seconds inbox len ≡ refused_with e s len
   unfolding worlds_update_of
-  worlds_refused len k h = refused_is s len _ arrival_is k h
+  worlds_refused len {e} k = by_verdict s len _ (Err e) arrival_is k
 
   module _ {was mid last : List ℕ} {t : Ticked} {c : Clock} {x : Float} {v : Scene} {a : Advanced} {r : UpdateAnswer} (z : n ≡ accepted)
       (ht : t ≡ ticked_of s.clock s.settings.period delta) (hc : c ≡ settled_of s.settings t.clock scan.heard)
       (hx : x ≡ unwrap_or (server_seconds_of c.offset seconds) seconds)
       (ha : Advances (unended_of s.settings got.scene s.overshoot delta (add binary64 x s.settings.lag)) was v a mid) where
-    worlds_played : Updates (concluded_by s c t.request v a mid) r last → Updates (worlds_update_of s delta seconds inbox (length was)) r last
+    worlds_played : worlds_update_of s delta seconds inbox (length was) ≡ concluded_by s c t.request v a mid
     unfolding worlds_update_of played_of updated_of
-    worlds_played h =
+    worlds_played =
         let d : Clock = clock_after s delta seconds inbox in
         let k : c ≡ d = hc ∙ (λ i. settled_of s.settings (ht i).clock (hz.heard i)) in
         let y : x ≡ unwrap_or (server_seconds_of d.offset seconds) seconds = hx ∙ (λ i. unwrap_or (server_seconds_of (k i).offset seconds) seconds) in
         let u : Run = unended_of s.settings (scene_after s inbox) s.overshoot delta (lagged_of s d seconds) in
         let b : Advances u was v a mid = subst (λ (q : Run). Advances q was v a mid)
         (λ i. unended_of s.settings (received_is i).scene s.overshoot delta (add binary64 (y i) s.settings.lag)) ha in
-        accepted_by_lem s (length was) _ arrival_is z
-        (updates_as ((λ i. concluded_by s (k i) (ht i).request v a mid) ∙ concluded_is s d (request_of s delta) u b) h)
+        by_verdict s (length was) _ accepted arrival_is z
+        ∙ sym ((λ i. concluded_by s (k i) (ht i).request v a mid) ∙ concluded_is s d (request_of s delta) u b)
 
     -- refused at its end
-    pub worlds_stopped : {m : Verdict} {len : ℕ} {e : Refusal} → m ≡ end_verdict_of s.settings a len → len ≡ length mid → m ≡ Err e
-        → Updates (refused_with e s len) r last → Updates (worlds_update_of s delta seconds inbox (length was)) r last
+    pub worlds_stopped : {m : Verdict} {e : Refusal} → m ≡ end_verdict_of s.settings a (length mid) → m ≡ Err e
+        → worlds_update_of s delta seconds inbox (length was) ≡ refused_with e s (length was)
     unfolding concluded_by
-    worlds_stopped {m} {len} {e} hm hl k h =
-        let q : Err e ≡ end_verdict_of s.settings a (length mid) = sym k ∙ hm ∙ ap (end_verdict_of s.settings a) hl in
-        worlds_played
-        (updates_as ((λ i. refused_with e s (hl i)) ∙ (λ i. unless_refused (q i) s (length mid) (accepted_by s c t.request v a mid))) h)
+    worlds_stopped {m} {e} hm k =
+        worlds_played ∙ by_verdict s (length mid) (accepted_by s c t.request v a mid) (Err e) hm k ∙ (λ i. refused_with e s (puts-length ha.puts i))
 
     -- accepted
-    pub worlds_accepted : {m : Verdict} {len : ℕ} → m ≡ end_verdict_of s.settings a len → len ≡ length mid → m ≡ accepted
+    pub worlds_accepted : {m : Verdict} → m ≡ end_verdict_of s.settings a (length mid) → m ≡ accepted
         → Updates (accepted_by s c t.request v a mid) r last → Updates (worlds_update_of s delta seconds inbox (length was)) r last
     unfolding concluded_by
-    worlds_accepted {m} {len} hm hl k h =
-        let q : accepted ≡ end_verdict_of s.settings a (length mid) = sym k ∙ hm ∙ ap (end_verdict_of s.settings a) hl in
-        worlds_played (updates_as (λ i. unless_refused (q i) s (length mid) (accepted_by s c t.request v a mid)) h)
+    worlds_accepted {m} hm k h =
+        updates_as (sym (worlds_played ∙ by_verdict s (length mid) (accepted_by s c t.request v a mid) accepted hm k)) h
 
 -- ---- update
 
-module _ (s : Session) (delta seconds : Float) (inbox : List ℕ) (len : ℕ) {n : Verdict} {r : UpdateAnswer} {last : List ℕ}
-    (hn : n ≡ verdict_at_once s delta seconds inbox) where
-  pub update_refused : {e : Refusal} → n ≡ Err e → Updates (refused_with e s len) r last → Updates (update_of s delta seconds inbox len) r last
+module _ (s : Session) (delta seconds : Float) (inbox : List ℕ) (len : ℕ) {n : Verdict} (hn : n ≡ verdict_at_once s delta seconds inbox) where
+  pub update_refused : {e : Refusal} → n ≡ Err e → update_of s delta seconds inbox len ≡ refused_with e s len
   unfolding update_of
-  update_refused k h = refused_is s len _ hn k h
+  update_refused {e} k = by_verdict s len _ (Err e) hn k
 
-  pub update_by_lem : (x : Bool) {w : Bool} → n ≡ accepted → w ≡ has_worlds s.stage → w ≡ x → Updates (update_by x s delta seconds inbox len) r last
-      → Updates (update_of s delta seconds inbox len) r last
+  pub update_is : (x : Bool) {w : Bool} → n ≡ accepted → w ≡ has_worlds s.stage → w ≡ x → update_by x s delta seconds inbox len
+      ≡ update_of s delta seconds inbox len
   unfolding update_of
-  update_by_lem x e hw k h = accepted_by_lem s len _ hn e (updates_as (λ i. update_by ((sym k ∙ hw) i) s delta seconds inbox len) h)
+  update_is x e hw k = (λ i. update_by ((sym k ∙ hw) i) s delta seconds inbox len) ∙ sym (by_verdict s len _ accepted hn e)
+
+-- the same decision on another reply of the same value
+pub decided_as : {x y : Reply} {was now : Session} {len : ℕ} {d : Result Updated Refusal} {last : List ℕ} → x ≡ y → decided x was len d now last
+    → decided y was len d now last
+decided_as {was = was} {now} {len} {d} {last} e h = subst (λ (z : Reply). decided z was len d now last) e h

@@ -1,6 +1,7 @@
 -- What inner functions of the code give, of an inbox that was read and of a run whose words are on the tape already. No contract of a call cites this
 -- module: proofs/Answering ties it to Calls. Definitions only. Assumes nothing.
-use Rattle.std.specs.Prelude.{ℕ, Bool, List, ◌≡◌, leb, Float}
+use Rattle.std.specs.Prelude.{ℕ, Bool, List, ◌≡◌, leb, length, Float, Result, Ok, Err}
+use Rattle.refusals.specs.declared.Refusal.{Refusal}
 use Rattle.refusals.specs.Refusals.{Verdict, accepted, syncing_verdict_by, end_verdict_by}
 use Rattle.settings.specs.declared.Settings.{Settings}
 use Rattle.clocksync.specs.declared.Heard.{Heard}
@@ -14,7 +15,8 @@ use Rattle.inbox_passes.specs.Passes.{has_for_worlds, heard_in, received_in}
 use Rattle.inbox_scan.specs.declared.Scan.{Scan}
 use Rattle.inbox_scan.specs.Scan.{has_command, kept_in}
 use Rattle.session_state.specs.declared.Session.{Session}
-use Rattle.session_answers.specs.Answers.{Reply, unplayed_of, unless_refused}
+use Rattle.session_answers.specs.declared.Updated.{Updated}
+use Rattle.session_answers.specs.Answers.{Reply, Updates, answer_with, unplayed_of, refused_with, unless_refused}
 use Rattle.session_stage.specs.Stage.{synced_of}
 use Rattle.session.specs.Calls.{request_of, scene_with}
 
@@ -34,6 +36,11 @@ clock_moved_by s delta seconds worldly h len =
 -- what the commands and the snapshots of an inbox leave
 abbrev pub arrived_in : List ℕ → Received → Received
 arrived_in words r = record { scene = scene_with (received_in words r) words; full = (received_in words r).full }
+
+-- an update of the session `was` that is decided: what is told of it, or that it is refused, which leaves the session as it is; the tape has `len` words
+pub decided : Reply → (was : Session) → (len : ℕ) → Result Updated Refusal → (now : Session) → (last : List ℕ) → Type 0
+decided a was len (Ok told) now last = Updates a (answer_with now told) last
+decided a was len (Err e) now last = (a ≡ refused_with e was len) × ((now ≡ was) × (length last ≡ len))
 
 -- the verdict on an update whose frames have ended
 abbrev pub end_verdict_of : Settings → Advanced → ℕ → Verdict

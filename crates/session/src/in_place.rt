@@ -8,19 +8,18 @@ ghost use Rattle.client_receive.specs.Receive.{none_received};
 ghost use Rattle.inbox_passes.specs.Passes.{received_in};
 ghost use Rattle.inbox_scan.specs.Scan.{has_command, kept_in, Scans};
 ghost use Rattle.session_answers.specs.Answers.{answer_with, Updates};
-ghost use Rattle.session.specs.Inner.{arrived_in, clock_moved_by, end_verdict_of, Scanned};
+ghost use Rattle.session.specs.Inner.{arrived_in, clock_moved_by, end_verdict_of, Scanned, decided};
 ghost use Rattle.session.specs.Calls.{times_ok, worlds_update_of, update_of};
 
 use client::Scene;
 use clocksync::{Clock, Heard};
 use fixed_timestepper::{Advanced, TimeKeeper};
 use inbox_scan::Scan;
-use refusals::Verdict;
+use refusals::{Refusal, Verdict};
 use session_answers::Updated;
 pub use session_issue::issue;
 pub use session_report::report;
 use session_state::Session;
-use settings::Settings;
 
 // Whether delta and seconds are in their ranges; false for a NaN.
 pub fn times_ok(delta: f64, seconds: f64) -> bool
@@ -44,7 +43,7 @@ fn scan(session: &Session, seconds: f64, inbox: &[u32]) -> Scan
     )
 }
 
-// An update while the clock syncs.
+// An update while the clock syncs, unless it is refused.
 fn update_clock(
     session: &mut Session,
     delta: f64,
@@ -52,15 +51,13 @@ fn update_clock(
     worldly: bool,
     heard: Heard,
     tape: &mut [u32],
-) -> Updated
-    ensures { Updates (clock_moved_by session.old delta seconds worldly heard (length tape.old)) (answer_with session.new result) tape.new }
+) -> Result<Updated, Refusal>
+    ensures { decided (clock_moved_by session.old delta seconds worldly heard (length tape.old)) session.old (length tape.old) result session.new tape.new }
 {
-    if let Err(refusal) = refusals::while_syncing(worldly, heard.other) {
-        return session_answers::refuse(refusal, tape);
-    }
+    refusals::while_syncing(worldly, heard.other)?;
     let t = session.clock.tick(session.settings, delta);
     session_stage::synced(session, t.clock.settle(session.settings, heard), seconds);
-    session_answers::unplayed(Ok(()), t.request, tape)
+    Ok(session_answers::unplayed(Ok(()), t.request, tape))
 }
 
 // The commands of an inbox are received, which are looked for only where there is any. Gives whether a buffer that takes one was full.
@@ -92,10 +89,10 @@ fn server_time(clock: Clock, seconds: f64) -> f64
 }
 
 // The verdict on an update whose frames have ended; the tape has room for `room` words.
-fn verdict_at_end(settings: Settings, a: Advanced, room: usize) -> Verdict
-    ensures { result ≡ end_verdict_of settings a room }
+fn verdict_at_end(keeper: TimeKeeper, a: Advanced, room: usize) -> Verdict
+    ensures { result ≡ end_verdict_of keeper.settings a room }
 {
-    let weight = client_publish::ending::tween_weight(a.overshoot, settings.timestep);
+    let weight = keeper.after(a).tween_weight();
     refusals::at_end(
         a.stop,
         client_publish::ending::is_weight(weight),
@@ -103,7 +100,7 @@ fn verdict_at_end(settings: Settings, a: Advanced, room: usize) -> Verdict
     )
 }
 
-// An update once worlds exist. The frames are played on a copy of the worlds, which an accepted update leaves in the session.
+// An update once worlds exist, unless it is refused. The frames are played on a copy of the worlds, which an accepted update leaves in the session.
 fn update_worlds(
     session: &mut Session,
     delta: f64,
@@ -111,16 +108,14 @@ fn update_worlds(
     inbox: &[u32],
     scan: Scan,
     tape: &mut [u32],
-) -> Updated
+) -> Result<Updated, Refusal>
     requires { (session.old.settings.m ≤ most_steps) × (Scanned session.old seconds inbox.now scan) }
-    ensures { Updates (worlds_update_of session.old delta seconds inbox.now (length tape.old)) (answer_with session.new result) tape.new }
+    ensures { decided (worlds_update_of session.old delta seconds inbox.now (length tape.old)) session.old (length tape.old) result session.new tape.new }
 {
     let settings = session.settings;
     let mut scene = session.scene();
     let full = receive(scan, inbox, &mut scene);
-    if let Err(refusal) = refusals::by_arrivals(scan.heard.other, full) {
-        return session_answers::refuse(refusal, tape);
-    }
+    refusals::by_arrivals(scan.heard.other, full)?;
     let t = session.clock.tick(settings, delta);
     let clock = t.clock.settle(settings, scan.heard);
     let server = server_time(clock, seconds) + settings.lag;
@@ -129,14 +124,35 @@ fn update_worlds(
         overshoot: session.overshoot,
     };
     let a = keeper.update(&mut scene, delta, server, tape);
-    if let Err(refusal) = verdict_at_end(settings, a, tape.len()) {
-        return session_answers::refuse(refusal, tape);
-    }
-    session_answers::accept(session, clock, t.request, &scene, a, tape)
+    verdict_at_end(keeper, a, tape.len())?;
+    let told = session_answers::accept(session, clock, t.request, &scene, a, tape);
+    Ok(told)
 }
 
-// One update: time moves on by delta seconds to `seconds`, the inbox is read, and the words of what happens are put on the tape. While the
-// clock syncs there are no worlds.
+// An update, unless it is refused. While the clock syncs there are no worlds.
+fn decide(
+    session: &mut Session,
+    delta: f64,
+    seconds: f64,
+    inbox: &[u32],
+    tape: &mut [u32],
+) -> Result<Updated, Refusal>
+    ensures { decided (update_of session.old delta seconds inbox.now (length tape.old)) session.old (length tape.old) result session.new tape.new }
+{
+    let found = scan(session, seconds, inbox);
+    refusals::at_once(
+        times_ok(delta, seconds),
+        found.verdict,
+        session.is_sound(),
+    )?;
+    if session.stage.has_worlds() {
+        return update_worlds(session, delta, seconds, inbox, found, tape);
+    }
+    update_clock(session, delta, seconds, found.worldly, found.heard, tape)
+}
+
+// One update: time moves on by delta seconds to `seconds`, the inbox is read, and the words of what happens are put on the tape. A refused one zeroes it.
+// These five are the call's arguments, as document 01 has them.
 pub fn update(
     session: &mut Session,
     delta: f64,
@@ -146,16 +162,8 @@ pub fn update(
 ) -> Updated
     ensures { Updates (update_of session.old delta seconds inbox.now (length tape.old)) (answer_with session.new result) tape.new }
 {
-    let found = scan(session, seconds, inbox);
-    if let Err(refusal) = refusals::at_once(
-        times_ok(delta, seconds),
-        found.verdict,
-        session.is_sound(),
-    ) {
-        return session_answers::refuse(refusal, tape);
+    match decide(session, delta, seconds, inbox, tape) {
+        Ok(told) => told,
+        Err(refusal) => session_answers::refuse(refusal, tape),
     }
-    if session.stage.has_worlds() {
-        return update_worlds(session, delta, seconds, inbox, found, tape);
-    }
-    update_clock(session, delta, seconds, found.worldly, found.heard, tape)
 }

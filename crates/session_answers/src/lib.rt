@@ -7,7 +7,7 @@ ghost use Rattle.session_answers.specs.Inner.{accepted_by};
 
 use client::{Ledger, Scene};
 use clocksync::Clock;
-use fixed_timestepper::Advanced;
+use fixed_timestepper::{Advanced, TimeKeeper};
 use refusals::{Refusal, Verdict};
 use session_state::Session;
 
@@ -99,7 +99,11 @@ pub fn accept(
 {
     tape::clear(tape, a.at);
     session.worlds = scene.worlds;
-    fixed_timestepper::ended(&mut session.worlds, a.overshoot, session.settings);
+    let keeper = TimeKeeper {
+        settings: session.settings,
+        overshoot: a.overshoot,
+    };
+    keeper.ended(&mut session.worlds);
     session.stage = session_stage::stage_after(session.stage, session.worlds.published.time);
     session.clock = clock;
     session.overshoot = a.overshoot;

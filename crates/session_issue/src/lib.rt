@@ -57,9 +57,9 @@ pub fn issue(session: &mut Session, handle: u32) -> Issued
         full,
         session.stage.is_ready(),
     );
-    if let Err(refusal) = verdict {
+    if verdict.is_err() {
         return Issued {
-            refusal: Err(refusal),
+            refusal: verdict,
             stamp: Timestamp(0),
             left: Ledger::empty(),
             right: Ledger::empty(),
@@ -67,7 +67,7 @@ pub fn issue(session: &mut Session, handle: u32) -> Issued
     }
     session.worlds = scene.worlds;
     Issued {
-        refusal: Ok(()),
+        refusal: verdict,
         stamp,
         left: scene.left.closed(&scene.worlds.left.commands),
         right: scene.right.closed(&scene.worlds.right.commands),
