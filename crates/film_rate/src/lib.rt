@@ -36,6 +36,7 @@ fn span_passes(span: u64, p: u32, q: u32) -> bool
 }
 
 // The frames of a span in range. The product stays below 2^56 and the divisor below 2^36, so neither overflows.
+#[tactic(auto, using(crate::proofs::Ranges::in_range_lem))]
 fn counted(span: u64, p: u32, q: u32) -> SpanFrames
     requires { span_passes span p q ≡ true }
     ensures { result ≡ counted_of span p q }

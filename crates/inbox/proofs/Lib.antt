@@ -2,4 +2,3 @@ pub mod Steps
 pub mod Passes
 pub mod Bounds
 pub mod Messages
-pub mod Times

@@ -171,7 +171,6 @@ fn clock_of(id: u32, send: u64, server: u64) -> Reading
 }
 
 // The float of a pattern, which has to be finite and within 2^32.
-#[tactic(auto, using(crate::proofs::Times::no_time, timestamp::proofs::Patterns::no_nan), unfolding(crate::specs::Inbox::inbox_time_of))]
 fn time_of(bits: u64) -> Result<f64, Refusal>
     ensures { result ≡ inbox_time_of bits }
 {

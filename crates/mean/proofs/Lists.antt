@@ -1,15 +1,17 @@
 -- Samples in a list: the places, folds and insertions of the code. Assumes nothing.
 use Rattle.std.proofs.Common.{◌≡◌, ℕ, suc, ◌+◌, ◌-◌, ◌<◌, ◌≤◌, Bool, true, false, cond, not, ◌&&◌, List, [], ◌∷◌, ◌++◌, length, get_or, take, drop, sym, refl}
-use Rattle.std.proofs.Common.{Option, Some, None, ap, ◌∙◌, append_assoc, add-one, add-zero, arith, length-append, length-drop, length-take}
+use Rattle.std.proofs.Common.{Option, Some, None, ap, ◌∙◌, add-one, add-zero, arith, length-append, length-drop, length-take}
 use Rattle.std.proofs.Common.{drop_of_length-le, take-suc, take-take}
 use lib.Seq.{drop-append-le, drop-append_seam, drop-drop, get_or-drop, take-append-le, take-append_seam, take_all}
 use lib.Ieee.{Float, nan, binary64, lt, add}
 use borrow.Author.Tests.{ltb-false}
+use Rattle.std.proofs.lemmas.List.{append-nil}
+use borrow.Rule.Slice.PartMut.{put_mid}
 use Rattle.std.specs.List.{fold, insert, list_all, position, position_or_len}
 use Rattle.std.specs.Option.{unwrap_or}
 use Rattle.mean.specs.Mean.{sample_inserted, place_of, sorted_onto, sorted_of, sum_from, samples_ok}
 use Rattle.timestamp.specs.Floats.{sample_ok}
-use Rattle.mean.proofs.Means.{inserted_length, sorted_length}
+use Rattle.mean.proofs.Means.{sorted_length}
 
 -- ---- folds
 
@@ -70,25 +72,30 @@ placed x ys e f =
     go true h = refl
     go false h = omega (arith, h refl, place_is x ys, place_most x ys)
 
--- all have moved up: the last slot's content is left over
-pub insert_all : (x : Float) (s out : List Float) {i : ℕ} (j : ℕ) (moved : Float) → 0 < length s → i ≡ place_of x (take (length s - 1) s)
-    → length out ≡ length s → length s ≤ j → insert out j moved ≡ insert s i x → out ≡ sample_inserted x (take (length s - 1) s)
-insert_all x s out {i} j moved some at lo over e =
+-- all from the place on have moved up: the last slot's content is left over
+pub insert_all : (x : Float) (s items : List Float) {i : ℕ} (j : ℕ) (moved : Float) → 0 < length s → i ≡ place_of x (take (length s - 1) s)
+    → length items ≡ length (take (length s - i) (drop i s)) → length (take (length s - i) (drop i s)) ≤ j
+    → insert items j moved ≡ x ∷ take (length s - i) (drop i s) → put_mid i (length s - i) s items ≡ sample_inserted x (take (length s - 1) s)
+insert_all x s items {i} j moved some at lo over e =
     let n = length s - 1 in
     let f = take (length s - 1) s in
     let z = get_or s (length s - 1) nan in
     let lf : length f ≡ n = length-take n s ∙ omega arith in
     let hi : i ≤ length f = omega (arith, place_most x f) in
+    let ld : length (drop i s) ≡ length s - i = length-drop i s in
     let se : s ≡ f ++ (z ∷ []) = sym (take_all (suc n) s (omega arith)) ∙ take-suc s n nan (omega arith) in
     let te : take i s ≡ take i f = ap (take i) se ∙ take-append-le i f (z ∷ []) hi in
     let de : drop i s ≡ drop i f ++ (z ∷ []) = ap (drop i) se ∙ drop-append-le i f (z ∷ []) hi in
-    let right : insert s i x ≡ sample_inserted x f ++ (z ∷ []) = (λ k. te k ++ (x ∷ de k)) ∙ sym (append_assoc (take i f) (x ∷ drop i f) (z ∷ []))
-    ∙ ap (λ (j : ℕ). (take j f ++ (x ∷ drop j f)) ++ (z ∷ [])) at ∙ ap (λ (l : List Float). l ++ (z ∷ [])) (sym (inserted_at x f)) in
-    let past : length out ≤ j = omega arith in
-    let left : insert out j moved ≡ out ++ (moved ∷ []) = (λ k. take_all j out past k ++ (moved ∷ drop_of_length-le out past k)) in
-    let li : length (sample_inserted x f) ≡ length out = inserted_length x f ∙ omega arith in
-    sym (take-append_seam out (moved ∷ [])) ∙ ap (take (length out)) (sym left ∙ e ∙ right)
-    ∙ ap (λ (k : ℕ). take k (sample_inserted x f ++ (z ∷ []))) (sym li) ∙ take-append_seam (sample_inserted x f) (z ∷ [])
+    let all : take (length s - i) (drop i s) ≡ drop i s = take_all (length s - i) (drop i s) (omega arith) in
+    let past : length items ≤ j = omega arith in
+    let left : insert items j moved ≡ items ++ (moved ∷ []) = (λ k. take_all j items past k ++ (moved ∷ drop_of_length-le items past k)) in
+    let right : items ++ (moved ∷ []) ≡ (x ∷ drop i f) ++ (z ∷ []) = sym left ∙ e ∙ ap (λ (l : List Float). x ∷ l) (all ∙ de) in
+    let li : length items ≡ length (x ∷ drop i f) = omega (arith, lo, ap length all, ld, lf, length-drop i f) in
+    let it : items ≡ x ∷ drop i f = sym (take-append_seam items (moved ∷ [])) ∙ ap (take (length items)) right
+    ∙ ap (λ (k : ℕ). take k ((x ∷ drop i f) ++ (z ∷ []))) li ∙ take-append_seam (x ∷ drop i f) (z ∷ []) in
+    let rest : items ++ drop (length s - i) (drop i s) ≡ x ∷ drop i f = ap (λ (l : List Float). items ++ l) (drop_of_length-le (drop i s) (omega arith))
+    ∙ append-nil items ∙ it in
+    (λ k. te k ++ rest k) ∙ ap (λ (j : ℕ). take j f ++ (x ∷ drop j f)) at ∙ sym (inserted_at x f)
 
 -- ---- sorting
 

@@ -4,4 +4,5 @@ use Rattle.mean.proofs.insert.Goals as goal
 
 pub returns : goal.returns
 returns c =
-    insert_all c.args.x c.args.samples.now _ _ _ c.requires c.place-start.ensures.place c.loop-i.auto.samples c.loop-i-test.false c.loop-i.invariant
+    insert_all c.args.x c.args.samples.now c.loop-slot.slot-items c.loop-slot.slot-index c.loop-slot.moved c.requires c.place-start.ensures.place
+    c.loop-slot.auto.slot-items c.loop-slot-test.false c.loop-slot.invariant
