@@ -65,16 +65,17 @@ by_verdict : (s : Session) (len : ℕ) (a : Reply) {u v : Verdict} (w : Verdict)
 by_verdict s len a w h k = ap (λ (x : Verdict). unless_refused x s len a) (sym h ∙ k)
 
 -- an update that was refused by what it is decided by: its tape is zeroed then
-pub decided_refused : {reply : Reply} {was now : Session} {len : ℕ} {d : Result Updated Refusal} {e : Refusal} {mid last : List ℕ} {a : Updated}
+pub decided_refused : (was : Session) (len : ℕ) (mid : List ℕ) {reply : Reply} {now : Session} {d : Result Updated Refusal} {e : Refusal} {last : List ℕ}
+    {a : Updated}
     → decided reply was len d now mid → d ≡ Err e → Leaves (λ s. refused_with e s (length mid)) a last → Updates reply (answer_with now a) last
-decided_refused {reply} {was} {now} {len} {d} {e} {mid} {last} {a} h k g =
+decided_refused was len mid {reply} {now} {d} {e} {last} {a} h k g =
     let r = subst (λ (x : Result Updated Refusal). decided reply was len x now mid) k h in
     updates_as (sym (r.0 ∙ (λ i. refused_with e (sym r.1.0 i) (sym r.1.1 i)))) (g.updates now)
 
 -- one that was not
-pub decided_told : {reply : Reply} {was now : Session} {len : ℕ} {d : Result Updated Refusal} {a : Updated} {last : List ℕ}
+pub decided_told : (was : Session) (len : ℕ) {reply : Reply} {now : Session} {d : Result Updated Refusal} {a : Updated} {last : List ℕ}
     → decided reply was len d now last → d ≡ Ok a → Updates reply (answer_with now a) last
-decided_told {reply} {was} {now} {len} {d} {a} {last} h k = subst (λ (x : Result Updated Refusal). decided reply was len x now last) k h
+decided_told was len {reply} {now} {d} {a} {last} h k = subst (λ (x : Result Updated Refusal). decided reply was len x now last) k h
 
 -- ---- refused at once
 
@@ -130,12 +131,12 @@ pub clock_heard : (s : Session) (delta seconds : Float) (inbox : List ℕ) (len 
 unfolding clock_update_of
 clock_heard s delta seconds inbox len h = λ i. clock_moved_by s delta seconds (h.worldly i) (h.heard i) len
 
-module _ (s : Session) (delta seconds : Float) (worldly : Bool) (heard : Heard) (len : ℕ) {n : Verdict} {r : UpdateAnswer} {last : List ℕ}
+module _ (s : Session) (delta seconds : Float) (worldly : Bool) (heard : Heard) (len : ℕ) {n : Verdict}
     (hn : n ≡ syncing_verdict_by worldly heard.other) where
   pub clock_refused : {e : Refusal} → n ≡ Err e → clock_moved_by s delta seconds worldly heard len ≡ refused_with e s len
   clock_refused {e} k = by_verdict s len _ (Err e) hn k
 
-  pub clock_moved : {t : Ticked} {c : Clock} {next : Session} → n ≡ accepted → t ≡ ticked_of s.clock s.settings.period delta
+  pub clock_moved : {t : Ticked} {c : Clock} {next : Session} {r : UpdateAnswer} {last : List ℕ} → n ≡ accepted → t ≡ ticked_of s.clock s.settings.period delta
       → c ≡ settled_of s.settings t.clock heard → next ≡ synced_of s c seconds
       → Updates (unplayed_of accepted next t.request len) r last → Updates (clock_moved_by s delta seconds worldly heard len) r last
   clock_moved k ht hc hx h =
@@ -216,7 +217,7 @@ module _ (s : Session) (delta seconds : Float) (inbox : List ℕ) {scan : Scan} 
   unfolding worlds_update_of
   worlds_refused len {e} k = by_verdict s len _ (Err e) arrival_is k
 
-  module _ {was mid last : List ℕ} {t : Ticked} {c : Clock} {x : Float} {v : Scene} {a : Advanced} {r : UpdateAnswer} (z : n ≡ accepted)
+  module _ {was mid : List ℕ} {t : Ticked} {c : Clock} {x : Float} {v : Scene} {a : Advanced} (z : n ≡ accepted)
       (ht : t ≡ ticked_of s.clock s.settings.period delta) (hc : c ≡ settled_of s.settings t.clock scan.heard)
       (hx : x ≡ unwrap_or (server_seconds_of c.offset seconds) seconds)
       (ha : Advances (unended_of s.settings got.scene s.overshoot delta (add binary64 x s.settings.lag)) was v a mid) where
@@ -240,10 +241,10 @@ module _ (s : Session) (delta seconds : Float) (inbox : List ℕ) {scan : Scan} 
         worlds_played ∙ by_verdict s (length mid) (accepted_by s c t.request v a mid) (Err e) hm k ∙ (λ i. refused_with e s (puts-length ha.puts i))
 
     -- accepted
-    pub worlds_accepted : {m : Verdict} → m ≡ end_verdict_of s.settings a (length mid) → m ≡ accepted
+    pub worlds_accepted : {m : Verdict} {r : UpdateAnswer} {last : List ℕ} → m ≡ end_verdict_of s.settings a (length mid) → m ≡ accepted
         → Updates (accepted_by s c t.request v a mid) r last → Updates (worlds_update_of s delta seconds inbox (length was)) r last
     unfolding concluded_by
-    worlds_accepted {m} hm k h =
+    worlds_accepted {m} {r} {last} hm k h =
         updates_as (sym (worlds_played ∙ by_verdict s (length mid) (accepted_by s c t.request v a mid) accepted hm k)) h
 
 -- ---- update
@@ -259,6 +260,6 @@ module _ (s : Session) (delta seconds : Float) (inbox : List ℕ) (len : ℕ) {n
   update_is x e hw k = (λ i. update_by ((sym k ∙ hw) i) s delta seconds inbox len) ∙ sym (by_verdict s len _ accepted hn e)
 
 -- the same decision on another reply of the same value
-pub decided_as : {x y : Reply} {was now : Session} {len : ℕ} {d : Result Updated Refusal} {last : List ℕ} → x ≡ y → decided x was len d now last
+pub decided_as : (was : Session) (len : ℕ) (d : Result Updated Refusal) (now : Session) (last : List ℕ) {x y : Reply} → x ≡ y → decided x was len d now last
     → decided y was len d now last
-decided_as {was = was} {now} {len} {d} {last} e h = subst (λ (z : Reply). decided z was len d now last) e h
+decided_as was len d now last e h = subst (λ (z : Reply). decided z was len d now last) e h

@@ -38,7 +38,7 @@ abbrev pub arrived_in : List ℕ → Received → Received
 arrived_in words r = record { scene = scene_with (received_in words r) words; full = (received_in words r).full }
 
 -- an update of the session `was` that is decided: what is told of it, or that it is refused, which leaves the session as it is; the tape has `len` words
-pub decided : Reply → (was : Session) → (len : ℕ) → Result Updated Refusal → (now : Session) → (last : List ℕ) → Type 0
+abbrev pub decided : Reply → (was : Session) → (len : ℕ) → Result Updated Refusal → (now : Session) → (last : List ℕ) → Type 0
 decided a was len (Ok told) now last = Updates a (answer_with now told) last
 decided a was len (Err e) now last = (a ≡ refused_with e was len) × ((now ≡ was) × (length last ≡ len))
 

@@ -1,1 +1,2 @@
 pub mod Issue
+pub mod Inner

@@ -3,9 +3,10 @@
 
 ghost use Rattle.std.specs.Prelude.{◌≡◌};
 ghost use Rattle.session_issue.specs.Issue.{issue_with, issue_of};
+ghost use Rattle.session_issue.specs.Inner.{unissued_told, decided};
 
 use client::Ledger;
-use refusals::Verdict;
+use refusals::{Refusal, Verdict};
 use session_state::Session;
 use timestamp::Timestamp;
 
@@ -43,33 +44,47 @@ impl Issued {
     }
 }
 
-// A command of this client, for the frame that is played next. Refused, it leaves the session as it is, and everything else is 0.
-pub fn issue(session: &mut Session, handle: u32) -> Issued
-    ensures { issue_with session.new result ≡ issue_of session.old handle }
+// A refused issue: everything beside the session is 0.
+fn refuse(refusal: Refusal) -> Issued
+    ensures { result ≡ unissued_told refusal }
+{
+    Issued {
+        refusal: Err(refusal),
+        stamp: Timestamp(0),
+        left: Ledger::empty(),
+        right: Ledger::empty(),
+    }
+}
+
+// A command of this client, unless it is refused.
+fn decide(session: &mut Session, handle: u32) -> Result<Issued, Refusal>
+    ensures { decided (issue_of session.old handle) session.old result session.new }
 {
     let stamp = session.worlds.last_completed_timestamp() + 1;
     let mut scene = session.scene();
     let full = client_receive::receive_command(&mut scene, command::entry_of(stamp, handle));
-    let verdict = refusals::of_issue(
+    refusals::of_issue(
         handle < refusals::HANDLE_ROOM,
         session.is_sound(),
         session.stage.has_worlds(),
         full,
         session.stage.is_ready(),
-    );
-    if verdict.is_err() {
-        return Issued {
-            refusal: verdict,
-            stamp: Timestamp(0),
-            left: Ledger::empty(),
-            right: Ledger::empty(),
-        };
-    }
+    )?;
     session.worlds = scene.worlds;
-    Issued {
-        refusal: verdict,
+    Ok(Issued {
+        refusal: Ok(()),
         stamp,
         left: scene.left.closed(&scene.worlds.left.commands),
         right: scene.right.closed(&scene.worlds.right.commands),
+    })
+}
+
+// A command of this client, for the frame that is played next. Refused, it leaves the session as it is, and everything else is 0.
+pub fn issue(session: &mut Session, handle: u32) -> Issued
+    ensures { issue_with session.new result ≡ issue_of session.old handle }
+{
+    match decide(session, handle) {
+        Ok(told) => told,
+        Err(refusal) => refuse(refusal),
     }
 }

@@ -4,7 +4,9 @@ use Rattle.inbox_scan.proofs.Scanning.{scans_long, scans_read}
 use Rattle.inbox_scan.proofs.scan_inbox.Goals as goal
 
 pub returns-then-words-gt-MOST_WORDS : goal.returns-then-words-gt-MOST_WORDS
-returns-then-words-gt-MOST_WORDS c = scans_long c.args.words.now c.args.seconds c.args.heard c.args.snapshots c.args.old (omega arith)
+returns-then-words-gt-MOST_WORDS c =
+    let a = c.args in
+    rw c.nothing.ensures (scans_long a.words.now a.seconds a.heard a.snapshots a.old (omega arith))
 
 pub returns : goal.returns
 returns c =
