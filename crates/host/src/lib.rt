@@ -2,12 +2,13 @@
 // The header include/kadwunge.h declares them. Every argument is answered; none is required to be anything.
 #![tactic(auto)]
 
-ghost use Rattle.std.specs.Prelude.{◌≡◌, ◌+◌, ◌*◌, ◌≤◌, length, replicate};
+ghost use Rattle.std.specs.Prelude.{◌≡◌, ◌≤◌, length, map, replicate};
 ghost use Rattle.timestamp.specs.Timestamps.{bits_of, order_of, order_number};
 ghost use Rattle.refusals.specs.Limits.{sample_room};
 ghost use Rattle.film_rate.specs.Spans.{span_frames_of};
 ghost use Rattle.host.specs.Host.{frame_stamp_of};
-ghost use Rattle.host.specs.Mean.{word_at, floats_of, bytes_of, judged_mean, mean_answer_of, AnswersMean};
+ghost use Rattle.host.specs.Inner.{float_in};
+ghost use Rattle.host.specs.Mean.{bytes_of, judged_mean, mean_answer_of, AnswersMean};
 ghost use Rattle.host.specs.Spans.{host_span_of};
 
 use refusals::{LONGEST_TIME, LONGEST_TIMESTEP, Refusal, SAMPLE_ROOM, SHORTEST_TIMESTEP, require};
@@ -56,6 +57,7 @@ pub fn kadwunge_frame_stamp(seconds: f64, timestep: f64) -> i32
 }
 
 // The whole frames of a span of microseconds at p over q frames a second, and the remainder; or 31, both being 0 then.
+// The arguments are plain numbers, as C hands them over.
 pub fn kadwunge_frames_of_span(span: u64, p: u32, q: u32) -> HostSpanFrames
     ensures { result ≡ host_span_of (span_frames_of span p q) }
 {
@@ -77,6 +79,8 @@ pub fn kadwunge_frames_of_span(span: u64, p: u32, q: u32) -> HostSpanFrames
 
 // The mean of samples, given as bytes, 8 a sample, low byte first: 0, and the mean in the 8 bytes of the answer. Or 1 where samples needed or
 // rate are out of range, else 8 where the bytes are not the samples to store or the answer has no 8 bytes; the answer is zeroed then.
+// The arguments are plain numbers and bytes, as C hands them over.
+#[tactic(auto, unfolding(crate::specs::Mean::mean_answer_of, crate::specs::Mean::mean_of_stored))]
 pub fn kadwunge_mean_of_samples(needed: u32, rate: f64, samples: &[u8], answer: &mut [u8]) -> u32
     ensures { AnswersMean needed rate samples.now (length answer.old) result answer.new }
 {
@@ -93,7 +97,7 @@ pub fn kadwunge_mean_of_samples(needed: u32, rate: f64, samples: &[u8], answer: 
 }
 
 // The mean of samples as bytes, where the answer has room for `room` bytes.
-#[tactic(auto, unfolding(crate::specs::Mean::mean_of_stored, crate::specs::Mean::mean_answer_of))]
+#[tactic(auto, using(crate::proofs::Chunks::reading), unfolding(crate::specs::Mean::mean_of_stored, crate::specs::Mean::mean_answer_of))]
 fn mean_of_bytes(needed: u32, rate: f64, samples: &[u8], room: usize) -> Result<f64, Refusal>
     ensures { result ≡ mean_answer_of needed rate samples.now room }
 {
@@ -105,6 +109,7 @@ fn mean_of_bytes(needed: u32, rate: f64, samples: &[u8], room: usize) -> Result<
 }
 
 // The mean of samples of 8 bytes each, where each is finite and within 2^33.
+#[tactic(auto, using(crate::proofs::Chunks::all_taken))]
 fn mean_of_words(words: &[[u8; 8]], discard: usize) -> Result<f64, Refusal>
     requires { length words.now ≤ sample_room }
     ensures { result ≡ judged_mean discard (map float_in words.now) }
@@ -116,13 +121,13 @@ fn mean_of_words(words: &[[u8; 8]], discard: usize) -> Result<f64, Refusal>
     Ok(mean::mean_of(floats, discard))
 }
 
-// Reads a float of each word, low byte first.
+// Reads a float of each word, low byte first. (By an index, since a proof knows nothing of what a zip with `out.iter_mut()` wrote.)
 fn read_floats(words: &[[u8; 8]], out: &mut [f64])
     requires { length out.old ≡ length words.now }
     ensures { out.new ≡ map float_in words.now }
 {
-    for (float, word) in out.iter_mut().zip(words) {
-        *float = std::num::f64_from_bits_with_nan(u64::from_le_bytes(*word));
+    for (i, word) in words.iter().enumerate() {
+        out[i] = std::num::f64_from_bits_with_nan(u64::from_le_bytes(*word));
     }
 }
 

@@ -28,6 +28,7 @@ pub extern "C" fn kadwunge_frame_stamp(seconds: f64, timestep: f64) -> i32
 }
 
 // The whole frames of a span of microseconds at p over q frames a second, and the remainder; or 31, both being 0 then.
+// The arguments are plain numbers, as C hands them over.
 #[unsafe(no_mangle)]
 pub extern "C" fn kadwunge_frames_of_span(span: u64, p: u32, q: u32) -> HostSpanFrames
     ensures { result ≡ host_span_of (span_frames_of span p q) }
@@ -37,6 +38,7 @@ pub extern "C" fn kadwunge_frames_of_span(span: u64, p: u32, q: u32) -> HostSpan
 
 // The mean of samples, given as bytes, 8 a sample, low byte first: 0, and the mean in the 8 bytes of the answer. Or 1 where samples needed or
 // rate are out of range, else 8 where the bytes are not the samples to store or the answer has no 8 bytes; the answer is zeroed then.
+// The arguments are plain numbers and bytes, as C hands them over.
 #[unsafe(no_mangle)]
 pub extern "C" fn kadwunge_mean_of_samples(
     needed: u32,
