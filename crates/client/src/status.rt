@@ -6,6 +6,7 @@ use super::{ClientWorldSimulations, FastforwardingHealth, QueuedSnapshot, Reconc
 use timestamp::Timestamp;
 
 // Whether the first stamp is later than the second.
+#[tactic(auto, unfolding(crate::specs::Status::later_of))]
 pub fn is_later(a: Timestamp, b: Timestamp) -> bool
     ensures { result ≡ later_of a b }
 {
@@ -22,6 +23,7 @@ pub fn is_snapshot_newer(queued: Option<QueuedSnapshot>, new: Timestamp) -> bool
 
 impl ClientWorldSimulations {
     // The status: equal stamps blend or await by the weight; else the new world is ahead, or behind a newer snapshot, or catching up.
+    #[tactic(auto, unfolding(crate::specs::Status::status_of, crate::specs::Status::overshot_of))]
     pub fn infer_current_reconciliation_status(&self) -> ReconciliationStatus
         ensures { result ≡ status_of self.now }
     {

@@ -1,12 +1,12 @@
 -- Laws of filtered lists, of lists laid out in slots, and what a loop keeps that filters one list into another or counts. Assumes nothing.
 use mathlib.Core.Path.{◌≡◌, refl, sym, ap, ◌∙◌}
-use mathlib.Core.List.{List, [], ◌∷◌, ◌++◌, map, append_assoc, append-nil}
+use mathlib.Core.List.{List, [], ◌∷◌, ◌++◌, append_assoc, append-nil}
 use mathlib.Core.Bool.{Bool, true, false, not, cond}
 use Prim.Native.Nat.{ℕ, zero, suc, ◌+◌, ◌≤◌, ◌<◌}
 use native.Mathlib.Numerals.{add-one, unary_clauses}
 use native.Mathlib.Omega.{arith}
 use native.Mathlib.Nat.{le_of_suc-le-suc, not-suc-le-zero}
-use lib.ListN.{length, take, drop, get_or, set, length-map, length-append, length-take, take-append-drop}
+use lib.ListN.{length, take, drop, get_or, set, length-append, length-take, take-append-drop}
 use lib.Seq.{take-suc, take-take}
 use Rattle.std.proofs.lemmas.List.{take_all}
 use Rattle.command.specs.Lists.{filter_b, pad}
@@ -149,7 +149,3 @@ module _ {A : Type 0} where
 
     pub count_skip : p (get_or xs i d) ≡ false → k ≡ length (filter_b p (take (i + 1) xs))
     count_skip e = rw (filter-left p xs i d h e) c
-
--- what owning an array of structs tells, its length among it, is told of the list mapped
-pub mapped_length : {A B : Type 0} (f : A → B) (l : List A) (n : ℕ) → length (map f l) ≡ n → length l ≡ n
-mapped_length f l n e = sym (length-map l f) ∙ e

@@ -1,19 +1,27 @@
--- A sound buffer stays sound under every operation; and what the loop that tests it keeps. Assumes nothing.
-use mathlib.Core.Path.{◌≡◌, refl, sym, ap, ◌∙◌}
+-- A sound buffer stays sound under every operation; and what the test of one gives. Assumes nothing.
+use mathlib.Core.Path.{◌≡◌, refl, sym, ap, subst, ◌∙◌}
 use mathlib.Core.List.{List, [], ◌∷◌, ◌++◌}
 use mathlib.Core.Bool.{Bool, true, false, not, cond, ◌&&◌, and-false}
-use Prim.Native.Nat.{ℕ, ◌+◌, ◌≤◌, ◌<◌}
+use Prim.Native.Nat.{ℕ, ◌≤◌, ◌<◌}
 use native.Mathlib.Omega.{arith}
-use native.Mathlib.Numerals.{add-one}
 use lib.Dec.{leb}
-use lib.ListN.{length, drop, get_or, drop_of_length-le}
-use lib.Seq.{drop-cons}
+use lib.ListN.{length}
+use denote.Ref.{Bor}
+use denote.Param.Members.{Mut}
 use borrow.Author.Tests.{le-leb, lt-leb, leb-true}
+use Rattle.std.specs.declared.option.Option.{Option}
+use Rattle.std.specs.declared.option.Option.TheVariants.{None, Some}
+use Rattle.std.specs.declared.slice.Iter.{Iter}
+use Rattle.std.specs.Option.{MatchOption}
+use Rattle.std.specs.Iterator.{Yields, ChecksAll}
+use Rattle.std.specs.Fn.{Called}
+use Rattle.std.specs.List.{FoldsTo}
+use Rattle.std.proofs.lemmas.Fn.{fronts}
 use Rattle.timestamp.specs.declared.Timestamp.{Timestamp}
 use Rattle.command.specs.Entries.{Entry, stamp_in, plain_entry}
 use Rattle.command.specs.declared.CommandBuffer.{CommandBuffer}
 use Rattle.command.specs.Lists.{filter_b, all_b}
-use Rattle.command.specs.Buffer.{held, blank, laid, in_range_of, due_of, later_than, placed_of, inserted_of, moved_of, rest_of, emptied_of}
+use Rattle.command.specs.Buffer.{held, laid, in_range_of, due_of, later_than, placed_of, inserted_of, moved_of, rest_of, emptied_of}
 use Rattle.command.specs.Ranks.{sound_rank}
 use Rattle.command.specs.Soundness.{in_order_after, in_order, ordered_in, sound_buffer}
 use Rattle.command.proofs.Holding.{held_laid, stamp_laid, len_laid, held_len}
@@ -124,7 +132,7 @@ emptied_sound b h =
       plain = rw (emptied_held b) refl;
     })
 
--- ---- the loop
+-- ---- the test
 
 -- the answer for the entries xs where the last one ranked lo
 unfoldable pub sound_from : Timestamp → ℕ → List Entry → Bool
@@ -173,27 +181,26 @@ buffer_is b = lead (leb b.len 64) (ordered_in b.timestamp (held b)) (all_b plain
 pub sound_long : (b : CommandBuffer) → 64 < b.len → false ≡ sound_buffer b
 sound_long b h = sym (buffer_is b ∙ ap (λ (t : Bool). t && sound_from b.timestamp 0 (held b)) (lt-leb b.len 64 h))
 
--- not too many: the answer for the entries that are held
-pub test_none : (b : CommandBuffer) {xs : List Entry} → b.len ≤ 64 → xs ≡ held b → sound_buffer b ≡ sound_from b.timestamp 0 xs
-test_none b few e = rw (e, buffer_is b, le-leb b.len 64 few) refl
+-- not too many. A call of the closure tells whether an entry may stand after the last one, of whose rank `Has` says that the closure holds it
+module _ {F : Type 0} {g : Mut F (Bor Entry × Unit {0}) Bool} (b : CommandBuffer) (Has : ℕ → F → Type 0)
+    (tells : (lo : ℕ) (f : F) (x : Bor Entry) (r : Bool) (h : F) → Has lo f → Called g f (x, tt) r h
+    → (r ≡ sound_rank (rank_in b.timestamp x.now) lo x.now) × Has (rank_in b.timestamp x.now) h)
+  where
+    no_entry : (xs : List Entry) → length xs ≡ 0 → xs ≡ []
+    no_entry [] e = refl
+    no_entry (x ∷ xs) e = absurd (omega arith)
 
--- all are passed
-pub test_end : (m : Timestamp) (lo : ℕ) (xs : List Entry) (i : ℕ) → length xs ≤ i → sound_from m lo (drop i xs) ≡ true
-unfolding sound_from
-test_end m lo xs i h = ap (sound_from m lo) (drop_of_length-le xs h)
+    from_here : (xs : List (Bor Entry)) (o : Option (Bor Entry)) (r : Bool) (lo : ℕ) (f j : F) (s t u : Iter Entry) → Has lo f
+        → Yields fronts s xs t → fronts t o u → FoldsTo (λ p x q. Called g p (x, tt) true q) f xs j
+        → MatchOption o (r ≡ true) (λ x. (r ≡ false) × ((h : F) × Called g j (x, tt) false h)) → r ≡ sound_from b.timestamp lo s.rest.now
+    unfolding sound_from
+    from_here [] None r lo f j s t u i y p c e = rw (y, no_entry t.rest.now p.0) e
+    from_here [] (Some x) r lo f j s t u i y p c e = rw (y, p, e.0, ← (tells lo j x false e.1.0 (subst (Has lo) c i) e.1.1).0) refl
+    from_here (x ∷ xs) o r lo f j s t u i y p c e =
+        let k = tells lo f x true c.0 i c.1 in
+        rw (y.1, ← k.0) (from_here xs o r (rank_in b.timestamp x.now) c.0 j y.0 t u k.1 y.2 p c.2 e)
 
--- one entry more is passed
-pub test_next : (m : Timestamp) (lo : ℕ) (xs : List Entry) (i : ℕ) {k : ℕ} → i < length xs → k ≡ rank_in m (get_or xs i blank)
-    → sound_from m lo (drop i xs) ≡ sound_rank k lo (get_or xs i blank) && sound_from m k (drop (i + 1) xs)
-unfolding sound_from
-test_next m lo xs i h e = rw (drop-cons xs i blank h, add-one i, e) refl
-
--- that fails
-pub test_no : (m : Timestamp) (lo : ℕ) (xs : List Entry) (i : ℕ) {k : ℕ} → i < length xs → k ≡ rank_in m (get_or xs i blank)
-    → sound_rank k lo (get_or xs i blank) ≡ false → sound_from m lo (drop i xs) ≡ false
-test_no m lo xs i {k} h e f = test_next m lo xs i h e ∙ ap (λ (t : Bool). t && sound_from m k (drop (i + 1) xs)) f
-
--- that passes
-pub test_yes : (m : Timestamp) (lo : ℕ) (xs : List Entry) (i : ℕ) {k : ℕ} → i < length xs → k ≡ rank_in m (get_or xs i blank)
-    → sound_rank k lo (get_or xs i blank) ≡ true → sound_from m lo (drop i xs) ≡ sound_from m k (drop (i + 1) xs)
-test_yes m lo xs i {k} h e f = test_next m lo xs i h e ∙ ap (λ (t : Bool). t && sound_from m k (drop (i + 1) xs)) f
+    pub test_all : b.len ≤ 64 → {s u : Iter Entry} → s.rest.now ≡ held b → {f : F} → Has 0 f → (r : Bool) → ChecksAll fronts g s f r u
+        → r ≡ sound_buffer b
+    test_all few {s} {u} e {f} i r d =
+        rw (buffer_is b, le-leb b.len 64 few, ← e) (from_here d.0 d.1 r 0 f d.2 s d.3.0 u i d.3.1 d.3.2 d.4 d.5)

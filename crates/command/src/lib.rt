@@ -209,6 +209,7 @@ impl CommandBuffer {
     }
 
     // Takes the same entries, and puts the command word of each on the tape, for a world, oldest first.
+    // A side and a tape are handed in together here and below: a buffer does not know its world, nor has it the tape.
     pub fn apply_up_to(&mut self, s: Timestamp, side: Side, tape: &mut Tape<'_>)
         requires { tape.old.at + buffer_room ≤ count_end }
         ensures applied { Applies self.old s (side_number side) tape.old self.new tape.new }
@@ -352,6 +353,7 @@ pub fn entry_sound(k: u32, lo: u32, entry: u64) -> bool
 }
 
 // The rank of a stamp around m: its signed difference to m, plus 32,768. Ranks stand in the order of the signed differences.
+#[tactic(auto, unfolding(crate::specs::Ranks::rank_of))]
 fn rank_of(s: Timestamp, m: Timestamp) -> u32
     ensures { result ≡ rank_of m.0 s.0 }
 {

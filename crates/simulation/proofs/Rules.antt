@@ -1,5 +1,4 @@
 -- What the code of each function comes to, over plain values: one rule for each return. Assumes nothing.
-use Rattle.std.specs.Ordering.{is_lt}
 use mathlib.Core.Path.{◌≡◌, refl, ap, sym, ◌∙◌}
 use mathlib.Core.Bool.{true, false}
 use mathlib.Core.List.{[], ◌∷◌}
@@ -7,8 +6,7 @@ use Prim.Native.Nat.{ℕ, ◌+◌, ◌-◌}
 use native.Mathlib.Omega.{arith}
 use lib.ListN.{length}
 use Rattle.timestamp.specs.declared.Timestamp.{Timestamp}
-use Rattle.std.specs.declared.cmp.Ordering.{Ordering}
-use Rattle.timestamp.specs.Timestamps.{sum_of, order_of}
+use Rattle.timestamp.specs.Timestamps.{sum_of}
 use Rattle.tape.specs.declared.Tape.{Tape}
 use Rattle.tape.specs.Tape.{PutsOn}
 use Rattle.tape.specs.Words.{step_word, snapshot_word}
@@ -30,7 +28,8 @@ scheduled_is w e h = ap (λ (x : Insertion). record { world = world_with x.buffe
 -- what a drain puts
 drained_puts : {b left : CommandBuffer} {s : Timestamp} {side : ℕ} {was now : Tape} → Applies b s side was left now
     → PutsOn was (command_words side (taken_of b s)) now
-drained_puts {b} {left} {s} {side} {was} h = record { at = h.at ∙ ap (λ (n : ℕ). was.at + n) (sym (words-length side (taken_of b s))); tape = h.tape; lent = h.lent }
+drained_puts {b} {left} {s} {side} {was} h =
+    record { at = h.at ∙ ap (λ (n : ℕ). was.at + n) (sym (words-length side (taken_of b s))); tape = h.tape; lent = h.lent }
 
 -- what a drain of everything puts
 flushed_puts : {b left : CommandBuffer} {side : ℕ} {was now : Tape} → AppliesAll b side was left now → PutsOn was (command_words side (held b)) now
@@ -72,11 +71,6 @@ load_does w base t side handle hw hp hm hc hr =
       leftout = ap (λ (x : Moved). x.dropped) hm;
       puts = on_as (ap (λ (x : ℕ). x ∷ []) hw) hp;
     }
-
--- a stamp's order tells whether a reset goes back
-pub back_is : (t now : Timestamp) {o : Ordering} → o ≡ order_of t.0 now.0 → is_lt o ≡ resets_back t now
-unfolding resets_back
-back_is t now h = ap is_lt h
 
 -- a reset that goes back
 pub reset_back : (w : Simulation) (t : Timestamp) (side : ℕ) {was now : Tape} {m : Moved} {left : CommandBuffer}

@@ -18,7 +18,8 @@ loop-e-init c = on_none _
 pub put-requires : goal.put-requires
 put-requires c =
     let a = c.args in
-    omega (arith, c.requires.0, c.requires.1, apply_few (side_number a.side) (rank_within a.span.around a.span.from a.span.end) a.entries.now c.loop-e.e-index c.loop-e.invariant)
+    let fits = rank_within a.span.around a.span.from a.span.end in
+    omega (arith, c.requires.0, c.requires.1, apply_few (side_number a.side) fits a.entries.now c.loop-e.e-index c.loop-e.invariant)
 
 pub loop-e-preserved : goal.loop-e-preserved
 loop-e-preserved c =

@@ -8,4 +8,6 @@ use Rattle.command.specs.Ranks.{rank_within}
 use Rattle.command.proofs.apply_between.Given as goal
 
 abbrev pub invariant-loop-e : goal.invariant-loop-e
-invariant-loop-e l = PutsOn l.initial.tape (command_words (side_number l.side) (filter_b (rank_within l.span.around l.span.from l.span.end) (take l.e-index l.entries))) l.tape
+invariant-loop-e l =
+    let passed = filter_b (rank_within l.span.around l.span.from l.span.end) (take l.e-index l.entries) in
+    PutsOn l.initial.tape (command_words (side_number l.side) passed) l.tape

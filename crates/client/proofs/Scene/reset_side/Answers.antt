@@ -1,13 +1,12 @@
 -- `reset_side` meets its contract: the side decides. Assumes nothing.
-use Rattle.tape.specs.Sides.{side_number}
-use Rattle.simulation.specs.World.{reset_of}
-use Rattle.client.proofs.Happening.{done_left, done_right}
+use Rattle.std.proofs.Common.{rules}
+use Rattle.client.specs.Sides.{world_of, with_world, ledger_of, with_ledger, put_of, done_at}
 use Rattle.client.proofs.Scene.reset_side.Goals as goal
 
 pub returns-in-Left-clause-plays : goal.returns-in-Left-clause-plays
-returns-in-Left-clause-plays c =
-    done_left c.args.self.now c.args.side (λ w. reset_of w c.args.stamp (side_number c.args.side)) c.in-Left.is c.reset_last_completed_timestamp-done.ensures.does c.count.ensures
+unfolding done_at put_of with_world with_ledger ledger_of world_of
+returns-in-Left-clause-plays c = search rules
 
 pub returns-in-Right-clause-plays : goal.returns-in-Right-clause-plays
-returns-in-Right-clause-plays c =
-    done_right c.args.self.now c.args.side (λ w. reset_of w c.args.stamp (side_number c.args.side)) c.in-Right.is c.reset_last_completed_timestamp-done-in-Right.ensures.does c.count-in-Right.ensures
+unfolding done_at put_of with_world with_ledger ledger_of world_of
+returns-in-Right-clause-plays c = search rules

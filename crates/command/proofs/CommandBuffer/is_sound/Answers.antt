@@ -1,21 +1,14 @@
--- `is_sound` meets its contract. The loop's invariant: the answer for the buffer is the answer for what is left, the last entry's rank given. Assumes nothing.
-use mathlib.Core.Path.{sym, ◌∙◌}
-use Rattle.command.proofs.Soundness.{sound_long, test_none, test_end, test_no, test_yes}
+-- `is_sound` meets its contract. Assumes nothing.
+use Rattle.std.proofs.Common.{rules, refl, ◌≡◌}
+use Rattle.command.proofs.Soundness.{sound_long, test_all}
+use Rattle.command.specs.contracts.fn.CommandBuffer.is_sound.all as closure
 use Rattle.command.proofs.CommandBuffer.is_sound.Goals as goal
 
 pub returns-then-self-gt-BUFFER_ROOM : goal.returns-then-self-gt-BUFFER_ROOM
 returns-then-self-gt-BUFFER_ROOM c = sound_long _ c.if-self-gt-BUFFER_ROOM.true
 
-pub loop-e-init : goal.loop-e-init
-loop-e-init c = test_none _ c.if-self-gt-BUFFER_ROOM.false c.held-e-items.ensures.held
-
-pub returns-then-not-entry_sound : goal.returns-then-not-entry_sound
-returns-then-not-entry_sound c =
-    sym (c.loop-e.invariant ∙ test_no _ _ _ _ c.loop-e-test.true c.rank_in-k.ensures (sym c.entry_sound.ensures ∙ c.if-not-entry_sound.true))
-
-pub loop-e-preserved : goal.loop-e-preserved
-loop-e-preserved c =
-    c.loop-e.invariant ∙ test_yes _ _ _ _ c.loop-e-test.true c.rank_in-k.ensures (sym c.entry_sound.ensures ∙ c.if-not-entry_sound.false)
-
 pub returns : goal.returns
-returns c = sym (c.loop-e.invariant ∙ test_end _ _ _ _ c.loop-e-test.false)
+returns c =
+    let b = c.args.self.now in
+    test_all b (λ lo f. ((closure.captures f).self.now ≡ b) × ((closure.captures f).lo ≡ lo)) (λ lo f x r h i k. search rules) c.if-self-gt-BUFFER_ROOM.false
+    (cc) (refl, refl) _ c.all.ensures.ran

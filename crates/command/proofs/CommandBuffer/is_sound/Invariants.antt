@@ -1,9 +1,0 @@
--- `is_sound` meets its contract. The loop's invariant: the answer for the buffer is the answer for what is left, the last entry's rank given. Assumes nothing.
-use mathlib.Core.Path.{◌≡◌}
-use lib.ListN.{drop}
-use Rattle.command.specs.Soundness.{sound_buffer}
-use Rattle.command.proofs.Soundness.{sound_from}
-use Rattle.command.proofs.CommandBuffer.is_sound.Given as goal
-
-abbrev pub invariant-loop-e : goal.invariant-loop-e
-invariant-loop-e l = sound_buffer l.self ≡ sound_from l.self.timestamp l.lo (drop l.e-index l.e-items)
