@@ -258,14 +258,12 @@ impl CommandBuffer {
             return false;
         }
         let mut lo = 0;
-        for e in self.held() {
+        self.held().iter().all(|e| {
             let k = rank_in(*e, self.timestamp);
-            if !entry_sound(k, lo, *e) {
-                return false;
-            }
+            let sound = entry_sound(k, lo, *e);
             lo = k;
-        }
-        true
+            sound
+        })
     }
 
     // Takes an entry, where there is room, after all that are not later than it.
