@@ -7,4 +7,4 @@ use Rattle.client_receive.proofs.receive_command.Goals as goal
 pub returns : goal.returns
 returns c =
     received_is c.args.scene.now c.args.entry c.insert-base.ensures c.schedule_command-left.ensures c.schedule_command-right.ensures
-    (c.count_taken.ensures ∙ ap (takes _) c.taken_by.ensures) (c.count_taken-2.ensures ∙ ap (takes _) c.taken_by-2.ensures) c.any_full.ensures
+    (c.count_taken.ensures ∙ ap (takes _) c.taken.ensures) (c.count_taken-2.ensures ∙ ap (takes _) c.taken-2.ensures) c.any_full.ensures
