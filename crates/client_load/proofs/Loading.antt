@@ -1,10 +1,9 @@
 -- What the code of a load comes to, over plain values. Assumes nothing.
-use Rattle.std.proofs.Common.{◌≡◌, ℕ, refl, ap, ◌∙◌}
+use Rattle.std.proofs.Common.{◌≡◌, ℕ, ap, ◌∙◌}
 use Rattle.tape.specs.declared.Side.{Side}
 use Rattle.tape.specs.declared.Side.TheVariants.{Left, Right}
 use Rattle.tape.specs.declared.Tape.{Tape}
 use Rattle.tape.specs.Sides.{side_number}
-use lib.Ieee.{of_bits}
 use Rattle.timestamp.specs.declared.Timestamp.{Timestamp}
 use Rattle.command.specs.declared.CommandBuffer.{CommandBuffer}
 use Rattle.command.specs.Buffer.{Drained, rest_of, drained_of}
@@ -36,7 +35,8 @@ readied w side b =
 
 -- a load from the base b, which was drained up to the snapshot, is counted in the side's ledger
 module _ (s : Scene) (side : Side) (t : Timestamp) (h : ℕ) {b : CommandBuffer} {n : ℕ}
-    (drained : ◌≡◌ {A = Drained} (record { buffer = b; count = n }) (drained_of s.worlds.base t)) {was now : Tape} {w : Simulation} {r : Loaded} {l : Ledger} where
+    (drained : ◌≡◌ {A = Drained} (record { buffer = b; count = n }) (drained_of s.worlds.base t))
+    {was now : Tape} {w : Simulation} {r : Loaded} {l : Ledger} where
   pub load_left : side ≡ Left → Loads (load_of s.worlds.left b t) (side_number side) h was w r now → l ≡ loads s.left r.copied r.replaced r.leftout
       → Plays (loaded_of s (side_number side) t h) was
       (record { worlds = with_left (readied s.worlds side b) w; left = l; right = s.right; steps = s.steps }) now

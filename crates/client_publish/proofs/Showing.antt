@@ -1,10 +1,10 @@
 -- What the code of publishing comes to, over plain values: one rule for each return. Assumes nothing.
 use mathlib.Core.Path.{◌≡◌, refl, ap, sym, ◌∙◌}
 use mathlib.Core.Bool.{Bool, true, false, cond}
-use mathlib.Core.List.{List, [], ◌∷◌}
+use mathlib.Core.List.{[], ◌∷◌}
 use Prim.Native.Nat.{ℕ}
-use lib.IntN.{pos, negsuc}
-use lib.Ieee.{Float, fin, binary64, sub, neg, lt, eq}
+use lib.IntN.{pos}
+use lib.Ieee.{Float, fin, eq}
 use Rattle.timestamp.specs.declared.Timestamp.{Timestamp}
 use Rattle.tape.specs.declared.Tape.{Tape}
 use Rattle.tape.specs.Tape.{PutsOn}
@@ -96,22 +96,6 @@ module _ (s : Scene) {was now : Tape} {side : ℕ} {r : Option Timestamp} {old :
         (cond (sym (init_is s.worlds hk hn hb) i) (published_side s (new_side_of s.worlds)) (published_none s))) h
 
 -- ---- by the weight
-
--- a weight below 1 by less than 2 ^ -52, or not
-pub near_below : (t : Float) {none one small : Float} → none ≡ fin false 0 (pos 0) → one ≡ fin false 1 (pos 0) → small ≡ fin false 1 (negsuc 51)
-    → lt (sub binary64 t one) none ≡ true → lt (neg (sub binary64 t one)) small ≡ near_one t
-unfolding near_one
-near_below t {none} {one} {small} hz ho hs h =
-    ap (λ (b : Bool). lt (cond b (neg (sub binary64 t one)) (sub binary64 t one)) small) (sym h)
-    ∙ (λ i. lt (cond (lt (sub binary64 t (ho i)) (hz i)) (neg (sub binary64 t (ho i))) (sub binary64 t (ho i))) (hs i))
-
--- a weight not below 1
-pub near_above : (t : Float) {none one small : Float} → none ≡ fin false 0 (pos 0) → one ≡ fin false 1 (pos 0) → small ≡ fin false 1 (negsuc 51)
-    → lt (sub binary64 t one) none ≡ false → lt (sub binary64 t one) small ≡ near_one t
-unfolding near_one
-near_above t {none} {one} {small} hz ho hs h =
-    ap (λ (b : Bool). lt (cond b (neg (sub binary64 t one)) (sub binary64 t one)) small) (sym h)
-    ∙ (λ i. lt (cond (lt (sub binary64 t (ho i)) (hz i)) (neg (sub binary64 t (ho i))) (sub binary64 t (ho i))) (hs i))
 
 -- the three ways of publishing where both worlds are initialised
 abbrev both_by : Scene → Bool → Bool → Played

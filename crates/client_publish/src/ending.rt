@@ -23,6 +23,7 @@ pub fn is_weight(t: f64) -> bool
 }
 
 // The time between two stamps at a weight, not wrapped.
+#[tactic(auto, unfolding(crate::specs::Ending::time_of))]
 pub(crate) fn time_between(before: Timestamp, after: Timestamp, t: f64) -> f64
     ensures { result ≡ time_of before after t }
 {
@@ -58,6 +59,7 @@ pub fn revised(last: Option<Timestamp>, old: Timestamp, lag: u16) -> Option<Time
 }
 
 // What every update ends with: the displayed time at a shaped weight, the base's stamp, and the last queued stamp.
+#[tactic(auto, using(crate::proofs::Displaying::post_is))]
 pub fn post_update(worlds: &mut ClientWorldSimulations, t: f64, lag: u16)
     ensures { worlds.exit.now ≡ post_update_of worlds.entry.now t lag }
 {

@@ -1,15 +1,10 @@
 -- What the code of what arrives comes to, over plain values. Assumes nothing.
-use mathlib.Core.Path.{◌≡◌, refl, ap, sym, ◌∙◌}
+use mathlib.Core.Path.{◌≡◌, refl, ap, ◌∙◌}
 use mathlib.Core.Bool.{Bool, true, false, ◌||◌}
-use Prim.Native.Nat.{ℕ}
-use lib.Dec.{eqb}
-use Rattle.timestamp.specs.declared.Timestamp.{Timestamp}
 use Rattle.tape.specs.Sides.{is_left}
 use Rattle.command.specs.Entries.{Entry}
 use Rattle.command.specs.Buffer.{Insertion, inserted_of, taken_by, full_by}
 use Rattle.simulation.specs.World.{Scheduled, scheduled_of}
-use Rattle.std.specs.Prelude.{Option, Some}
-use Rattle.client.specs.declared.Snapshots.{Snapshots}
 use Rattle.client.specs.declared.Ledger.{Ledger}
 use Rattle.client.specs.declared.Scene.{Scene}
 use Rattle.client.specs.Ledgers.{takes}
@@ -17,7 +12,6 @@ use Rattle.client.specs.Sides.{new_side_of, old_side_of, world_of, with_world, w
 use Rattle.client.specs.Sides.{with_ledgers}
 use Rattle.client_receive.specs.Inner.{any_full}
 use Rattle.client_receive.specs.Receive.{Received, offered_base, offered_side, received_of}
-use Rattle.client_receive.specs.Receive.{from_future_of, fresh_of, noted_of, snapshots_by, snapshots_of}
 
 -- ---- commands
 
@@ -58,31 +52,3 @@ received_is s e {i} {a} {b} {l} {r} {f} hi ha hb hl hr hf =
     (λ j. record { scene = offered s i a b (hl j) (hr j); full = hf j })
     ∙ (λ j. received s (hi j) (ha j) (hb j) (any_full (hi j).outcome (ha j).outcome (hb j).outcome))
     ∙ received_by s e (is_left s.worlds.new) refl
-
--- ---- snapshots
-
-module _ (s : Snapshots) (old t : Timestamp) (h : ℕ) where
-  -- the snapshots, by the two tests
-  snapshots_is : {f g : Bool} → from_future_of t old ≡ f → fresh_of s.lastqueued t ≡ g → snapshots_by f g s t h ≡ snapshots_of s old t h
-  unfolding snapshots_of
-  snapshots_is hf hg = λ i. snapshots_by (sym hf i) (sym hg i) s t h
-
-  -- a snapshot from the future
-  pub snapshots_future : {f : Bool} → f ≡ from_future_of t old → f ≡ true
-      → ◌≡◌ {A = Snapshots} (record { queued = s.queued; lastqueued = s.lastqueued; lastreceived = Some t }) (snapshots_of s old t h)
-  unfolding snapshots_by
-  snapshots_future hf e = snapshots_is (sym hf ∙ e) refl
-
-  -- a fresh one
-  pub snapshots_fresh : {f g : Bool} → f ≡ from_future_of t old → f ≡ false → g ≡ fresh_of s.lastqueued t → g ≡ true
-      → ◌≡◌ {A = Snapshots} (record { queued = Some (record { stamp = t; handle = h }); lastqueued = Some t; lastreceived = Some t }) (snapshots_of s old t h)
-  unfolding snapshots_by
-  snapshots_fresh hf e hg d = snapshots_is (sym hf ∙ e) (sym hg ∙ d)
-
-  -- a stale one
-  pub snapshots_stale : {f g : Bool} {l : Option Timestamp} → f ≡ from_future_of t old → f ≡ false → g ≡ fresh_of s.lastqueued t → g ≡ false
-      → l ≡ noted_of s.queued s.lastqueued
-      → ◌≡◌ {A = Snapshots} (record { queued = s.queued; lastqueued = l; lastreceived = Some t }) (snapshots_of s old t h)
-  unfolding snapshots_by
-  snapshots_stale hf e hg d hl =
-      ap (λ (x : Option Timestamp). record { queued = s.queued; lastqueued = x; lastreceived = Some t }) hl ∙ snapshots_is (sym hf ∙ e) (sym hg ∙ d)

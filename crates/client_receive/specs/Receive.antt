@@ -3,8 +3,6 @@
 use Rattle.std.specs.Prelude.{ℕ, Bool, true, false, ◌||◌, Option, Some, None}
 use Rattle.timestamp.specs.declared.Timestamp.{Timestamp}
 use Rattle.command.specs.Entries.{Entry}
-use Rattle.command.specs.declared.Outcome.{Outcome}
-use Rattle.command.specs.declared.Outcome.TheVariants.{Taken, OutOfRange, Full}
 use Rattle.command.specs.Buffer.{inserted_of, taken_by, full_by}
 use Rattle.simulation.specs.World.{scheduled_of}
 use Rattle.client.specs.declared.QueuedSnapshot.{QueuedSnapshot}

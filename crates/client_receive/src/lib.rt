@@ -48,6 +48,7 @@ pub(crate) fn noted(queued: Option<QueuedSnapshot>, last: Option<Timestamp>) -> 
 }
 
 // What becomes of the snapshots where one with a stamp and a handle arrives at a client of the stamp `old`.
+#[tactic(auto, unfolding(crate::specs::Receive::snapshots_of, crate::specs::Receive::snapshots_by, crate::specs::Receive::from_future_of))]
 pub fn snapshots_with(s: Snapshots, old: Timestamp, stamp: Timestamp, handle: u32) -> Snapshots
     ensures { result ≡ snapshots_of s old stamp handle }
 {

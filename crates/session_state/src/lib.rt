@@ -53,6 +53,7 @@ pub fn queued_sound(queued: Option<QueuedSnapshot>) -> bool
 }
 
 // The blend weight is 0 to 1, and 0 where the stamps differ.
+#[tactic(auto, unfolding(crate::specs::Sound::weight_sound))]
 pub(crate) fn weight_sound(w: &ClientWorldSimulations) -> bool
     ensures { result ≡ weight_sound w.now }
 {
@@ -89,6 +90,7 @@ pub(crate) fn worlds_sound(w: &ClientWorldSimulations) -> bool
 }
 
 // The overshoot is 0 to the timestep.
+#[tactic(auto, unfolding(crate::specs::Sound::overshoot_sound))]
 pub fn overshoot_sound(overshoot: f64, timestep: f64) -> bool
     ensures { result ≡ overshoot_sound overshoot timestep }
 {

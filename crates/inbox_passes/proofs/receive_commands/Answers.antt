@@ -6,4 +6,5 @@ use Rattle.inbox_passes.proofs.receive_commands.Goals as goal
 
 pub loop-message-init : goal.loop-message-init
 loop-message-init c =
-    receive_start c.args.words.now c.args.scene.now c.args.full (ap left_in (c.into_iter-message-iterator.ensures.into_iter_gives ∙ c.new-message-items.ensures))
+    receive_start c.args.words.now c.args.scene.now c.args.full
+    (ap left_in (c.into_iter-message-iterator.ensures.into_iter_gives ∙ c.new-message-items.ensures))
