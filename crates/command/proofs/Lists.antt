@@ -1,6 +1,6 @@
--- Laws of filtered lists, of lists laid out in slots, and what a loop keeps that filters one list into another or counts. Assumes nothing.
+-- Laws of filtered lists and of lists laid out in slots, and how many a loop has counted at most. Assumes nothing.
 use mathlib.Core.Path.{◌≡◌, refl, sym, ap, ◌∙◌}
-use mathlib.Core.List.{List, [], ◌∷◌, ◌++◌, append_assoc, append-nil}
+use mathlib.Core.List.{List, [], ◌∷◌, ◌++◌, append-nil}
 use mathlib.Core.Bool.{Bool, true, false, not, cond}
 use Prim.Native.Nat.{ℕ, zero, suc, ◌+◌, ◌≤◌, ◌<◌}
 use native.Mathlib.Numerals.{add-one, unary_clauses}
@@ -8,7 +8,6 @@ use native.Mathlib.Omega.{arith}
 use native.Mathlib.Nat.{le_of_suc-le-suc, not-suc-le-zero}
 use lib.ListN.{length, take, drop, get_or, set, length-append, length-take, take-append-drop}
 use lib.Seq.{take-suc, take-take}
-use Rattle.std.proofs.lemmas.List.{take_all}
 use Rattle.command.specs.Lists.{filter_b, pad}
 
 module _ {A : Type 0} where
@@ -111,41 +110,6 @@ module _ {A : Type 0} where
 
   -- ---- loops
 
-  -- what a loop keeps that lays out, after ys, those of xs that pass p: it has passed i of them, and k elements stand in out
-  pub record Sifted (ys : List A) (p : A → Bool) (xs : List A) (n : ℕ) (z : A) (i : ℕ) (out : List A) (k : ℕ) : Type 0 where
-    pub laid : InSlots n z (ys ++ filter_b p (take i xs)) out k
-    pub room : length ys + length (filter_b p xs) ≤ n
-
-  pub sift_none : {ys : List A} (p : A → Bool) (xs : List A) {n : ℕ} {z : A} {out : List A} {k : ℕ} → InSlots n z ys out k
-      → length ys + length (filter_b p xs) ≤ n → Sifted ys p xs n z 0 out k
-  sift_none {ys} p xs l h = record { laid = rw append-nil l; room = h }
-
-  module _ {ys : List A} {p : A → Bool} {xs out : List A} {n i k : ℕ} {z : A} (s : Sifted ys p xs n z i out k) where
-    pub sift_end : length xs ≤ i → InSlots n z (ys ++ filter_b p xs) out k
-    sift_end h = rw (take_all i xs h) at s.laid
-
-    module _ (d : A) (h : i < length xs) where
-      pub sift_room : p (get_or xs i d) ≡ true → k < n
-      sift_room e =
-          let a : length (filter_b p (take (i + 1) xs)) ≤ length (filter_b p (take (length xs) xs)) = filter_grows p xs (i + 1) (length xs) (omega arith) in
-          let whole : take (length xs) xs ≡ xs = take_all (length xs) xs (omega arith) in
-          let b : length (filter_b p (take (i + 1) xs)) ≡ length (filter_b p (take i xs)) + 1 = rw (filter_took p xs i d h e) (simp length-append) in
-          let c : k ≡ length ys + length (filter_b p (take i xs)) = simp length-append at s.laid.count in
-          omega (arith, rw whole at a, s.room)
-
-      pub sift_push : p (get_or xs i d) ≡ true → Sifted ys p xs n z (i + 1) (set out k (get_or xs i d)) (k + 1)
-      sift_push e = record { laid = rw (filter_took p xs i d h e, ← append_assoc ys) (laid_push s.laid (get_or xs i d) (sift_room e)); room = s.room }
-
-      pub sift_skip : p (get_or xs i d) ≡ false → Sifted ys p xs n z (i + 1) out k
-      sift_skip e = record { laid = rw (filter-left p xs i d h e) s.laid; room = s.room }
-
   -- what a loop has counted of those that pass p once it has passed i of xs
   pub count_few : (p : A → Bool) (xs : List A) (i : ℕ) → length (filter_b p (take i xs)) ≤ i
   count_few p xs i = omega (arith, filter_short p (take i xs), length-take i xs)
-
-  module _ (p : A → Bool) (xs : List A) (i : ℕ) (d : A) (h : i < length xs) {k : ℕ} (c : k ≡ length (filter_b p (take i xs))) where
-    pub count_one : p (get_or xs i d) ≡ true → k + 1 ≡ length (filter_b p (take (i + 1) xs))
-    count_one e = rw (filter_took p xs i d h e) (simp length-append (omega arith))
-
-    pub count_skip : p (get_or xs i d) ≡ false → k ≡ length (filter_b p (take (i + 1) xs))
-    count_skip e = rw (filter-left p xs i d h e) c

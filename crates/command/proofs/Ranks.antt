@@ -24,11 +24,6 @@ pub rank_lt : (m s : ℕ) → rank_of m s < 65536
 unfolding rank_of
 rank_lt m s = omega arith
 
--- the rank as the code has it, by a wrapping difference and a wrapping sum
-pub rank_is : (m s d r : ℕ) → d ≡ difference_of s m → r ≡ sum_of d 32768 → r ≡ rank_of m s
-unfolding rank_of
-rank_is m s d r e f = f ∙ ap (λ (x : ℕ). sum_of x 32768) e
-
 -- ---- order
 
 -- two tests of order that hold together

@@ -9,21 +9,14 @@ use Rattle.timestamp.specs.declared.Timestamp.{Timestamp}
 use Rattle.timestamp.specs.Timestamps.{sum_of}
 use Rattle.tape.specs.declared.Tape.{Tape}
 use Rattle.tape.specs.Tape.{PutsOn}
-use Rattle.tape.specs.Words.{step_word, snapshot_word}
+use Rattle.tape.specs.Words.{step_word}
 use Rattle.tape.proofs.Writing.{on_none, on_then, on_as}
 use Rattle.command.specs.declared.CommandBuffer.{CommandBuffer}
-use Rattle.command.specs.Entries.{Entry}
-use Rattle.command.specs.Buffer.{Moved, Insertion, held, inserted_of}
+use Rattle.command.specs.Buffer.{Moved, held}
 use Rattle.command.specs.Buffer.{moved_of, taken_of, rest_of, emptied_of, command_words, Applies, AppliesAll}
 use Rattle.command.proofs.Applying.{words-length}
 use Rattle.simulation.specs.declared.Simulation.{Simulation}
-use Rattle.simulation.specs.World.{Scheduled, world_with, next_stamp, scheduled_of, step_of, resets_back, reset_of, Does, load_of, Loads}
-
--- a command that was offered
-pub scheduled_is : (w : Simulation) (e : Entry) {i : Insertion} → i ≡ inserted_of w.commands e
-    → ◌≡◌ {A = Scheduled} (record { world = world_with i.buffer w.init; outcome = i.outcome }) (scheduled_of w e)
-unfolding scheduled_of
-scheduled_is w e h = ap (λ (x : Insertion). record { world = world_with x.buffer w.init; outcome = x.outcome }) h
+use Rattle.simulation.specs.World.{world_with, next_stamp, step_of, resets_back, reset_of, Does}
 
 -- what a drain puts
 drained_puts : {b left : CommandBuffer} {s : Timestamp} {side : ℕ} {was now : Tape} → Applies b s side was left now
@@ -55,21 +48,6 @@ step_does w side {was} {mid} {now} {next} {left} {word} {m} hn ha hw hp hm =
       leftout = ap (λ (x : Moved). x.dropped) b;
       puts = on_then (on_as (ap (λ (t : Timestamp). command_words side (taken_of w.commands t)) e) (drained_puts ha))
           (on_as (ap (λ (x : ℕ). x ∷ []) hw) hp);
-    }
-
--- a load
-pub load_does : (w : Simulation) (base : CommandBuffer) (t : Timestamp) (side handle : ℕ) {was now : Tape} {word copied replaced : ℕ} {m : Moved}
-    → word ≡ snapshot_word side handle → PutsOn was (word ∷ []) now → m ≡ moved_of base t → copied ≡ length (held base)
-    → replaced ≡ length (held w.commands)
-    → Loads (load_of w base t) side handle was (world_with m.buffer true) (record { copied = copied; replaced = replaced; leftout = m.dropped }) now
-unfolding load_of
-load_does w base t side handle hw hp hm hc hr =
-    record {
-      world = ap (λ (x : Moved). world_with x.buffer true) hm;
-      copied = hc;
-      replaced = hr;
-      leftout = ap (λ (x : Moved). x.dropped) hm;
-      puts = on_as (ap (λ (x : ℕ). x ∷ []) hw) hp;
     }
 
 -- a reset that goes back

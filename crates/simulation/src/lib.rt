@@ -55,6 +55,7 @@ impl Simulation {
     }
 
     // Offers a command to the world's buffer.
+    #[tactic(auto, unfolding(crate::specs::World::scheduled_of))]
     pub fn schedule_command(&mut self, entry: u64) -> Outcome
         ensures { record { world = self.new; outcome = result } ≡ scheduled_of self.old entry }
     {
@@ -77,6 +78,7 @@ impl Simulation {
     }
 
     // A snapshot of the frame with the stamp `stamp` is loaded: the world has the base's commands from then on.
+    #[tactic(auto, unfolding(crate::specs::World::load_of))]
     pub fn apply_completed_snapshot(
         &mut self,
         base: &CommandBuffer,

@@ -1,4 +1,4 @@
--- `is_sound` meets its contract. Assumes nothing.
+-- `is_sound` meets its contract: a call of the closure tells of one entry, and keeps its rank for the next. Assumes nothing.
 use Rattle.std.proofs.Common.{rules, refl, ◌≡◌}
 use Rattle.command.proofs.Soundness.{sound_long, test_all}
 use Rattle.command.specs.contracts.fn.CommandBuffer.is_sound.all as closure
