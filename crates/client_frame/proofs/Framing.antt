@@ -1,7 +1,6 @@
 -- What the code of a frame comes to, over plain values: one rule for each return. Assumes nothing.
 use Rattle.std.proofs.Common.{length, ◌≡◌, ℕ, ◌≤◌, Bool, true, false, refl, ap, ◌∙◌}
 use Rattle.std.specs.Prelude.{Option}
-use lib.Ieee.{Float}
 use Rattle.timestamp.specs.declared.Timestamp.{Timestamp}
 use Rattle.tape.specs.declared.Tape.{Tape}
 use Rattle.simulation.specs.World.{step_of}
@@ -12,13 +11,13 @@ use Rattle.client.specs.declared.QueuedSnapshot.{QueuedSnapshot}
 use Rattle.client.specs.declared.ClientWorldSimulations.{ClientWorldSimulations}
 use Rattle.client.specs.declared.Scene.{Scene}
 use Rattle.client.specs.Sides.{new_side_of, world_of, old_stamp_of, new_stamp_of}
-use Rattle.client.specs.Sides.{Played, and_then, done_at, Plays}
+use Rattle.client.specs.Sides.{Played, done_at, Plays}
 use Rattle.client.specs.Status.{status_of}
 use Rattle.client_publish.specs.Publish.{with_state}
 use Rattle.client_publish.specs.Inner.{States}
 use Rattle.client_frame.specs.declared.Rules.{Rules}
 use Rattle.client_frame.specs.declared.FrameStart.{FrameStart}
-use Rattle.client_frame.specs.Frame.{loads_of, opened_of, stepped_side}
+use Rattle.client_frame.specs.Frame.{opened_of, stepped_side}
 use Rattle.client_frame.specs.Frame.{with_step, stepped_new, blended_by, published_by, shown_of, stops_of}
 use Rattle.client_frame.specs.Frame.{snapshot_of, frame_opened, frame_of, frame_stops, Frames}
 use Rattle.client_frame.specs.Inner.{start_of, stops_by}

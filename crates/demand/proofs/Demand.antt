@@ -3,7 +3,6 @@ use mathlib.Core.Bool.{Bool, true, false}
 use mathlib.Core.List.{List, [], ◌∷◌}
 use mathlib.Core.Path.{◌≡◌, refl}
 use Prim.Native.Nat.{◌<◌}
-use lib.Dec.{eqb}
 use Rattle.client.specs.declared.ClientWorldSimulations.{ClientWorldSimulations}
 use Rattle.client.specs.declared.QueuedSnapshot.{QueuedSnapshot}
 use Rattle.std.specs.Prelude.{Option, Some, None}

@@ -160,7 +160,10 @@ impl TimeKeeper {
     pub fn ended(self, worlds: &mut ClientWorldSimulations)
         ensures { worlds.exit.now ≡ ended_of self.settings worlds.entry.now self.overshoot }
     {
-        let shaped = self.settings.method.shape_interpolation_t(self.tween_weight());
+        let shaped = self
+            .settings
+            .method
+            .shape_interpolation_t(self.tween_weight());
         let lag = self.settings.lag_compensation_frame_count();
         client_publish::ending::post_update(worlds, shaped, lag);
     }

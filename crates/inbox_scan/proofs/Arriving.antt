@@ -1,5 +1,5 @@
 -- What the commands of an inbox leave of a scene that the snapshots after them turn on: the snapshots and the stamp of the old world. Assumes nothing.
-use Rattle.std.proofs.Common.{◌≡◌, ℕ, Bool, true, false, eqb, List, [], ◌∷◌, refl, sym, ap, ◌∙◌, Ok, Err}
+use Rattle.std.proofs.Common.{◌≡◌, ℕ, Bool, true, false, List, [], ◌∷◌, refl, sym, ap, ◌∙◌, Ok, Err}
 use Rattle.tape.specs.Sides.{is_left}
 use Rattle.command.specs.Entries.{Entry, entry_of}
 use Rattle.command.specs.declared.CommandBuffer.{CommandBuffer}

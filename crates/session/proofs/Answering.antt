@@ -15,7 +15,6 @@ use Rattle.refusals.specs.declared.Refusal.{Refusal}
 use Rattle.refusals.specs.declared.Refusal.TheVariants.{Length}
 use Rattle.refusals.specs.Refusals.{Verdict, accepted, once_verdict_by, syncing_verdict_by, arrival_verdict_by, end_verdict_by}
 use Rattle.refusals.proofs.Accepted.{turned_down, once_accepted, end_accepted}
-use Rattle.settings.specs.declared.Settings.{Settings}
 use Rattle.settings.specs.Settings.{passes_of}
 use Rattle.settings.proofs.Limits.{steps_few}
 use Rattle.clocksync.specs.declared.Clock.{Clock}

@@ -140,11 +140,7 @@ fn decide(
     ensures { decided (update_of session.old delta seconds inbox.now (length tape.old)) session.old (length tape.old) result session.new tape.new }
 {
     let found = scan(session, seconds, inbox);
-    refusals::at_once(
-        times_ok(delta, seconds),
-        found.verdict,
-        session.is_sound(),
-    )?;
+    refusals::at_once(times_ok(delta, seconds), found.verdict, session.is_sound())?;
     if session.stage.has_worlds() {
         return update_worlds(session, delta, seconds, inbox, found, tape);
     }

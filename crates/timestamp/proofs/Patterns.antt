@@ -1,7 +1,7 @@
 -- A bit pattern that is tested before a float is made of it. Assumes nothing.
-use Rattle.std.proofs.Common.{◌≡◌, ℕ, ◌%◌, ◌^◌, ◌<◌, ◌≤◌, Bool, true, not, T, sym, refl, ◌∙◌, subst, le-ltb, lt-ltb}
-use lib.Ieee.{Float, nan, inf, fin, binary64, of_bits, nan_bits, is_nan}
-use lib.Ieee.Bits.{nan_bits_is, nan_bits_above}
+use Rattle.std.proofs.Common.{ℕ, ◌%◌, ◌^◌, ◌≤◌, Bool, not, T, sym, ◌∙◌, subst, le-ltb}
+use lib.Ieee.{binary64, nan_bits}
+use lib.Ieee.Bits.{nan_bits_above}
 
 -- any other pattern is no NaN's
 pub no_nan : (n : ℕ) → n % 2 ^ 63 ≤ 0x7ff0_0000_0000_0000 → T (not (nan_bits binary64 n))

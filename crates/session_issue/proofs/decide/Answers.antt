@@ -7,9 +7,11 @@ use Rattle.session_issue.proofs.decide.Goals as goal
 pub returns-in_err-of_issue : goal.returns-in_err-of_issue
 returns-in_err-of_issue c =
     let p = err_from_is_err_and c.from_residual.result c.from_residual.ensures.1 in
-    rw (p.1, p.2)
-    (issue_refused _ _ c.last_completed_timestamp.ensures c.add-stamp.ensures c.scene-scene.ensures c.entry_of.ensures c.receive_command-full.ensures
-    c.is_sound.ensures refl c.has_worlds.ensures c.is_ready.ensures c.of_issue.ensures c.in_err-of_issue.was, refl)
+    rw (p.1, p.2) (
+      issue_refused _ _ c.last_completed_timestamp.ensures c.add-stamp.ensures c.scene-scene.ensures c.entry_of.ensures c.receive_command-full.ensures
+          c.is_sound.ensures refl c.has_worlds.ensures c.is_ready.ensures c.of_issue.ensures c.in_err-of_issue.was,
+      refl,
+    )
 
 pub returns : goal.returns
 returns c =

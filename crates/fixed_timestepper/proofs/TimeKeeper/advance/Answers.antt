@@ -2,7 +2,7 @@
 use native.Mathlib.Omega.{arith}
 use mathlib.Core.Path.{refl}
 use lib.Ieee.{of_bits}
-use Rattle.fixed_timestepper.proofs.Running.{running_start, full_whole, done_whole, running_done, running_stops, running_on, framed_as}
+use Rattle.fixed_timestepper.proofs.Running.{full_whole, done_whole, running_done, running_stops, running_on, framed_as}
 use Rattle.fixed_timestepper.proofs.TimeKeeper.advance.Goals as goal
 
 pub returns-then-not-o-clause-advances : goal.returns-then-not-o-clause-advances

@@ -9,9 +9,10 @@ use Rattle.session.proofs.in_place.decide.Goals as goal
 pub returns-in_err-at_once : goal.returns-in_err-at_once
 returns-in_err-at_once c =
     let p = err_from_is_err_and c.from_residual.result c.from_residual.ensures.1 in
-    rw (p.1, p.2)
-    (update_refused _ _ _ _ _ (once_is _ _ _ _ c.times_ok.ensures c.scan-found.ensures.verdict c.is_sound.ensures c.at_once.ensures) c.in_err-at_once.was,
-    (refl, refl))
+    rw (p.1, p.2) (
+      update_refused _ _ _ _ _ (once_is _ _ _ _ c.times_ok.ensures c.scan-found.ensures.verdict c.is_sound.ensures c.at_once.ensures) c.in_err-at_once.was,
+      (refl, refl),
+    )
 
 pub update_worlds-requires : goal.update_worlds-requires
 update_worlds-requires c = (

@@ -14,10 +14,11 @@ returns-in_err-by_arrivals c =
 pub returns-in_err-verdict_at_end : goal.returns-in_err-verdict_at_end
 returns-in_err-verdict_at_end c =
     let p = err_from_is_err_and c.from_residual-in_err-verdict_at_end.result c.from_residual-in_err-verdict_at_end.ensures.1 in
-    rw (p.1, p.2)
-    (worlds_stopped _ _ _ _ c.requires.1 c.scene-scene.ensures c.receive-full.ensures c.by_arrivals.ensures c.in_ok-by_arrivals.was
-    c.tick-t.ensures c.settle-clock.ensures c.server_time.ensures c.update-a.ensures c.verdict_at_end.ensures c.in_err-verdict_at_end.was,
-    (refl, puts-length c.update-a.ensures.puts))
+    rw (p.1, p.2) (
+      worlds_stopped _ _ _ _ c.requires.1 c.scene-scene.ensures c.receive-full.ensures c.by_arrivals.ensures c.in_ok-by_arrivals.was
+          c.tick-t.ensures c.settle-clock.ensures c.server_time.ensures c.update-a.ensures c.verdict_at_end.ensures c.in_err-verdict_at_end.was,
+      (refl, puts-length c.update-a.ensures.puts),
+    )
 
 pub returns : goal.returns
 returns c =
