@@ -1,18 +1,10 @@
-// What every update ends with: the tween weight, the time to display, the base's stamp and the last queued stamp (`post_update` of src/client.rs and
-// the display state's time in src/world/display_state.rs of crystalorb).
+// What every update ends with: the test of its tween weight, the time to display, the base's stamp and the last queued stamp (`post_update` of
+// src/client.rs and the display state's time in src/world/display_state.rs of crystalorb).
 ghost use Rattle.std.specs.Prelude.{◌≡◌};
 ghost use Rattle.client_publish.specs.Ending.{weight_ok, time_of, displayed_of, revised_of, post_update_of};
-ghost use Rattle.timestamp.specs.Floats.{tween_of};
 
 use client::{ClientWorldSimulations, Published, status};
 use timestamp::{FloatTimestamp, Timestamp};
-
-// The weight of the state after the displayed time, not yet shaped.
-pub fn tween_weight(overshoot: f64, timestep: f64) -> f64
-    ensures { result ≡ tween_of overshoot timestep }
-{
-    1.0 - overshoot / timestep
-}
 
 // Whether a tween weight is in 0 to 1; false for a NaN. Where it is not, the Rust stops: refusal 27.
 #[tactic(auto, unfolding(crate::specs::Ending::weight_ok))]

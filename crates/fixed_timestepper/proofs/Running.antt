@@ -89,7 +89,9 @@ pub full_whole : (c : Settings) (from : Scene) (start : Float) {was tape : Tape}
     → Running c from start was tape s o n → lt o zero64 ≡ true → n ≡ 65
     → Advances (run_of 65 c from start) was.words.now s (record { overshoot = o; frames = 65; at = tape.at; stop = TooManyFrames }) tape.words.now
 full_whole c from start {was} {tape} {s} {o} {n} r h e =
-    subst (λ (k : ℕ). Advances (run_of 65 c from start) was.words.now s (record { overshoot = o; frames = k; at = tape.at; stop = TooManyFrames }) tape.words.now) e
+    subst
+    (λ (k : ℕ). Advances (run_of 65 c from start) was.words.now s (record { overshoot = o; frames = k; at = tape.at; stop = TooManyFrames }) tape.words.now)
+    e
     (running_full c from start r h e)
 
 pub done_whole : (c : Settings) (from : Scene) (start : Float) {was tape : Tape} {s : Scene} {o : Float} {n : ℕ}

@@ -153,7 +153,7 @@ impl TimeKeeper {
     pub fn tween_weight(self) -> f64
         ensures { result ≡ tween_of self.overshoot self.settings.timestep }
     {
-        client_publish::ending::tween_weight(self.overshoot, self.settings.timestep)
+        1.0 - self.overshoot / self.settings.timestep
     }
 
     // What every update ends with: the tween weight is shaped, and the time to display is worked out with it.

@@ -25,8 +25,8 @@ pub struct Scan {
 }
 
 impl Scan {
-    // Nothing is found so far; this was known before.
-    fn nothing(heard: Heard, snapshots: Snapshots) -> Scan
+    // Before the first message: this was known before it.
+    fn start(heard: Heard, snapshots: Snapshots) -> Scan
         ensures { result ≡ nothing_found heard snapshots }
     {
         Scan {
@@ -49,7 +49,7 @@ pub fn scan_messages(
 ) -> Scan
     ensures { ScansAll words.now seconds heard snapshots old result }
 {
-    let start = Scan::nothing(heard, snapshots);
+    let start = Scan::start(heard, snapshots);
     Reader::new(words).fold(start, |found, message| take(found, message, seconds, old))
 }
 
@@ -66,7 +66,7 @@ pub fn scan_inbox(
     if refusals::MOST_WORDS < words.len() {
         return Scan {
             verdict: Err(Refusal::Length),
-            ..Scan::nothing(heard, snapshots)
+            ..Scan::start(heard, snapshots)
         };
     }
     scan_messages(words, seconds, heard, snapshots, old)

@@ -6,7 +6,7 @@ use Rattle.inbox_scan.proofs.scan_inbox.Goals as goal
 pub returns-then-words-gt-MOST_WORDS : goal.returns-then-words-gt-MOST_WORDS
 returns-then-words-gt-MOST_WORDS c =
     let a = c.args in
-    rw c.nothing.ensures (scans_long a.words.now a.seconds a.heard a.snapshots a.old (omega arith))
+    rw c.start.ensures (scans_long a.words.now a.seconds a.heard a.snapshots a.old (omega arith))
 
 pub returns : goal.returns
 returns c =

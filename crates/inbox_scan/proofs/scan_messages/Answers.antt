@@ -13,4 +13,4 @@ returns c =
     let a = c.args in
     scans_all a.words.now a.seconds a.heard a.snapshots a.old
     (passed _ (scan_one a.seconds a.old) _ _ c.new.ensures c.fold.ensures.ran (λ s m t f k. search rules)
-    ∙ ap (λ (x : Scan). over (scan_one a.seconds a.old) x (messages_of a.words.now)) c.nothing-start.ensures)
+    ∙ ap (λ (x : Scan). over (scan_one a.seconds a.old) x (messages_of a.words.now)) c.start-start.ensures)
