@@ -4,7 +4,7 @@ ghost use Rattle.refusals.specs.Limits.{buffer_room};
 ghost use Rattle.tape.specs.Sides.{side_number};
 ghost use Rattle.tape.specs.Tape.{count_end};
 ghost use Rattle.client.specs.Sides.{new_side_of, old_side_of, world_of, world_stamp_of, old_stamp_of, new_stamp_of, done_at, Plays};
-ghost use Rattle.simulation.specs.World.{step_of, reset_of};
+ghost use Rattle.simulation.specs.World.{step_room, step_of, reset_of};
 
 use super::{ClientWorldSimulations, Scene};
 use simulation::Simulation;
@@ -59,10 +59,10 @@ impl ClientWorldSimulations {
 impl Scene {
     // The world of a side steps. A world does not know its side, and the tape is not the scene's, so all three are named.
     pub fn step_side(&mut self, side: Side, tape: &mut Tape<'_>)
-        requires { tape.old.at + buffer_room + 1 ≤ count_end }
+        requires { tape.old.at + step_room ≤ count_end }
         ensures plays { Plays (done_at self.old (side_number side) (step_of (world_of self.old.worlds (side_number side)) (side_number side)))
             tape.old self.new tape.new }
-        ensures few { tape.new.at ≤ tape.old.at + buffer_room + 1 }
+        ensures few { tape.new.at ≤ tape.old.at + step_room }
     {
         match side {
             Side::Left => {

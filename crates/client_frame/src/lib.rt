@@ -5,7 +5,8 @@
 ghost use Rattle.std.specs.Prelude.{◌≡◌, ◌+◌, ◌*◌, ◌<◌, ◌≤◌};
 ghost use Rattle.refusals.specs.Limits.{most_steps, buffer_room};
 ghost use Rattle.tape.specs.Sides.{side_number};
-ghost use Rattle.tape.specs.Tape.{count_end};
+ghost use Rattle.tape.specs.Tape.{count_end, publish_room};
+ghost use Rattle.simulation.specs.World.{step_room};
 ghost use Rattle.client.specs.Sides.{Plays, old_stamp_of};
 ghost use Rattle.client_publish.specs.Inner.{States};
 ghost use Rattle.client_frame.specs.Frame.{loads_of, loaded_queued, blended_on, reset_new, opened_of, caught_up_of, caught_of, simulated_of};
@@ -91,7 +92,7 @@ impl FrameStart {
 
     // The state that the frame publishes: by the weight, or the old world.
     pub(crate) fn publish_state(self, scene: &Scene, tape: &mut Tape<'_>) -> Option<Timestamp>
-        requires { tape.old.at + 4 ≤ count_end }
+        requires { tape.old.at + publish_room ≤ count_end }
         ensures { States (published_by (blended_by self.status self.loads) scene.now) scene.now tape.old result tape.new }
     {
         if self.is_blended() {
@@ -102,9 +103,9 @@ impl FrameStart {
 
     // What the frame publishes.
     pub(crate) fn publish(self, scene: &mut Scene, tape: &mut Tape<'_>)
-        requires { tape.old.at + 4 ≤ count_end }
+        requires { tape.old.at + publish_room ≤ count_end }
         ensures plays { Plays (published_by (blended_by self.status self.loads) scene.old) tape.old scene.new tape.new }
-        ensures few { tape.new.at ≤ tape.old.at + 4 }
+        ensures few { tape.new.at ≤ tape.old.at + publish_room }
     {
         let state = self.publish_state(scene, tape);
         client_publish::with_state(scene, state);
@@ -112,9 +113,9 @@ impl FrameStart {
 
     // The worlds' steps and what is published.
     pub(crate) fn show(self, scene: &mut Scene, m: u32, tape: &mut Tape<'_>)
-        requires { (tape.old.at + (69 + m * 65) ≤ count_end) × (m ≤ most_steps) }
+        requires { (tape.old.at + (publish_room + (step_room + m * step_room)) ≤ count_end) × (m ≤ most_steps) }
         ensures plays { Plays (shown_of m (blended_by self.status self.loads) scene.old) tape.old scene.new tape.new }
-        ensures few { tape.new.at ≤ tape.old.at + (69 + m * 65) }
+        ensures few { tape.new.at ≤ tape.old.at + (publish_room + (step_room + m * step_room)) }
     {
         simulate_next_frame(scene, m, tape);
         self.publish(scene, tape);
@@ -210,9 +211,9 @@ pub(crate) fn has_caught_up(new: Timestamp, old: Timestamp) -> bool
 
 // The new world steps until it has reached the old one's stamp, m times at most.
 pub(crate) fn catch_up(scene: &mut Scene, m: u32, tape: &mut Tape<'_>)
-    requires { (tape.old.at + m * 65 ≤ count_end) × (m ≤ most_steps) }
+    requires { (tape.old.at + m * step_room ≤ count_end) × (m ≤ most_steps) }
     ensures plays { Plays (caught_of m (old_stamp_of scene.old.worlds) scene.old) tape.old scene.new tape.new }
-    ensures few { tape.new.at ≤ tape.old.at + m * 65 }
+    ensures few { tape.new.at ≤ tape.old.at + m * step_room }
 {
     let old = scene.worlds.last_completed_timestamp();
     for _ in 0..m {
@@ -227,9 +228,9 @@ pub(crate) fn catch_up(scene: &mut Scene, m: u32, tape: &mut Tape<'_>)
 
 // The old world steps, and then the new one catches up.
 pub(crate) fn simulate_next_frame(scene: &mut Scene, m: u32, tape: &mut Tape<'_>)
-    requires { (tape.old.at + (65 + m * 65) ≤ count_end) × (m ≤ most_steps) }
+    requires { (tape.old.at + (step_room + m * step_room) ≤ count_end) × (m ≤ most_steps) }
     ensures plays { Plays (simulated_of m scene.old) tape.old scene.new tape.new }
-    ensures few { tape.new.at ≤ tape.old.at + (65 + m * 65) }
+    ensures few { tape.new.at ≤ tape.old.at + (step_room + m * step_room) }
 {
     let side = scene.worlds.old_side();
     scene.step_side(side, tape);

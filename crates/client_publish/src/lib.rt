@@ -3,7 +3,7 @@
 
 ghost use Rattle.std.specs.Prelude.{◌≡◌, ◌+◌, ◌≤◌};
 ghost use Rattle.tape.specs.Sides.{side_number};
-ghost use Rattle.tape.specs.Tape.{count_end};
+ghost use Rattle.tape.specs.Tape.{count_end, publish_room};
 ghost use Rattle.client_publish.specs.Publish.{with_state, published_none, published_side, published_mix, published_old, near_one, published_both};
 ghost use Rattle.client_publish.specs.Publish.{published_blended};
 ghost use Rattle.client_publish.specs.Inner.{States};
@@ -23,9 +23,10 @@ pub fn with_state(scene: &mut Scene, state: Option<Timestamp>)
     published.after = state;
 }
 
-// Nothing is published: neither world has had a snapshot. Each of these functions gives the state that it publishes.
+// Nothing is published: neither world has had a snapshot. Each of these functions gives the state that it publishes; this one is handed the scene for its
+// contract alone, which is that of the others.
 pub(crate) fn publish_none(s: &Scene, tape: &mut Tape<'_>) -> Option<Timestamp>
-    requires { tape.old.at + 4 ≤ count_end }
+    requires { tape.old.at + publish_room ≤ count_end }
     ensures { States (published_none s.now) s.now tape.old result tape.new }
 {
     tape.put(tape::none_word());
@@ -34,7 +35,7 @@ pub(crate) fn publish_none(s: &Scene, tape: &mut Tape<'_>) -> Option<Timestamp>
 
 // The world of a side is published as it is.
 pub(crate) fn publish_side(s: &Scene, side: Side, tape: &mut Tape<'_>) -> Option<Timestamp>
-    requires { tape.old.at + 4 ≤ count_end }
+    requires { tape.old.at + publish_room ≤ count_end }
     ensures { States (published_side s.now (side_number side)) s.now tape.old result tape.new }
 {
     let stamp = s.worlds.get_side(side).stamp();
@@ -44,7 +45,7 @@ pub(crate) fn publish_side(s: &Scene, side: Side, tape: &mut Tape<'_>) -> Option
 
 // A mix of both worlds is published, with the weight of the new one.
 pub(crate) fn publish_mix(s: &Scene, weight: f64, tape: &mut Tape<'_>) -> Option<Timestamp>
-    requires { tape.old.at + 4 ≤ count_end }
+    requires { tape.old.at + publish_room ≤ count_end }
     ensures { States (published_mix s.now weight) s.now tape.old result tape.new }
 {
     let stamp = s.worlds.last_completed_timestamp();
@@ -54,7 +55,7 @@ pub(crate) fn publish_mix(s: &Scene, weight: f64, tape: &mut Tape<'_>) -> Option
 
 // The old world is published, where a snapshot has initialised it.
 pub fn publish_old_state(s: &Scene, tape: &mut Tape<'_>) -> Option<Timestamp>
-    requires { tape.old.at + 4 ≤ count_end }
+    requires { tape.old.at + publish_room ≤ count_end }
     ensures { States (published_old s.now) s.now tape.old result tape.new }
 {
     let side = s.worlds.old_side();
@@ -74,7 +75,7 @@ pub fn is_near_one(weight: f64) -> bool
 
 // Both worlds are initialised: the old one at weight 0, the new one near weight 1, and a mix in between.
 pub(crate) fn publish_both(s: &Scene, tape: &mut Tape<'_>) -> Option<Timestamp>
-    requires { tape.old.at + 4 ≤ count_end }
+    requires { tape.old.at + publish_room ≤ count_end }
     ensures { States (published_both s.now) s.now tape.old result tape.new }
 {
     let t = s.worlds.weight;
@@ -89,7 +90,7 @@ pub(crate) fn publish_both(s: &Scene, tape: &mut Tape<'_>) -> Option<Timestamp>
 
 // The worlds are published by the weight; with the old one not initialised the new one, and nothing where that is not either.
 pub fn publish_blended_state(s: &Scene, tape: &mut Tape<'_>) -> Option<Timestamp>
-    requires { tape.old.at + 4 ≤ count_end }
+    requires { tape.old.at + publish_room ≤ count_end }
     ensures { States (published_blended s.now) s.now tape.old result tape.new }
 {
     let old = s.worlds.get_side(s.worlds.old_side());

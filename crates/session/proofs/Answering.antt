@@ -64,16 +64,16 @@ by_verdict : (s : Session) (len : ℕ) (a : Reply) {u v : Verdict} (w : Verdict)
 by_verdict s len a w h k = ap (λ (x : Verdict). unless_refused x s len a) (sym h ∙ k)
 
 -- an update that was refused by what it is decided by: its tape is zeroed then
-pub decided_refused : (was : Session) (len : ℕ) (mid : List ℕ) {reply : Reply} {now : Session} {d : Result Updated Refusal} {e : Refusal} {last : List ℕ}
-    {a : Updated}
+pub decided_refused : (was now : Session) (len : ℕ) (mid : List ℕ) {reply : Reply} {d : Result Updated Refusal} {e : Refusal} {last : List ℕ}
+    {a : Result Updated Refusal}
     → decided reply was len d now mid → d ≡ Err e → Leaves (λ s. refused_with e s (length mid)) a last → Updates reply (answer_with now a) last
-decided_refused was len mid {reply} {now} {d} {e} {last} {a} h k g =
+decided_refused was now len mid {reply} {d} {e} {last} {a} h k g =
     let r = subst (λ (x : Result Updated Refusal). decided reply was len x now mid) k h in
     updates_as (sym (r.0 ∙ (λ i. refused_with e (sym r.1.0 i) (sym r.1.1 i)))) (g.updates now)
 
 -- one that was not
 pub decided_told : (was : Session) (len : ℕ) {reply : Reply} {now : Session} {d : Result Updated Refusal} {a : Updated} {last : List ℕ}
-    → decided reply was len d now last → d ≡ Ok a → Updates reply (answer_with now a) last
+    → decided reply was len d now last → d ≡ Ok a → Updates reply (answer_with now (Ok a)) last
 decided_told was len {reply} {now} {d} {a} {last} h k = subst (λ (x : Result Updated Refusal). decided reply was len x now last) k h
 
 -- ---- refused at once

@@ -39,7 +39,7 @@ arrived_in words r = record { scene = scene_with (received_in words r) words; fu
 
 -- an update of the session `was` that is decided: what is told of it, or that it is refused, which leaves the session as it is; the tape has `len` words
 abbrev pub decided : Reply → (was : Session) → (len : ℕ) → Result Updated Refusal → (now : Session) → (last : List ℕ) → Type 0
-decided a was len (Ok told) now last = Updates a (answer_with now told) last
+decided a was len (Ok told) now last = Updates a (answer_with now (Ok told)) last
 decided a was len (Err e) now last = (a ≡ refused_with e was len) × ((now ≡ was) × (length last ≡ len))
 
 -- the verdict on an update whose frames have ended

@@ -30,7 +30,8 @@ pub fn open(settings: Settings) -> OpenAnswer
     }
 }
 
-// One update: time moves on by delta seconds to `seconds`, the inbox is read, and the words of what happens are put on the tape.
+// One update: time moves on by delta seconds to `seconds`, the inbox is read, and the words of what happens are put on the tape. These five are the call's
+// arguments, as document 01 has them.
 pub fn update(
     session: Session,
     delta: f64,
@@ -42,7 +43,7 @@ pub fn update(
 {
     let mut next = session;
     let told = in_place::update(&mut next, delta, seconds, inbox, tape);
-    told.with_session(next)
+    UpdateAnswer::of(next, told)
 }
 
 // A command of this client, for the frame that is played next.
@@ -51,7 +52,7 @@ pub fn issue(session: Session, handle: u32) -> IssueAnswer
 {
     let mut next = session;
     let told = in_place::issue(&mut next, handle);
-    told.with_session(next)
+    IssueAnswer::of(next, told)
 }
 
 // Where a session stands.

@@ -12,7 +12,7 @@ ghost use Rattle.session.specs.Inner.{arrived_in, clock_moved_by, end_verdict_of
 ghost use Rattle.session.specs.Calls.{times_ok, worlds_update_of, update_of};
 
 use client::Scene;
-use clocksync::{Clock, Heard};
+use clocksync::Clock;
 use fixed_timestepper::{Advanced, TimeKeeper};
 use inbox_scan::Scan;
 use refusals::{Refusal, Verdict};
@@ -29,7 +29,7 @@ pub fn times_ok(delta: f64, seconds: f64) -> bool
         && timestamp::within(-refusals::LONGEST_TIME, refusals::LONGEST_TIME, seconds)
 }
 
-// What an inbox holds for a session: it is read once.
+// What an inbox holds for a session. Its commands are received by a second reading, where there is one.
 fn scan(session: &Session, seconds: f64, inbox: &[u32]) -> Scan
     ensures { Scans inbox.now seconds (listen_of session.now.clock) session.now.worlds.snapshots (old_stamp_of session.now.worlds) result }
 {
@@ -48,35 +48,24 @@ fn update_clock(
     session: &mut Session,
     delta: f64,
     seconds: f64,
-    worldly: bool,
-    heard: Heard,
+    scan: Scan,
     tape: &mut [u32],
 ) -> Result<Updated, Refusal>
-    ensures { decided (clock_moved_by session.old delta seconds worldly heard (length tape.old)) session.old (length tape.old) result session.new tape.new }
+    ensures { decided (clock_moved_by session.old delta seconds scan.worldly scan.heard (length tape.old)) session.old (length tape.old) result session.new tape.new }
 {
-    refusals::while_syncing(worldly, heard.other)?;
+    refusals::while_syncing(scan.worldly, scan.heard.other)?;
     let t = session.clock.tick(session.settings, delta);
-    session_stage::synced(session, t.clock.settle(session.settings, heard), seconds);
-    Ok(session_answers::unplayed(Ok(()), t.request, tape))
+    session_stage::synced(session, t.clock.settle(session.settings, scan.heard), seconds);
+    Ok(session_answers::unplayed(t.request, tape))
 }
 
-// The commands of an inbox are received, which are looked for only where there is any. Gives whether a buffer that takes one was full.
-fn receive_commands(any: bool, inbox: &[u32], scene: &mut Scene) -> bool
-    requires { any ≡ has_command inbox.now }
-    ensures { record { scene = scene.new; full = result } ≡ received_in inbox.now (none_received scene.old) }
-{
-    if any {
-        return inbox_passes::receive_commands(inbox, scene, false);
-    }
-    false
-}
-
-// The commands of an inbox are received, and after them the snapshots that were found. Gives whether a buffer that takes a command was full.
+// The commands of an inbox are received, which are looked for only where there is any, and after them the snapshots that were found. Gives whether a buffer
+// that takes a command was full.
 fn receive(scan: Scan, inbox: &[u32], scene: &mut Scene) -> bool
     requires { (scan.commands ≡ has_command inbox.now) × (scan.snapshots ≡ kept_in (old_stamp_of scene.old.worlds) inbox.now scene.old.worlds.snapshots) }
     ensures { record { scene = scene.new; full = result } ≡ arrived_in inbox.now (none_received scene.old) }
 {
-    let full = receive_commands(scan.commands, inbox, scene);
+    let full = scan.commands && inbox_passes::receive_commands(inbox, scene, false);
     scene.worlds.snapshots = scan.snapshots;
     full
 }
@@ -144,7 +133,7 @@ fn decide(
     if session.stage.has_worlds() {
         return update_worlds(session, delta, seconds, inbox, found, tape);
     }
-    update_clock(session, delta, seconds, found.worldly, found.heard, tape)
+    update_clock(session, delta, seconds, found, tape)
 }
 
 // One update: time moves on by delta seconds to `seconds`, the inbox is read, and the words of what happens are put on the tape. A refused one zeroes it.
@@ -155,11 +144,11 @@ pub fn update(
     seconds: f64,
     inbox: &[u32],
     tape: &mut [u32],
-) -> Updated
+) -> Result<Updated, Refusal>
     ensures { Updates (update_of session.old delta seconds inbox.now (length tape.old)) (answer_with session.new result) tape.new }
 {
     match decide(session, delta, seconds, inbox, tape) {
-        Ok(told) => told,
+        Ok(told) => Ok(told),
         Err(refusal) => session_answers::refuse(refusal, tape),
     }
 }

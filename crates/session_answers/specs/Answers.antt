@@ -1,6 +1,6 @@
 -- What an update answers once it is decided: document 01, "Kept, and written anew", and what a refused update answers.
 -- Definitions only. Assumes nothing.
-use Rattle.std.specs.Prelude.{ℕ, ◌-◌, Bool, false, List, ◌++◌, ◌≡◌, length, replicate, Ok, Err}
+use Rattle.std.specs.Prelude.{ℕ, ◌-◌, Bool, false, List, ◌++◌, ◌≡◌, length, replicate, Result, Ok, Err}
 use Rattle.refusals.specs.declared.Refusal.{Refusal}
 use Rattle.refusals.specs.Refusals.{Verdict, accepted}
 use Rattle.clocksync.specs.declared.Clock.{Clock}
@@ -39,11 +39,15 @@ answer_of a =
       words = a.words;
     }
 
--- the answer with this session
-abbrev pub answer_with : Session → Updated → UpdateAnswer
-answer_with s a =
+-- what there is to tell of an update that played nothing
+abbrev pub nothing_played : Bool → Updated
+nothing_played request = record { frames = 0; steps = 0; request = request; left = empty_ledger; right = empty_ledger; words = 0 }
+
+-- an answer by its verdict, with this session
+abbrev pub answer_by : Verdict → Session → Updated → UpdateAnswer
+answer_by v s a =
     record {
-      refusal = a.refusal;
+      refusal = v;
       session = s;
       frames = a.frames;
       steps = a.steps;
@@ -53,13 +57,18 @@ answer_with s a =
       words = a.words;
     }
 
+-- the answer with this session, to an update that was accepted or refused
+abbrev pub answer_with : Session → Result Updated Refusal → UpdateAnswer
+answer_with s (Ok a) = answer_by accepted s a
+answer_with s (Err e) = answer_by (Err e) s (nothing_played false)
+
 -- an update as the code leaves it: its whole answer, and every word of its tape
 pub record Updates (a : Reply) (r : UpdateAnswer) (last : List ℕ) : Type 0 where
   pub answer : r ≡ answer_of a
   pub tape : last ≡ a.tape
 
 -- an update that leaves the session as it is, whichever it is
-pub record Leaves (reply : Session → Reply) (a : Updated) (last : List ℕ) : Type 0 where
+pub record Leaves (reply : Session → Reply) (a : Result Updated Refusal) (last : List ℕ) : Type 0 where
   pub updates : (s : Session) → Updates (reply s) (answer_with s a) last
 
 -- the reply of an update that played nothing: the tape (of so many words) is zeroed

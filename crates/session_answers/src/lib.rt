@@ -1,8 +1,9 @@
 // The records of what open and update answer, and each way to fill that of update. It answers to `Client::update` of src/client.rs of crystalorb.
 #![tactic(auto)]
 
-ghost use Rattle.std.specs.Prelude.{◌≡◌, length};
-ghost use Rattle.session_answers.specs.Answers.{unplayed_of, refused_with, answer_with, Leaves, Updates};
+ghost use Rattle.std.specs.Prelude.{◌≡◌, length, replicate};
+ghost use Rattle.refusals.specs.Refusals.{accepted};
+ghost use Rattle.session_answers.specs.Answers.{nothing_played, unplayed_of, refused_with, answer_with, Leaves, Updates};
 ghost use Rattle.session_answers.specs.Inner.{accepted_by};
 
 use client::{Ledger, Scene};
@@ -31,10 +32,9 @@ pub struct UpdateAnswer {
     pub words: usize,
 }
 
-// What an update tells beside the session: its answer without the session, which is changed in place.
+// What an update that was accepted tells beside the session. The request is a flag: the rest is there either way.
 #[derive(Clone, Copy)]
 pub struct Updated {
-    pub refusal: Verdict,
     pub frames: u32,
     pub steps: u32,
     pub request: bool,
@@ -44,45 +44,63 @@ pub struct Updated {
 }
 
 impl Updated {
-    // The answer with the session by value.
-    pub fn with_session(self, session: Session) -> UpdateAnswer
-        ensures { result ≡ answer_with session self }
+    // What there is to tell of an update that played nothing. Of a refused one document 01 has this too, with no request.
+    pub fn unplayed(request: bool) -> Updated
+        ensures { result ≡ nothing_played request }
     {
-        UpdateAnswer {
-            refusal: self.refusal,
-            session,
-            frames: self.frames,
-            steps: self.steps,
-            request: self.request,
-            left: self.left,
-            right: self.right,
-            words: self.words,
+        Updated {
+            frames: 0,
+            steps: 0,
+            request,
+            left: Ledger::empty(),
+            right: Ledger::empty(),
+            words: 0,
         }
     }
 }
 
-// An update that played nothing: the tape is zeroed.
-pub fn unplayed(refusal: Verdict, request: bool, tape: &mut [u32]) -> Updated
-    ensures { Leaves (λ s. unplayed_of refusal s request (length tape.old)) result tape.new }
-{
-    tape::clear(tape, 0);
-    Updated {
-        refusal,
-        frames: 0,
-        steps: 0,
-        request,
-        left: Ledger::empty(),
-        right: Ledger::empty(),
-        words: 0,
+impl UpdateAnswer {
+    // The answer with the session by value.
+    pub fn of(session: Session, told: Result<Updated, Refusal>) -> UpdateAnswer
+        ensures { result ≡ answer_with session told }
+    {
+        let a = told.unwrap_or(Updated::unplayed(false));
+        UpdateAnswer {
+            refusal: told.map(|_| ()),
+            session,
+            frames: a.frames,
+            steps: a.steps,
+            request: a.request,
+            left: a.left,
+            right: a.right,
+            words: a.words,
+        }
     }
 }
 
-// A refused update: the tape zeroed, everything else 0. The session is left as it is.
+// Zeroes a tape.
+#[tactic(auto, using(tape::proofs::Writing::cleared_all))]
+fn zero(tape: &mut [u32])
+    ensures { tape.new ≡ replicate (length tape.old) 0 }
+{
+    tape::clear(tape, 0);
+}
+
+// An update that played nothing: the tape is zeroed.
+pub fn unplayed(request: bool, tape: &mut [u32]) -> Updated
+    ensures { Leaves (λ s. unplayed_of accepted s request (length tape.old)) (Ok result) tape.new }
+{
+    zero(tape);
+    Updated::unplayed(request)
+}
+
+// A refused update: the tape is zeroed. The session is left as it is.
 #[tactic(auto, unfolding(crate::specs::Answers::refused_with))]
-pub fn refuse(refusal: Refusal, tape: &mut [u32]) -> Updated
+pub fn refuse(refusal: Refusal, tape: &mut [u32]) -> Result<Updated, Refusal>
     ensures { Leaves (λ s. refused_with refusal s (length tape.old)) result tape.new }
 {
-    unplayed(Err(refusal), false, tape)
+    zero(tape);
+    Err(refusal)
 }
 
 // An update that nothing refuses: the session that its scene leaves, with the end of the worlds, and zeros on the rest of the tape.
@@ -95,7 +113,7 @@ pub fn accept(
     a: Advanced,
     tape: &mut [u32],
 ) -> Updated
-    ensures { Updates (accepted_by session.old clock request scene.now a tape.old) (answer_with session.new result) tape.new }
+    ensures { Updates (accepted_by session.old clock request scene.now a tape.old) (answer_with session.new (Ok result)) tape.new }
 {
     tape::clear(tape, a.at);
     session.worlds = scene.worlds;
@@ -108,7 +126,6 @@ pub fn accept(
     session.clock = clock;
     session.overshoot = a.overshoot;
     Updated {
-        refusal: Ok(()),
         frames: a.frames,
         steps: scene.steps,
         request,

@@ -1,9 +1,9 @@
 -- What an issue comes to, over plain values: each way that it ends, from what its parts answered. Assumes nothing.
-use mathlib.Core.Path.{◌≡◌, ap, sym, ◌∙◌, subst}
+use mathlib.Core.Path.{◌≡◌, ap, sym, ◌∙◌}
 use mathlib.Core.Bool.{Bool}
 use Prim.Native.Nat.{ℕ}
 use lib.Dec.{ltb}
-use Rattle.std.specs.Prelude.{Result, Ok, Err}
+use Rattle.std.specs.Prelude.{Ok, Err}
 use Rattle.refusals.specs.declared.Refusal.{Refusal}
 use Rattle.refusals.specs.Limits.{handle_room}
 use Rattle.refusals.specs.Refusals.{Verdict, issue_verdict_by}
@@ -19,9 +19,7 @@ use Rattle.session_state.specs.Sound.{sound_of}
 use Rattle.session_issue.specs.declared.IssueAnswer.{IssueAnswer}
 use Rattle.command.specs.Entries.{Entry, entry_of}
 use Rattle.session_state.specs.Session.{scene_of}
-use Rattle.session_issue.specs.declared.Issued.{Issued}
-use Rattle.session_issue.specs.Inner.{unissued_told, decided}
-use Rattle.session_issue.specs.Issue.{issue_with, unissued, issued_of}
+use Rattle.session_issue.specs.Issue.{unissued, issued_of}
 use Rattle.session_issue.specs.Issue.{issue_stamp, received_now, issue_verdict_of, issue_by, issue_of}
 
 module _ (s : Session) (h : ℕ) {scene : Scene} {old stamp : Timestamp} {e : Entry} {got : Received} {b p w y : Bool} {v : Verdict}
@@ -38,21 +36,10 @@ module _ (s : Session) (h : ℕ) {scene : Scene} {old stamp : Timestamp} {e : En
   verdict_is : v ≡ issue_verdict_of s h
   verdict_is = hv ∙ (λ i. issue_verdict_by (hb i) (hp i) (hw i) (got_is i).full (hy i))
 
-  pub issue_refused : {e : Refusal} → v ≡ Err e → issue_of s h ≡ unissued e s
+  pub issue_refused : {e : Refusal} → v ≡ Err e → unissued e s ≡ issue_of s h
   unfolding issue_of
-  issue_refused k = ap (λ (u : Verdict). issue_by u s (issue_stamp s) (received_now s h)) (sym verdict_is ∙ k)
+  issue_refused k = ap (λ (u : Verdict). issue_by u s (issue_stamp s) (received_now s h)) (sym k ∙ verdict_is)
 
   pub issue_accepted : {r : IssueAnswer} {x : Unit {0}} → v ≡ Ok x → r ≡ issued_of s stamp got → r ≡ issue_of s h
   unfolding issue_of
   issue_accepted k e = e ∙ (λ i. issue_by ((sym k ∙ verdict_is) i) s (stamp_is i) (got_is i))
-
--- an issue, by what it is decided
-pub decided_told : (was : Session) {reply : IssueAnswer} {now : Session} {d : Result Issued Refusal} {a : Issued} → decided reply was d now → d ≡ Ok a
-    → issue_with now a ≡ reply
-decided_told was {reply} {now} {d} {a} h k = subst (λ (x : Result Issued Refusal). decided reply was x now) k h
-
-pub decided_refused : (was : Session) {reply : IssueAnswer} {now : Session} {d : Result Issued Refusal} {e : Refusal} {a : Issued} → decided reply was d now
-    → d ≡ Err e → a ≡ unissued_told e → issue_with now a ≡ reply
-decided_refused was {reply} {now} {d} {e} {a} h k g =
-    let r = subst (λ (x : Result Issued Refusal). decided reply was x now) k h in
-    (λ i. issue_with (r.1 i) (g i)) ∙ sym r.0

@@ -1,6 +1,6 @@
 -- Issue: document 01, "Kept, and written anew", and refusals 7, 20, 23 and 24. A command of this client is for the frame that is played next.
 -- Definitions only. Assumes nothing.
-use Rattle.std.specs.Prelude.{ℕ, ltb, Ok, Err}
+use Rattle.std.specs.Prelude.{ℕ, ltb, Result, Ok, Err}
 use Rattle.refusals.specs.Limits.{handle_room}
 use Rattle.refusals.specs.declared.Refusal.{Refusal}
 use Rattle.refusals.specs.Refusals.{Verdict, accepted, issue_verdict_by}
@@ -19,9 +19,18 @@ use Rattle.session_issue.specs.declared.Issued.{Issued}
 
 -- ---- its answer
 
--- the answer with this session
-abbrev pub issue_with : Session → Issued → IssueAnswer
-issue_with s a = record { refusal = a.refusal; session = s; stamp = a.stamp; left = a.left; right = a.right }
+-- what is told of an issue that was refused: all 0
+abbrev pub nothing_issued : Issued
+nothing_issued = record { stamp = record { 0 = 0 }; left = empty_ledger; right = empty_ledger }
+
+-- an answer by its verdict, with this session
+abbrev pub issue_answer : Verdict → Session → Issued → IssueAnswer
+issue_answer v s a = record { refusal = v; session = s; stamp = a.stamp; left = a.left; right = a.right }
+
+-- the answer with this session, of an issue that was taken or refused
+abbrev pub issue_with : Session → Result Issued Refusal → IssueAnswer
+issue_with s (Ok a) = issue_answer accepted s a
+issue_with s (Err e) = issue_answer (Err e) s nothing_issued
 
 -- a refused issue: the session unchanged, all else 0
 abbrev pub unissued : Refusal → Session → IssueAnswer

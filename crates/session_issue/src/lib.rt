@@ -2,8 +2,7 @@
 #![tactic(auto)]
 
 ghost use Rattle.std.specs.Prelude.{◌≡◌};
-ghost use Rattle.session_issue.specs.Issue.{issue_with, issue_of};
-ghost use Rattle.session_issue.specs.Inner.{unissued_told, decided};
+ghost use Rattle.session_issue.specs.Issue.{nothing_issued, issue_with, issue_of};
 
 use client::Ledger;
 use refusals::{Refusal, Verdict};
@@ -20,45 +19,46 @@ pub struct IssueAnswer {
     pub right: Ledger,
 }
 
-// What an issue tells beside the session: its answer without the session, which is changed in place.
+// What an issue that was taken tells beside the session.
 #[derive(Clone, Copy)]
 pub struct Issued {
-    pub refusal: Verdict,
     pub stamp: Timestamp,
     pub left: Ledger,
     pub right: Ledger,
 }
 
 impl Issued {
-    // The answer with the session by value.
-    pub fn with_session(self, session: Session) -> IssueAnswer
-        ensures { result ≡ issue_with session self }
+    // What there is to tell of an issue that was refused: document 01 has 0 for each field.
+    pub fn nothing() -> Issued
+        ensures { result ≡ nothing_issued }
     {
-        IssueAnswer {
-            refusal: self.refusal,
-            session,
-            stamp: self.stamp,
-            left: self.left,
-            right: self.right,
+        Issued {
+            stamp: Timestamp(0),
+            left: Ledger::empty(),
+            right: Ledger::empty(),
         }
     }
 }
 
-// A refused issue: everything beside the session is 0.
-fn refuse(refusal: Refusal) -> Issued
-    ensures { result ≡ unissued_told refusal }
-{
-    Issued {
-        refusal: Err(refusal),
-        stamp: Timestamp(0),
-        left: Ledger::empty(),
-        right: Ledger::empty(),
+impl IssueAnswer {
+    // The answer with the session by value.
+    pub fn of(session: Session, told: Result<Issued, Refusal>) -> IssueAnswer
+        ensures { result ≡ issue_with session told }
+    {
+        let Issued { stamp, left, right } = told.unwrap_or(Issued::nothing());
+        IssueAnswer {
+            refusal: told.map(|_| ()),
+            session,
+            stamp,
+            left,
+            right,
+        }
     }
 }
 
-// A command of this client, unless it is refused.
-fn decide(session: &mut Session, handle: u32) -> Result<Issued, Refusal>
-    ensures { decided (issue_of session.old handle) session.old result session.new }
+// A command of this client, for the frame that is played next. Refused, it leaves the session as it is.
+pub fn issue(session: &mut Session, handle: u32) -> Result<Issued, Refusal>
+    ensures { issue_with session.new result ≡ issue_of session.old handle }
 {
     let stamp = session.worlds.last_completed_timestamp() + 1;
     let mut scene = session.scene();
@@ -72,19 +72,8 @@ fn decide(session: &mut Session, handle: u32) -> Result<Issued, Refusal>
     )?;
     session.worlds = scene.worlds;
     Ok(Issued {
-        refusal: Ok(()),
         stamp,
         left: scene.left.closed(&scene.worlds.left.commands),
         right: scene.right.closed(&scene.worlds.right.commands),
     })
-}
-
-// A command of this client, for the frame that is played next. Refused, it leaves the session as it is, and everything else is 0.
-pub fn issue(session: &mut Session, handle: u32) -> Issued
-    ensures { issue_with session.new result ≡ issue_of session.old handle }
-{
-    match decide(session, handle) {
-        Ok(told) => told,
-        Err(refusal) => refuse(refusal),
-    }
 }

@@ -15,8 +15,8 @@ use timestamp::Timestamp;
 pub fn synced(session: &mut Session, clock: Clock, seconds: f64)
     ensures { session.new ≡ synced_of session.old clock seconds }
 {
+    session.clock = clock;
     if !clock.is_ready() {
-        session.clock = clock;
         return;
     }
     // a ready clock tells the server's time
@@ -25,7 +25,6 @@ pub fn synced(session: &mut Session, clock: Clock, seconds: f64)
     };
     let stamp = Timestamp::from_seconds(server, session.settings.timestep);
     session.stage = Stage::SyncingInitialState;
-    session.clock = clock;
     session.worlds = ClientWorldSimulations::new(stamp);
     session.overshoot = 0.0;
 }

@@ -1,7 +1,7 @@
 -- One world: a step, a load and a reset, as document 01 has them under "src/world/simulation.rs". What is done to a world is told by words.
 -- Definitions only. Assumes nothing.
 use Rattle.std.specs.Ordering.{is_lt}
-use Rattle.std.specs.Prelude.{ℕ, Bool, true, false, cond, List, [], ◌∷◌, ◌++◌, ◌≡◌, length}
+use Rattle.std.specs.Prelude.{ℕ, ◌+◌, Bool, true, false, cond, List, [], ◌∷◌, ◌++◌, ◌≡◌, length}
 use Rattle.timestamp.specs.declared.Timestamp.{Timestamp}
 use Rattle.timestamp.specs.Timestamps.{sum_of, order_of}
 use Rattle.tape.specs.declared.Tape.{Tape}
@@ -9,6 +9,7 @@ use Rattle.tape.specs.Tape.{PutsOn}
 use Rattle.tape.specs.Words.{step_word, snapshot_word}
 use Rattle.command.specs.declared.CommandBuffer.{CommandBuffer}
 use Rattle.command.specs.declared.Outcome.{Outcome}
+use Rattle.refusals.specs.Limits.{buffer_room}
 use Rattle.command.specs.Entries.{Entry}
 use Rattle.command.specs.Buffer.{held, laid, inserted_of, moved_of, taken_of, rest_of, emptied_of, command_words}
 use Rattle.simulation.specs.declared.Simulation.{Simulation}
@@ -52,6 +53,10 @@ step_of w side =
       applied = length (taken_of w.commands (next_stamp w.commands.timestamp));
       leftout = (moved_of (rest_of w.commands (next_stamp w.commands.timestamp)) (next_stamp w.commands.timestamp)).dropped;
     }
+
+-- a step puts at most so many words: the commands of a full buffer, and its own
+abbrev pub step_room : ℕ
+step_room = buffer_room + 1
 
 -- a reset from the stamp `now` to the stamp t goes back
 unfoldable pub resets_back : Timestamp → Timestamp → Bool

@@ -7,7 +7,7 @@ ghost use Rattle.std.specs.Prelude.{◌≡◌, ◌+◌, ◌<◌, ◌≤◌};
 ghost use Rattle.refusals.specs.Limits.{buffer_room};
 ghost use Rattle.tape.specs.Sides.{side_number};
 ghost use Rattle.tape.specs.Tape.{count_end};
-ghost use Rattle.simulation.specs.World.{new_world, scheduled_of, step_of, reset_of, load_of, Does, Loads};
+ghost use Rattle.simulation.specs.World.{step_room, new_world, scheduled_of, step_of, reset_of, load_of, Does, Loads};
 
 use command::{CommandBuffer, Outcome};
 use tape::{Side, Tape, snapshot_word, step_word};
@@ -64,9 +64,9 @@ impl Simulation {
 
     // One frame: the commands up to it are applied, the world steps, and its stamp moves on. A world does not know its side, nor has it the tape.
     pub fn step(&mut self, side: Side, tape: &mut Tape<'_>) -> Stepped
-        requires { tape.old.at + buffer_room + 1 ≤ count_end }
+        requires { tape.old.at + step_room ≤ count_end }
         ensures does { Does (step_of self.old (side_number side)) tape.old self.new result tape.new }
-        ensures few { tape.new.at ≤ tape.old.at + buffer_room + 1 }
+        ensures few { tape.new.at ≤ tape.old.at + step_room }
     {
         let next = self.commands.timestamp + 1;
         let start = tape.at;

@@ -20,6 +20,10 @@ cleared tape from = written tape from (replicate (words_from tape from) 0)
 abbrev pub count_end : ℕ
 count_end = 2 ^ 32
 
+-- a publishing puts at most so many words: a mix and the three of its weight
+abbrev pub publish_room : ℕ
+publish_room = 4
+
 -- words put on the tape `was` from a place on: the next place counts them all, and the tape has those that fit
 pub record Puts (was : List ℕ) (place : ℕ) (words : List ℕ) (next : ℕ) (last : List ℕ) : Type 0 where
   pub at : next ≡ place + length words

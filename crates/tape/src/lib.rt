@@ -6,7 +6,7 @@ ghost use Rattle.std.specs.Prelude.{◌≡◌, [], ◌∷◌, ◌+◌, ◌%◌, 
 ghost use Rattle.refusals.specs.Limits.{handle_room};
 ghost use Rattle.tape.specs.Sides.{side_number, side_named, other_of};
 ghost use Rattle.tape.specs.Words.{side_bit, step_word, command_word, snapshot_word, publish_word, mix_word, none_word, weight_word, weight_words, mix_words};
-ghost use Rattle.tape.specs.Tape.{count_end, PutsOn, cleared};
+ghost use Rattle.tape.specs.Tape.{count_end, publish_room, PutsOn, cleared};
 
 // One of the two worlds.
 #[derive(Clone, Copy, PartialEq, Eq)]
@@ -27,7 +27,7 @@ impl Side {
     }
 }
 
-// The side of a number: 0 is left, any other number right.
+// The side of a number: 0 is left, any other number right. No call takes one today; it says what a number names.
 impl From<u32> for Side {
     ghost from_gives = { λ n side. side ≡ side_named n };
 
@@ -58,7 +58,7 @@ impl Tape<'_> {
 
     // Puts the four words of a mix: its own, and the three of its weight.
     pub fn put_mix(&mut self, weight: f64)
-        requires { self.old.at + 4 ≤ count_end }
+        requires { self.old.at + publish_room ≤ count_end }
         ensures { PutsOn self.old (mix_words weight) self.new }
     {
         let bits = std::num::f64_to_bits_with_nan(weight);

@@ -6,4 +6,4 @@ pub returns-in-Ok : goal.returns-in-Ok
 returns-in-Ok c = decided_told _ _ c.decide.ensures c.in-Ok.is
 
 pub returns-in-Err : goal.returns-in-Err
-returns-in-Err c = decided_refused _ _ c.decide.new.tape c.decide.ensures c.in-Err.is c.refuse.ensures
+returns-in-Err c = decided_refused _ c.decide.new.session _ c.decide.new.tape c.decide.ensures c.in-Err.is c.refuse.ensures
