@@ -11,6 +11,7 @@ ghost use Rattle.host.specs.Inner.{float_in};
 ghost use Rattle.host.specs.Mean.{bytes_of, judged_mean, mean_answer_of, AnswersMean};
 ghost use Rattle.host.specs.Spans.{host_span_of};
 
+use film_rate::Rate;
 use refusals::{LONGEST_TIME, LONGEST_TIMESTEP, Refusal, SAMPLE_ROOM, SHORTEST_TIMESTEP, require};
 use std::cmp::Ordering;
 use timestamp::Timestamp;
@@ -26,7 +27,7 @@ pub struct HostSpanFrames {
     pub spare: u32,
 }
 
-// What is answered for a timestep out of range, in place of a stamp.
+// What is answered for a timestep out of range, in place of a stamp. This and the next are numbers, since C is answered by one i32.
 const TIMESTEP_OUT_OF_RANGE: i32 = 65537;
 
 // What is answered for seconds out of range.
@@ -61,7 +62,7 @@ pub fn kadwunge_frame_stamp(seconds: f64, timestep: f64) -> i32
 pub fn kadwunge_frames_of_span(span: u64, p: u32, q: u32) -> HostSpanFrames
     ensures { result ≡ host_span_of (span_frames_of span p q) }
 {
-    match film_rate::frames_of_span(span, p, q) {
+    match film_rate::frames_of_span(span, Rate { p, q }) {
         Ok(a) => HostSpanFrames {
             frames: a.frames,
             remainder: a.remainder,

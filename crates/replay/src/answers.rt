@@ -1,7 +1,7 @@
 // The answers as text, without the line's end.
 use super::text::{
-    Bits, BufferText, LedgerText, OrNone, RefusalText, Stamp, comma_before, float_or_none, queued,
-    stamp_or_none,
+    Bits, BufferText, LedgerText, OrNone, RefusalText, Stamp, Word, float_or_none, queued,
+    stamp_or_none, write_list,
 };
 use client::{
     ClientWorldSimulations, FastforwardingHealth, Ledger, Published, ReconciliationStatus,
@@ -84,10 +84,7 @@ impl Display for UpdateText<'_> {
             f,
             "update {refusal} F={frames} C={steps} request={request} {ledgers} words={words} tape="
         )?;
-        for (i, word) in self.tape.iter().take(words).enumerate() {
-            let comma = comma_before(i);
-            write!(f, "{comma}{word:08x}")?;
-        }
+        write_list(f, self.tape.iter().take(words).map(|word| Word(*word)))?;
         let is_clean = self.tape.iter().skip(words).all(|word| *word == 0);
         let rest = if is_clean { "zero" } else { "dirty" };
         write!(f, " rest={rest}")
@@ -166,12 +163,8 @@ impl Display for ClockText {
         let timer = Bits(clock.timer);
         let id = OrNone(clock.id);
         write!(f, "offset={offset} timer={timer} id={id} samples=")?;
-        for (i, sample) in clock.samples.iter().take(clock.len).enumerate() {
-            let comma = comma_before(i);
-            let sample = Bits(*sample);
-            write!(f, "{comma}{sample}")?;
-        }
-        Ok(())
+        let samples = clock.samples.iter().take(clock.len).map(|x| Bits(*x));
+        write_list(f, samples)
     }
 }
 

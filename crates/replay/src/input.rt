@@ -1,6 +1,6 @@
 // The input as lines of fields, with one space between two fields. It is read byte by byte, and no more of a field is kept than its value
 // has room for, so that a line may have any length.
-ghost use Rattle.std.specs.Prelude.{◌+◌, ◌*◌, ◌<◌, ◌≤◌, IfSome};
+ghost use Rattle.std.specs.Prelude.{◌+◌, ◌*◌, ◌<◌, ◌≤◌, IfSome, IfOk};
 ghost use Rattle.std.specs.Iterator.{at_most};
 
 use super::stop::Stop;
@@ -57,16 +57,14 @@ fn digit(byte: u8) -> Option<u8>
 }
 
 // A number with one digit more, where the byte is one and the number still fits.
-fn with_digit(number: u64, byte: u8, radix: u8) -> Option<u64>
-    ensures { IfSome result (λ n. (number * radix ≤ n) × (n < number * radix + radix)) }
+fn with_digit(number: u64, byte: u8, radix: u8) -> Result<u64, Stop>
+    ensures { IfOk result (λ n. (number * radix ≤ n) × (n < number * radix + radix)) }
 {
-    let digit = digit(byte)?;
-    if digit >= radix {
-        return None;
-    }
+    let digit = digit(byte).filter(|d| *d < radix).ok_or(Stop::BadCall)?;
     number
-        .checked_mul(u64::from(radix))?
-        .checked_add(u64::from(digit))
+        .checked_mul(u64::from(radix))
+        .and_then(|n| n.checked_add(u64::from(digit)))
+        .ok_or(Stop::BadCall)
 }
 
 impl<R: Read + Drop> Input<R> {
@@ -160,12 +158,11 @@ impl<R: Read + Drop> Input<R> {
 
     // The number in decimal that begins with a byte.
     fn decimal_from(&mut self, first: u8) -> Result<u64, Stop> {
-        let mut number = with_digit(0, first, 10);
+        let mut number = with_digit(0, first, 10)?;
         for byte in self.rest() {
-            let byte = byte?;
-            number = number.and_then(|n| with_digit(n, byte, 10));
+            number = with_digit(number, byte?, 10)?;
         }
-        number.ok_or(Stop::BadCall)
+        Ok(number)
     }
 
     // A number in decimal, without a sign. Read from the stream byte by byte, so not by `parse`.
@@ -190,15 +187,13 @@ impl<R: Read + Drop> Input<R> {
     }
 
     // A number of so many hexadecimal digits, read in the same way.
-    fn hex(&mut self, digits: usize) -> Result<u64, Stop> {
-        let mut number = with_digit(0, self.first_byte()?, 16);
-        let mut count = 1usize;
-        for byte in self.rest() {
-            let byte = byte?;
-            number = number.and_then(|n| with_digit(n, byte, 16));
-            count = count.saturating_add(1);
+    fn hex(&mut self, digits: u32) -> Result<u64, Stop> {
+        let mut number = with_digit(0, self.first_byte()?, 16)?;
+        for _ in 1..digits {
+            number = with_digit(number, self.byte()?, 16)?;
         }
-        number.filter(|_| count == digits).ok_or(Stop::BadCall)
+        self.end_field()?;
+        Ok(number)
     }
 
     // A float by its bits.
@@ -229,15 +224,9 @@ impl<R: Read + Drop> Input<R> {
 
     // The field ends here.
     fn end_field(&mut self) -> Result<(), Stop> {
-        let mut is_at_end = true;
-        for byte in self.rest() {
-            byte?;
-            is_at_end = false;
-        }
-        if is_at_end {
-            Ok(())
-        } else {
-            Err(Stop::BadCall)
+        match self.next_of_field()? {
+            None => Ok(()),
+            Some(_) => Err(Stop::BadCall),
         }
     }
 

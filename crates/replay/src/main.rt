@@ -24,6 +24,7 @@ fn play<R: Read + Drop, W: Write>(
     player: &mut Player,
     out: &mut W,
 ) -> Result<(), Stop> {
+    // the bound is for the proof that the loop ends: no input has so many lines
     for number in 1..=u64::MAX {
         match call::read_line(input) {
             Ok(Line::Call(call)) => player.play(call, out).map_err(Stop::Write)?,

@@ -1,4 +1,6 @@
 // The text of single values in answers. The types that print are this program's own, since the values' types belong to the client's crates.
+ghost use Rattle.std.specs.Iterator.{IsFinite};
+
 use client::{Ledger, QueuedSnapshot};
 use command::CommandBuffer;
 use refusals::Verdict;
@@ -85,21 +87,40 @@ impl Display for BufferText {
     fn fmt<W: fmt::Write>(&self, f: &mut Formatter<W>) -> fmt::Result {
         let buffer = &self.0;
         write!(f, "{}[", Stamp(buffer.timestamp))?;
-        for (i, entry) in buffer.held().iter().enumerate() {
-            let comma = comma_before(i);
-            let entry = Entry {
-                stamp: command::stamp_of(*entry),
-                handle: command::handle_of(*entry),
-            };
-            write!(f, "{comma}{entry}")?;
-        }
+        let entries = buffer.held().iter().map(|entry| Entry {
+            stamp: command::stamp_of(*entry),
+            handle: command::handle_of(*entry),
+        });
+        write_list(f, entries)?;
         write!(f, "]")
     }
 }
 
-// What stands before an element of a list: a comma, but for the first.
-pub(crate) fn comma_before(i: usize) -> &'static str {
-    if i == 0 { "" } else { "," }
+// A word of a tape, in eight hexadecimal digits.
+#[derive(Drop)]
+pub struct Word(pub u32);
+
+impl Display for Word {
+    fn fmt<W: fmt::Write>(&self, f: &mut Formatter<W>) -> fmt::Result {
+        write!(f, "{:08x}", self.0)
+    }
+}
+
+// Writes the items of a list, with a comma between two.
+pub(crate) fn write_list<T: Display + Drop, I: Iterator<Item = T>, W: fmt::Write>(
+    f: &mut Formatter<W>,
+    items: I,
+) -> fmt::Result
+    requires can { I.can_next items }
+    requires ends { IsFinite (I.remaining items) }
+{
+    let mut is_first = true;
+    for item in items {
+        let comma = if is_first { "" } else { "," };
+        write!(f, "{comma}{item}")?;
+        is_first = false;
+    }
+    Ok(())
 }
 
 // The ledger of one side.

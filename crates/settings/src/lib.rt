@@ -21,7 +21,8 @@ pub enum TweeningMethod {
     Nearest,
     // a mix of both
     Interpolated,
-    // a number that names no method; settings with it do not pass
+    // A number that names no method; settings with it do not pass. A case, and no Option or TryFrom: a call gives the method as a number, and settings
+    // that do not pass have their answers too.
     Unknown,
 }
 
@@ -135,6 +136,7 @@ pub(crate) fn lag_frames(lag: f64, timestep: f64) -> i16
 
 // How many samples are left out at each end of those sorted: half of the outliers that are to be expected, rounded up, and at least 1.
 // The Rust saturates at the largest usize; here 65,535 is the most, which settings that pass stay far below.
+// The two are fields of the settings, which C hands over one by one (see `host`), so they are no struct of their own.
 pub fn discard_count(needed: u32, rate: f64) -> usize
     ensures { result ≡ discard_of needed rate }
 {
@@ -142,7 +144,7 @@ pub fn discard_count(needed: u32, rate: f64) -> usize
     usize::from(std::num::saturating_f64_to_u16(timestamp::ceil(at_least_one(half))))
 }
 
-// The larger of x and 1; 1 for a NaN.
+// The larger of x and 1; 1 for a NaN. Not std's `max`: of two that compare equal it may give either, and that both are 1 here would need a proof.
 fn at_least_one(x: f64) -> f64
     ensures { result ≡ at_least_one x }
 {
