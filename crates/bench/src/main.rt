@@ -6,7 +6,7 @@ ghost use Rattle.std.specs.Prelude.{◌<◌, ◌≤◌, length, IfOk};
 ghost use Rattle.std.specs.Iterator.{at_most};
 
 use client::ReconciliationStatus;
-use refusals::Verdict;
+use refusals::{Refusal, Verdict};
 use session::{calls, in_place};
 use session_answers::Updated;
 use session_issue::Issued;
@@ -43,8 +43,9 @@ impl Sums {
     }
 
     // All steps of a world are those of the frames and those made to catch up.
-    fn add_update(&mut self, answer: &Updated, tape: &[u32]) {
-        self.add_refusal(answer.refusal);
+    fn add_update(&mut self, told: Result<Updated, Refusal>, tape: &[u32]) {
+        self.add_refusal(told.map(|_| ()));
+        let answer = told.unwrap_or(Updated::unplayed(false));
         self.add(u64::from(answer.frames) + u64::from(answer.steps));
         self.add(answer.words as u64);
         for word in tape.iter().take(answer.words) {
@@ -52,8 +53,9 @@ impl Sums {
         }
     }
 
-    fn add_issue(&mut self, answer: &Issued) {
-        self.add_refusal(answer.refusal);
+    fn add_issue(&mut self, told: Result<Issued, Refusal>) {
+        self.add_refusal(told.map(|_| ()));
+        let answer = told.unwrap_or(Issued::nothing());
         self.add(u64::from(answer.stamp.0));
     }
 
@@ -217,9 +219,9 @@ fn play(script: &[u32], tape: &mut [u32], sums: &mut Sums) {
                 inbox,
             } => {
                 let told = in_place::update(&mut session, delta, seconds, inbox, tape);
-                sums.add_update(&told, tape);
+                sums.add_update(told, tape);
             }
-            Call::Issue { handle } => sums.add_issue(&in_place::issue(&mut session, handle)),
+            Call::Issue { handle } => sums.add_issue(in_place::issue(&mut session, handle)),
             Call::Report => sums.add_report(&in_place::report(&session)),
         }
     }

@@ -188,7 +188,7 @@ impl TimeKeeper {
                 };
             }
             let stops = client_frame::step(scene, rules, tape);
-            o = o + self.settings.timestep;
+            o += self.settings.timestep;
             if stops {
                 return Advanced {
                     overshoot: o,
@@ -198,19 +198,16 @@ impl TimeKeeper {
                 };
             }
         }
-        if o < 0.0 {
-            return Advanced {
-                overshoot: o,
-                frames: refusals::MOST_FRAMES,
-                at: tape.at,
-                stop: Stop::TooManyFrames,
-            };
-        }
+        let stop = if o < 0.0 {
+            Stop::TooManyFrames
+        } else {
+            Stop::Done
+        };
         Advanced {
             overshoot: o,
             frames: refusals::MOST_FRAMES,
             at: tape.at,
-            stop: Stop::Done,
+            stop,
         }
     }
 

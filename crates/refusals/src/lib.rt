@@ -131,7 +131,7 @@ pub const LONGEST_TIME: f64 = 4294967296.0;
 // Clock samples are within 2^33 seconds on both sides of 0.
 pub const LARGEST_SAMPLE: f64 = 8589934592.0;
 
-// Why the frames of an update ended: all were played, a 66th was due, or the Rust stops in one.
+// Why the frames of an update ended: all were played, a 66th was due, or the Rust stops in one. It is no `Verdict`, which could name any refusal.
 #[derive(Clone, Copy)]
 pub enum Stop {
     Done,
