@@ -46,7 +46,7 @@ const ENTRY_ROOM: u64 = 1 << 48;
 // no heap, and a session of a fixed size.
 #[derive(Clone, Copy)]
 pub struct CommandBuffer {
-    pub entries: [u64; 64],
+    pub entries: [u64; refusals::BUFFER_ROOM],
     pub len: usize,
     pub timestamp: Timestamp,
 }
@@ -136,7 +136,7 @@ impl CommandBuffer {
         ensures { result ≡ laid [] timestamp }
     {
         CommandBuffer {
-            entries: [0; 64],
+            entries: [0; refusals::BUFFER_ROOM],
             len: 0,
             timestamp,
         }
@@ -347,7 +347,7 @@ impl CommandBuffer {
 pub fn entry_sound(k: u32, lo: u32, entry: u64) -> bool
     ensures { result ≡ sound_rank k lo entry }
 {
-    lo <= k && RANGE_FROM <= k && k < RANGE_END && is_plain(entry)
+    lo <= k && (RANGE_FROM..RANGE_END).contains(&k) && is_plain(entry)
 }
 
 // The rank of a stamp around m: its signed difference to m, plus 32,768. Ranks stand in the order of the signed differences.
