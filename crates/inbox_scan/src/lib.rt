@@ -1,5 +1,5 @@
-// An inbox read once, each message once: its verdict, whether it has commands or snapshots, what its clock messages tell, and the
-// snapshots that it leaves.
+// The messages of an inbox, read once: its verdict, whether it has commands or snapshots, what its clock messages tell, and the
+// snapshots that it leaves. Commands are only found here: where there is one, inbox_passes reads the inbox a second time and receives them.
 #![tactic(auto)]
 
 ghost use Rattle.std.specs.Prelude.{◌≡◌};
