@@ -47,11 +47,12 @@ pub(crate) fn noted(queued: Option<QueuedSnapshot>, last: Option<Timestamp>) -> 
     queued.map(|q| q.stamp).or(last)
 }
 
-// What becomes of the snapshots where one with a stamp and a handle arrives at a client of the stamp `old`.
+// What becomes of the snapshots where one arrives at a client of the stamp `old`.
 #[tactic(auto, unfolding(crate::specs::Receive::snapshots_of, crate::specs::Receive::snapshots_by, crate::specs::Receive::from_future_of))]
-pub fn snapshots_with(s: Snapshots, old: Timestamp, stamp: Timestamp, handle: u32) -> Snapshots
-    ensures { result ≡ snapshots_of s old stamp handle }
+pub fn snapshots_with(s: Snapshots, old: Timestamp, snapshot: QueuedSnapshot) -> Snapshots
+    ensures { result ≡ snapshots_of s old snapshot.stamp snapshot.handle }
 {
+    let stamp = snapshot.stamp;
     // it is from the future
     if status::is_later(stamp, old) {
         return Snapshots {
@@ -61,7 +62,7 @@ pub fn snapshots_with(s: Snapshots, old: Timestamp, stamp: Timestamp, handle: u3
     }
     if is_fresh(s.lastqueued, stamp) {
         return Snapshots {
-            queued: Some(QueuedSnapshot { stamp, handle }),
+            queued: Some(snapshot),
             lastqueued: Some(stamp),
             lastreceived: Some(stamp),
         };

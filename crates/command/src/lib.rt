@@ -43,10 +43,11 @@ const STAMPS: u64 = 1 << 16;
 const ENTRY_ROOM: u64 = 1 << 48;
 
 // The entries with their count, and the midpoint of the range of stamps that are accepted, which the Rust calls the timestamp. The entries are an array:
-// no heap, and a session of a fixed size.
+// no heap, and a session of a fixed size, which is `Copy`. An array and a count, and no type of a buffer, whose invariant would ask more of a caller: here any
+// count has its answers.
 #[derive(Clone, Copy)]
 pub struct CommandBuffer {
-    pub entries: [u64; 64],
+    pub entries: [u64; refusals::BUFFER_ROOM],
     pub len: usize,
     pub timestamp: Timestamp,
 }
@@ -97,7 +98,8 @@ impl Outcome {
     }
 }
 
-// The entry of a command: the stamp of the frame that it is for, times 2^32, and its handle.
+// The entry of a command: the stamp of the frame that it is for, times 2^32, and its handle. A word, and no struct: words can be lent as a slice, and have
+// no padding; a struct of a stamp of 16 bits and a handle of 32 would have two bytes in each slot that nothing determines.
 #[tactic(auto, unfolding(crate::specs::Entries::entry_of))]
 pub fn entry_of(stamp: Timestamp, handle: u32) -> u64
     ensures { result ≡ entry_of stamp handle }
@@ -136,7 +138,7 @@ impl CommandBuffer {
         ensures { result ≡ laid [] timestamp }
     {
         CommandBuffer {
-            entries: [0; 64],
+            entries: [0; refusals::BUFFER_ROOM],
             len: 0,
             timestamp,
         }
@@ -171,6 +173,7 @@ impl CommandBuffer {
     }
 
     // Whether a step to a stamp leaves the buffer as it is: nothing is due, and nothing leaves the range. One that holds nothing is not read.
+    // No call asks it today. The definitions of client_level go by its `waits_of`, and it stays as a public promise.
     pub fn waits(&self, t: Timestamp) -> bool
         ensures { result ≡ waits_of self.now t }
     {
@@ -347,7 +350,7 @@ impl CommandBuffer {
 pub fn entry_sound(k: u32, lo: u32, entry: u64) -> bool
     ensures { result ≡ sound_rank k lo entry }
 {
-    lo <= k && RANGE_FROM <= k && k < RANGE_END && is_plain(entry)
+    lo <= k && (RANGE_FROM..RANGE_END).contains(&k) && is_plain(entry)
 }
 
 // The rank of a stamp around m: its signed difference to m, plus 32,768. Ranks stand in the order of the signed differences.
@@ -359,6 +362,7 @@ fn rank_of(s: Timestamp, m: Timestamp) -> u32
 }
 
 // Whether an entry is in the accepted range around m.
+// This is document 01's test, by signed differences; a span's goes by ranks, and RANGE_FROM to RANGE_END is the same range.
 #[tactic(auto, unfolding(crate::specs::Buffer::in_range_of))]
 pub fn in_range(entry: u64, m: Timestamp) -> bool
     ensures { result ≡ in_range_of m entry }

@@ -3,6 +3,7 @@
 #![tactic(auto)]
 
 ghost use Rattle.std.specs.Prelude.{◌≡◌, ◌+◌, ◌^◌, ◌≤◌, ◌<◌, length, drop};
+ghost use Rattle.refusals.specs.Limits.{handle_room};
 ghost use Rattle.inbox.specs.Inbox.{due_word_of, head_of, joined_of, float_bits_of, inbox_time_of, clock_of, read_at};
 ghost use Rattle.inbox.specs.Inner.{step_of};
 
@@ -47,6 +48,8 @@ const STAMP_ROOM: u32 = 1 << 16;
 // The value of the first of a float's three words is below this: it has 8 bits.
 const HIGH_ROOM: u32 = 1 << 8;
 
+// The kinds below are numbers and no enum: document 01 has them as the top 4 bits of a word, and they are compared with bits.
+
 // The kind of a command's first word.
 const COMMAND: u32 = 1;
 // The kind of a snapshot's first word.
@@ -90,14 +93,14 @@ fn step_at(words: &[u32], at: usize) -> Result<Step, Refusal>
 {
     match head_of(words[at])? {
         Head::ForCommand(stamp) => {
-            let handle = word_at(words, at + 1, HANDLE, refusals::HANDLE_ROOM)?;
+            let handle = handle_at(words, at + 1)?;
             Ok(Step {
                 message: Ok(Message::Command { stamp, handle }),
                 next: at + HANDLE_WORDS,
             })
         }
         Head::ForSnapshot(stamp) => {
-            let handle = word_at(words, at + 1, HANDLE, refusals::HANDLE_ROOM)?;
+            let handle = handle_at(words, at + 1)?;
             Ok(Step {
                 message: Ok(Message::Snapshot { stamp, handle }),
                 next: at + HANDLE_WORDS,
@@ -135,6 +138,13 @@ fn word_at(words: &[u32], at: usize, kind: u32, room: u32) -> Result<u32, Refusa
     let value = word % VALUE_ROOM;
     refusals::require(word / VALUE_ROOM == kind && value < room, Refusal::Word)?;
     Ok(value)
+}
+
+// The handle that the word at a place says.
+fn handle_at(words: &[u32], at: usize) -> Result<u32, Refusal>
+    ensures { result ≡ due_word_of 4 handle_room (drop at words.now) }
+{
+    word_at(words, at, HANDLE, refusals::HANDLE_ROOM)
 }
 
 // The bits of a float that the three words at a place say.

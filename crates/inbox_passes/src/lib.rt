@@ -1,4 +1,5 @@
-// The pass over the commands of an inbox. What its clock messages and its snapshots leave is found by inbox_scan, which reads it once.
+// The second reading of an inbox, where it has a command: its commands are received. What its clock messages and its snapshots leave is found in the first
+// reading, by inbox_scan.
 #![tactic(auto)]
 
 ghost use Rattle.std.specs.Prelude.{◌≡◌};
@@ -8,6 +9,7 @@ use client::Scene;
 use inbox::{Message, Reader, Reading};
 
 // The commands of an inbox, in their order. Gives whether a buffer that takes one of them was full, or one was before (`full`).
+// `full` is what an earlier inbox left, as `received_in` goes on from any state. Its one caller, the session, hands in false.
 pub fn receive_commands(words: &[u32], scene: &mut Scene, full: bool) -> bool
     ensures { record { scene = scene.new; full = result } ≡ received_in words.now (record { scene = scene.old; full = full }) }
 {

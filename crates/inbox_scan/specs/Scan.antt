@@ -38,7 +38,8 @@ pub record ScansAll (words : List ℕ) (seconds : Float) (known : Heard) (was : 
   pub heard : r.heard ≡ heard_in seconds words known
   pub snapshots : r.snapshots ≡ kept_in old words was
 
--- what is given of an inbox. Each field looks at messages of its own kind, and no message changes the stamp `old`: so one reading gives what 01's passes give
+-- what is given of an inbox. Each field looks at messages of its own kind, and no message changes the stamp `old`: so one reading gives for each what 01's
+-- passes give. Commands are received in a second reading, where there is one (inbox_passes)
 pub record Scans (words : List ℕ) (seconds : Float) (known : Heard) (was : Snapshots) (old : Timestamp) (r : Scan) : Type 0 where
   pub verdict : r.verdict ≡ refusal_of words
   pub worldly : r.worldly ≡ unless_long words false (has_for_worlds words)

@@ -1,12 +1,12 @@
-// An inbox read once, each message once: its verdict, whether it has commands or snapshots, what its clock messages tell, and the
-// snapshots that it leaves.
+// The messages of an inbox, read once: its verdict, whether it has commands or snapshots, what its clock messages tell, and the
+// snapshots that it leaves. Commands are only found here: where there is one, inbox_passes reads the inbox a second time and receives them.
 #![tactic(auto)]
 
 ghost use Rattle.std.specs.Prelude.{◌≡◌};
 ghost use Rattle.inbox_scan.specs.Scan.{Scans, ScansAll};
 ghost use Rattle.inbox_scan.specs.Inner.{nothing_found, scan_one};
 
-use client::Snapshots;
+use client::{QueuedSnapshot, Snapshots};
 use clocksync::Heard;
 use inbox::{Message, Reader, Reading};
 use refusals::{Refusal, Verdict};
@@ -83,7 +83,8 @@ fn take(mut found: Scan, message: Reading, seconds: f64, old: Timestamp) -> Scan
         }
         Ok(Message::Snapshot { stamp, handle }) => {
             found.worldly = true;
-            found.snapshots = client_receive::snapshots_with(found.snapshots, old, stamp, handle);
+            let snapshot = QueuedSnapshot { stamp, handle };
+            found.snapshots = client_receive::snapshots_with(found.snapshots, old, snapshot);
         }
         Ok(Message::Clock { id, send, server }) => {
             found.heard = found.heard.hear(id, send, server, seconds);

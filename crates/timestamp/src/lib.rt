@@ -255,6 +255,7 @@ pub fn round(x: f64) -> f64
 }
 
 // Whether x is from lo to hi. A NaN is not.
+// std's `(lo..=hi).contains(&x)` was tried: `search` finds no proof, since its contract goes by `float_partial_cmp`.
 pub fn within(lo: f64, hi: f64, x: f64) -> bool
     ensures { result ≡ between lo hi x }
 {
