@@ -209,7 +209,8 @@ pub(crate) fn has_caught_up(new: Timestamp, old: Timestamp) -> bool
     new.cmp(old).is_ge()
 }
 
-// The new world steps until it has reached the old one's stamp, m times at most.
+// The new world steps until it has reached the old one's stamp, m times at most: m is the one number of `Rules` that the steps go by, and it goes with the
+// scene and the tape as two states that are changed.
 pub(crate) fn catch_up(scene: &mut Scene, m: u32, tape: &mut Tape<'_>)
     requires { (tape.old.at + m * step_room ≤ count_end) × (m ≤ most_steps) }
     ensures plays { Plays (caught_of m (old_stamp_of scene.old.worlds) scene.old) tape.old scene.new tape.new }

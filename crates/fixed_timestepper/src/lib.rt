@@ -36,7 +36,7 @@ pub struct Advanced {
     pub stop: Stop,
 }
 
-// A number, or +0.0 where it is not above 0.
+// A number, or +0.0 where it is not above 0. Not std's `max`, which leaves open which of two zeros it gives.
 pub(crate) fn at_least_zero(x: f64) -> f64
     ensures { result ≡ at_least_zero x }
 {
@@ -97,6 +97,7 @@ impl TimeKeeper {
             self.settings.timestep,
         );
         let uncapped = at_least_zero(delta - drift);
+        // not std's `min`, which leaves open which of two zeros it gives
         if uncapped > self.settings.max {
             return self.settings.max;
         }

@@ -8,6 +8,7 @@ use client::{
     Snapshots,
 };
 use clocksync::Clock;
+use refusals::Refusal;
 use session_answers::Updated;
 use session_issue::Issued;
 use session_report::ReportAnswer;
@@ -64,14 +65,14 @@ impl Display for LedgersText {
 // The answer of `update`, and the tape as it left it.
 #[derive(Drop)]
 pub struct UpdateText<'a> {
-    pub answer: Updated,
+    pub told: Result<Updated, Refusal>,
     pub tape: &'a [u32],
 }
 
 impl Display for UpdateText<'_> {
     fn fmt<W: fmt::Write>(&self, f: &mut Formatter<W>) -> fmt::Result {
-        let answer = &self.answer;
-        let refusal = RefusalText(answer.refusal);
+        let refusal = RefusalText(self.told.map(|_| ()));
+        let answer = self.told.unwrap_or(Updated::unplayed(false));
         let frames = answer.frames;
         let steps = answer.steps;
         let request = u8::from(answer.request);
@@ -93,12 +94,12 @@ impl Display for UpdateText<'_> {
 
 // The answer of `issue`.
 #[derive(Drop)]
-pub struct IssueText(pub Issued);
+pub struct IssueText(pub Result<Issued, Refusal>);
 
 impl Display for IssueText {
     fn fmt<W: fmt::Write>(&self, f: &mut Formatter<W>) -> fmt::Result {
-        let answer = &self.0;
-        let refusal = RefusalText(answer.refusal);
+        let refusal = RefusalText(self.0.map(|_| ()));
+        let answer = self.0.unwrap_or(Issued::nothing());
         let stamp = Stamp(answer.stamp);
         let ledgers = LedgersText {
             left: answer.left,

@@ -104,13 +104,13 @@ impl Player {
     ) -> io::Result<()> {
         let tape = first(self.tape.as_mut_slice(), length);
         tape.fill(u32::MAX);
-        let answer = in_place::update(&mut self.session, delta, seconds, inbox, tape);
-        writeln!(out, "{}", UpdateText { answer, tape })
+        let told = in_place::update(&mut self.session, delta, seconds, inbox, tape);
+        writeln!(out, "{}", UpdateText { told, tape })
     }
 
     fn issue<W: Write>(&mut self, handle: u32, out: &mut W) -> io::Result<()> {
-        let answer = in_place::issue(&mut self.session, handle);
-        writeln!(out, "{}", IssueText(answer))
+        let told = in_place::issue(&mut self.session, handle);
+        writeln!(out, "{}", IssueText(told))
     }
 }
 

@@ -51,11 +51,16 @@ fn update_clock(
     scan: Scan,
     tape: &mut [u32],
 ) -> Result<Updated, Refusal>
-    ensures { decided (clock_moved_by session.old delta seconds scan.worldly scan.heard (length tape.old)) session.old (length tape.old) result session.new tape.new }
+    ensures { decided (clock_moved_by session.old delta seconds scan.worldly scan.heard (length tape.old)) session.old (length tape.old)
+        result session.new tape.new }
 {
     refusals::while_syncing(scan.worldly, scan.heard.other)?;
     let t = session.clock.tick(session.settings, delta);
-    session_stage::synced(session, t.clock.settle(session.settings, scan.heard), seconds);
+    session_stage::synced(
+        session,
+        t.clock.settle(session.settings, scan.heard),
+        seconds,
+    );
     Ok(session_answers::unplayed(t.request, tape))
 }
 

@@ -64,16 +64,23 @@ impl UpdateAnswer {
     pub fn of(session: Session, told: Result<Updated, Refusal>) -> UpdateAnswer
         ensures { result ≡ answer_with session told }
     {
-        let a = told.unwrap_or(Updated::unplayed(false));
+        let Updated {
+            frames,
+            steps,
+            request,
+            left,
+            right,
+            words,
+        } = told.unwrap_or(Updated::unplayed(false));
         UpdateAnswer {
             refusal: told.map(|_| ()),
             session,
-            frames: a.frames,
-            steps: a.steps,
-            request: a.request,
-            left: a.left,
-            right: a.right,
-            words: a.words,
+            frames,
+            steps,
+            request,
+            left,
+            right,
+            words,
         }
     }
 }

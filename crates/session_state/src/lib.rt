@@ -34,7 +34,8 @@ impl Stage {
     }
 }
 
-// All state of a client.
+// All state of a client. The worlds and the overshoot are there in each stage: a call has its answer for any session, the unsound one of a refused open
+// among them.
 #[derive(Clone, Copy)]
 pub struct Session {
     pub settings: Settings,

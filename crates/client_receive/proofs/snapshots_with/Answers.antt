@@ -14,4 +14,5 @@ fresh_queued s old t h hf hg = rw (hf, hg)
 pub returns-then-is_fresh : goal.returns-then-is_fresh
 unfolding from_future_of
 returns-then-is_fresh c =
-    fresh_queued c.args.s c.args.old c.args.snapshot.stamp c.args.snapshot.handle (sym c.is_later.ensures ∙ c.if-is_later.false) (sym c.is_fresh.ensures ∙ c.if-is_fresh.true)
+    let a = c.args in
+    fresh_queued a.s a.old a.snapshot.stamp a.snapshot.handle (sym c.is_later.ensures ∙ c.if-is_later.false) (sym c.is_fresh.ensures ∙ c.if-is_fresh.true)

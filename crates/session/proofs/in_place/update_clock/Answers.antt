@@ -14,5 +14,6 @@ returns-in_err-while_syncing c =
 pub returns : goal.returns
 returns c =
     let a = c.args in
-    clock_moved a.session.now a.delta a.seconds a.scan.worldly a.scan.heard _ c.while_syncing.ensures c.in_ok-while_syncing.was c.tick-t.ensures c.settle.ensures
+    clock_moved a.session.now a.delta a.seconds a.scan.worldly a.scan.heard _ c.while_syncing.ensures c.in_ok-while_syncing.was
+    c.tick-t.ensures c.settle.ensures
     c.synced.ensures (c.unplayed.ensures.updates _)
