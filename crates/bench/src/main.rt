@@ -10,7 +10,7 @@ use refusals::{Refusal, Verdict};
 use session::{calls, in_place};
 use session_answers::Updated;
 use session_issue::Issued;
-use session_report::ReportAnswer;
+use session_report::{ReportAnswer, Reported};
 use settings::{Settings, TweeningMethod};
 use std::io;
 use std::io::Read;
@@ -59,7 +59,8 @@ impl Sums {
         self.add(u64::from(answer.stamp.0));
     }
 
-    fn add_report(&mut self, answer: &ReportAnswer) {
+    fn add_report(&mut self, told: Result<Reported, Refusal>) {
+        let answer = ReportAnswer::of(told);
         self.add_refusal(answer.refusal);
         self.add(status_number(answer.status));
         self.add(u64::from(answer.old.0));
@@ -222,7 +223,7 @@ fn play(script: &[u32], tape: &mut [u32], sums: &mut Sums) {
                 sums.add_update(told, tape);
             }
             Call::Issue { handle } => sums.add_issue(in_place::issue(&mut session, handle)),
-            Call::Report => sums.add_report(&in_place::report(&session)),
+            Call::Report => sums.add_report(in_place::report(&session)),
         }
     }
 }

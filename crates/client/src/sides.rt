@@ -58,7 +58,7 @@ impl ClientWorldSimulations {
 
 impl Scene {
     // The world of a side steps. A world does not know its side, and the tape is not the scene's, so all three are named. Here and below each arm calls its
-    // world's method: the prover covers no reference that is one of two.
+    // world's method: the prover covers no `&mut` that is one of two.
     pub fn step_side(&mut self, side: Side, tape: &mut Tape<'_>)
         requires { tape.old.at + step_room ≤ count_end }
         ensures plays { Plays (done_at self.old (side_number side) (step_of (world_of self.old.worlds (side_number side)) (side_number side)))

@@ -30,7 +30,8 @@ pub struct Rules {
 // There are so many stamps up to the one half the space away.
 const HALF_CYCLE: u16 = 1 << 15;
 
-// What a frame begins with: where the reconciliation stands, the snapshot that the frame loads, and the stamps of both worlds.
+// What a frame begins with: where the reconciliation stands, the snapshot that the frame loads, and the stamps of both worlds. Its methods are handed the
+// scene and the tape, two states that they change.
 #[derive(Clone, Copy)]
 pub struct FrameStart {
     pub status: ReconciliationStatus,

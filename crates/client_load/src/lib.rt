@@ -22,7 +22,7 @@ pub fn load_snapshot(scene: &mut Scene, side: Side, snapshot: QueuedSnapshot, ta
     scene.worlds.weight = 0.0;
     scene.worlds.new = side;
     let base = &scene.worlds.base;
-    // each arm calls its world's method: the prover covers no reference that is one of two
+    // each arm calls its world's method: the prover covers no `&mut` that is one of two
     match side {
         Side::Left => {
             let world = &mut scene.worlds.left;

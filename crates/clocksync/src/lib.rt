@@ -16,7 +16,7 @@ use settings::Settings;
 pub struct Clock {
     // server_seconds_offset: from the client's to the server's clock in seconds, or none yet
     pub offset: Option<f64>,
-    // server_seconds_offset_samples, oldest first
+    // server_seconds_offset_samples, oldest first: an array and a count, since a session has a fixed size, is Copy, and has its answers with any count
     pub samples: [f64; refusals::SAMPLE_ROOM],
     // how many samples there are
     pub len: usize,

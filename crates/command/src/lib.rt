@@ -71,7 +71,7 @@ impl Span {
     }
 }
 
-// What became of an entry handed to `insert`.
+// What became of an entry handed to `insert`. No Result: none of the three is a failure of the call, and what it means is for the caller to say.
 #[derive(Clone, Copy)]
 pub enum Outcome {
     Taken,

@@ -67,6 +67,7 @@ pub fn frame_rules(settings: Settings) -> Rules
     }
 }
 
+// Methods that play are handed the scene and the tape: two states that they change, and that the keeper does not have.
 impl TimeKeeper {
     // The frame count that the worlds stand for: the client's stamp less the overshoot in frames.
     #[tactic(auto, unfolding(crate::specs::TimeKeeper::logical_of))]

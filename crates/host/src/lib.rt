@@ -13,7 +13,7 @@ ghost use Rattle.host.specs.Spans.{host_span_of};
 
 use film_rate::Rate;
 use refusals::{LONGEST_TIME, LONGEST_TIMESTEP, Refusal, SAMPLE_ROOM, SHORTEST_TIMESTEP, require};
-use std::cmp::Ordering;
+use settings::Sampling;
 use timestamp::Timestamp;
 
 // The frames of a span as C lays them out, with the number of the refusal. The spare word is 0 and fills the record, so that no byte of it is left
@@ -37,11 +37,7 @@ const SECONDS_OUT_OF_RANGE: i32 = 65538;
 pub fn kadwunge_stamp_order(first: i16, second: i16) -> i32
     ensures { result ≡ order_number (order_of (bits_of first) (bits_of second)) }
 {
-    match Timestamp::from(first).cmp(Timestamp::from(second)) {
-        Ordering::Less => -1,
-        Ordering::Equal => 0,
-        Ordering::Greater => 1,
-    }
+    Timestamp::from(first).cmp(Timestamp::from(second)) as i32
 }
 
 // The stamp of the frame at a time, cut toward zero, as a signed number; 65,537 for a timestep out of range, else 65,538 for seconds out of range.
@@ -85,7 +81,8 @@ pub fn kadwunge_frames_of_span(span: u64, p: u32, q: u32) -> HostSpanFrames
 pub fn kadwunge_mean_of_samples(needed: u32, rate: f64, samples: &[u8], answer: &mut [u8]) -> u32
     ensures { AnswersMean needed rate samples.now (length answer.old) result answer.new }
 {
-    match mean_of_bytes(needed, rate, samples, answer.len()) {
+    let sampling = Sampling { needed, rate };
+    match mean_of_bytes(sampling, samples, answer.len()) {
         Ok(mean) => {
             put(answer, std::num::f64_to_bits_with_nan(mean));
             0
@@ -99,14 +96,14 @@ pub fn kadwunge_mean_of_samples(needed: u32, rate: f64, samples: &[u8], answer: 
 
 // The mean of samples as bytes, where the answer has room for `room` bytes.
 #[tactic(auto, using(crate::proofs::Chunks::reading), unfolding(crate::specs::Mean::mean_of_stored, crate::specs::Mean::mean_answer_of))]
-fn mean_of_bytes(needed: u32, rate: f64, samples: &[u8], room: usize) -> Result<f64, Refusal>
-    ensures { result ≡ mean_answer_of needed rate samples.now room }
+fn mean_of_bytes(sampling: Sampling, samples: &[u8], room: usize) -> Result<f64, Refusal>
+    ensures { result ≡ mean_answer_of sampling.needed sampling.rate samples.now room }
 {
-    require(settings::samples_pass(needed, rate), Refusal::Settings)?;
-    let n = settings::store_count(needed, rate);
+    require(sampling.passes(), Refusal::Settings)?;
+    let n = sampling.to_store();
     require(samples.len() == 8 * n && room == 8, Refusal::Samples)?;
     let (words, _) = samples.as_chunks::<8>();
-    mean_of_words(words, settings::discard_count(needed, rate))
+    mean_of_words(words, sampling.to_discard())
 }
 
 // The mean of samples of 8 bytes each, where each is finite and within 2^33.

@@ -7,7 +7,7 @@ ghost use Rattle.inbox_refusal.specs.Refusal.{lowest_of};
 use refusals::Verdict;
 
 // The verdict of the lower number, where one that accepts has none.
-// The order is that of the numbers, as document 01 says ("Lowest number first"), and not that of the cases.
+// By the numbers, of which document 01 speaks ("Lowest number first"): a derived order would be by the places of the cases.
 pub fn lowest(a: Verdict, b: Verdict) -> Verdict
     ensures { result ≡ lowest_of a b }
 {

@@ -10,41 +10,41 @@ ghost use Rattle.refusals.specs.Refusals.{arrival_verdict_by, end_verdict_by, is
 #[derive(Clone, Copy, PartialEq, Eq)]
 pub enum Refusal {
     // Settings that are out of their ranges.
-    Settings,
+    Settings = 1,
     // Delta or seconds that are out of their ranges.
-    Times,
+    Times = 2,
     // An inbox of over 4,096 words.
-    Length,
+    Length = 3,
     // A word of wrong kind, place or spare bits.
-    Word,
+    Word = 4,
     // An inbox that ends inside a message.
-    Cut,
+    Cut = 5,
     // A clock time that is not finite or beyond 2^32.
-    ClockTime,
+    ClockTime = 6,
     // The handle of an issue over 24 bits.
-    Handle,
+    Handle = 7,
     // Sample bytes, a sample or the answer buffer of the hosts' mean call.
-    Samples,
+    Samples = 8,
     // An unsound session.
-    Unsound,
+    Unsound = 20,
     // A command or a snapshot, or a report, while the clock syncs.
-    Syncing,
+    Syncing = 21,
     // Another client id.
-    OtherClient,
+    OtherClient = 22,
     // A command for a buffer that takes it but holds 64.
-    Full,
+    Full = 23,
     // An issue before the session is Ready.
-    NotReady,
+    NotReady = 24,
     // A 66th frame in one update.
-    Frames,
+    Frames = 25,
     // Worlds in a state in which the Rust stops.
-    Status,
+    Status = 26,
     // A tween weight outside 0 to 1.
-    Weight,
+    Weight = 27,
     // Words that exceed the tape.
-    Tape,
+    Tape = 28,
     // A span or a part of a frame rate that is out of its range.
-    Span,
+    Span = 31,
 }
 
 // What a call is judged to be: accepted, or turned down.
@@ -55,26 +55,7 @@ impl From<Refusal> for u32 {
     ghost from_gives = { λ refusal n. n ≡ number_of refusal };
 
     fn from(refusal: Refusal) -> u32 {
-        match refusal {
-            Refusal::Settings => 1,
-            Refusal::Times => 2,
-            Refusal::Length => 3,
-            Refusal::Word => 4,
-            Refusal::Cut => 5,
-            Refusal::ClockTime => 6,
-            Refusal::Handle => 7,
-            Refusal::Samples => 8,
-            Refusal::Unsound => 20,
-            Refusal::Syncing => 21,
-            Refusal::OtherClient => 22,
-            Refusal::Full => 23,
-            Refusal::NotReady => 24,
-            Refusal::Frames => 25,
-            Refusal::Status => 26,
-            Refusal::Weight => 27,
-            Refusal::Tape => 28,
-            Refusal::Span => 31,
-        }
+        refusal as u32
     }
 }
 
@@ -131,7 +112,8 @@ pub const LONGEST_TIME: f64 = 4294967296.0;
 // Clock samples are within 2^33 seconds on both sides of 0.
 pub const LARGEST_SAMPLE: f64 = 8589934592.0;
 
-// Why the frames of an update ended: all were played, a 66th was due, or the Rust stops in one. It is no `Verdict`, which could name any refusal.
+// Why the frames of an update ended: all were played, a 66th was due, or the Rust stops in one. It is no `Verdict`, which could name any refusal, and a
+// Result of an enum of the two would need the arms of `at_end` too.
 #[derive(Clone, Copy)]
 pub enum Stop {
     Done,

@@ -11,7 +11,7 @@ use clocksync::Clock;
 use refusals::Refusal;
 use session_answers::Updated;
 use session_issue::Issued;
-use session_report::ReportAnswer;
+use session_report::{ReportAnswer, Reported};
 use session_state::{Session, Stage};
 use std::fmt;
 use std::fmt::{Display, Formatter};
@@ -111,11 +111,11 @@ impl Display for IssueText {
 
 // The answer of `report`.
 #[derive(Drop)]
-pub struct ReportText(pub ReportAnswer);
+pub struct ReportText(pub Result<Reported, Refusal>);
 
 impl Display for ReportText {
     fn fmt<W: fmt::Write>(&self, f: &mut Formatter<W>) -> fmt::Result {
-        let answer = self.0;
+        let answer = ReportAnswer::of(self.0);
         let refusal = RefusalText(answer.refusal);
         let stage = stage_name(answer.stage);
         let status = status_name(answer.status);

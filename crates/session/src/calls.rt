@@ -59,5 +59,5 @@ pub fn issue(session: Session, handle: u32) -> IssueAnswer
 pub fn report(session: Session) -> ReportAnswer
     ensures { result ≡ report_of session }
 {
-    in_place::report(&session)
+    ReportAnswer::of(in_place::report(&session))
 }

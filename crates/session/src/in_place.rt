@@ -1,5 +1,5 @@
 // The calls in place: update here, and issue and report, which have crates of their own. Each hands what its tests found to `refusals`, which knows
-// their order. A refused call leaves the session as it is.
+// their order. A refused call leaves the session as it is. The inner functions of update take its arguments, each as far as it needs them.
 ghost use Rattle.std.specs.Prelude.{◌≡◌, ◌≤◌, length, unwrap_or};
 ghost use Rattle.refusals.specs.Limits.{most_steps};
 ghost use Rattle.clocksync.specs.Clock.{listen_of, server_seconds_of};

@@ -19,7 +19,8 @@ pub struct OpenAnswer {
     pub session: Session,
 }
 
-// The answer of `update`: frames are F, steps are C, words are those played, and a request goes out or not.
+// The answer of `update`: frames are F, steps are C, words are those played, and a request goes out or not. Where it is refused document 01 has every
+// other field 0 or no.
 #[derive(Clone, Copy)]
 pub struct UpdateAnswer {
     pub refusal: Verdict,

@@ -9,7 +9,7 @@ use refusals::{Refusal, Verdict};
 use session_state::Session;
 use timestamp::Timestamp;
 
-// The answer of `issue`: the stamp of the command.
+// The answer of `issue`: the stamp of the command. Where it is refused document 01 has every other field 0.
 #[derive(Clone, Copy)]
 pub struct IssueAnswer {
     pub refusal: Verdict,

@@ -15,9 +15,9 @@ module _ (s : Session) {p w : Bool} {v : Verdict} (hp : p ≡ sound_of s) (hw : 
   report_verdict : v ≡ report_verdict_of s
   report_verdict = hv ∙ (λ i. report_verdict_by (hp i) (hw i))
 
-  pub report_refused : {r : ReportAnswer} {e : Refusal} → v ≡ Err e → r ≡ unreported e → r ≡ report_of s
+  pub report_refused : {e : Refusal} → v ≡ Err e → unreported e ≡ report_of s
   unfolding report_of
-  report_refused k h = h ∙ ap (λ (u : Verdict). report_by u s) (sym k ∙ report_verdict)
+  report_refused k = ap (λ (u : Verdict). report_by u s) (sym k ∙ report_verdict)
 
   pub report_accepted : {r : ReportAnswer} {x : Unit {0}} → v ≡ Ok x → r ≡ reported_of s → r ≡ report_of s
   unfolding report_of

@@ -8,6 +8,7 @@ use Rattle.timestamp.specs.Whole.{ceil_of, round_of}
 use Rattle.timestamp.specs.FloatTimestamps.{stamp_of}
 use Rattle.refusals.specs.Limits.{most_steps, most_lag_frames, most_needed}
 use Rattle.settings.specs.declared.Settings.{Settings}
+use Rattle.settings.specs.declared.Sampling.{Sampling}
 use Rattle.settings.specs.Tweening.{known_of}
 
 -- 60
@@ -44,6 +45,10 @@ lag_frame_count_of s = lag_frames_of s.lag s.timestep
 -- the blend weight's progress a frame
 abbrev pub blend_progress_of : Settings → Float
 blend_progress_of s = progress_of s.timestep s.blend
+
+-- what a mean of clock samples goes by
+abbrev pub sampling_of : Settings → Sampling
+sampling_of s = record { needed = s.needed; rate = s.rate }
 
 -- the samples that the settings have the mean leave out at each end
 abbrev pub samples_to_discard_of : Settings → ℕ

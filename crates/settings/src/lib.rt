@@ -6,7 +6,7 @@ ghost use Rattle.std.specs.Prelude.{◌≡◌};
 ghost use Rattle.timestamp.specs.Timestamps.{bits_of};
 ghost use Rattle.settings.specs.Settings.{lag_frames_of, at_least_one, discard_of, store_of};
 ghost use Rattle.settings.specs.Settings.{seconds_pass, thresholds_pass, samples_pass, counts_pass, passes_of};
-ghost use Rattle.settings.specs.Settings.{lag_frame_count_of, blend_progress_of, samples_to_discard_of, samples_to_store_of};
+ghost use Rattle.settings.specs.Settings.{sampling_of, lag_frame_count_of, blend_progress_of, samples_to_discard_of, samples_to_store_of};
 ghost use Rattle.settings.specs.Tweening.{method_of, known_of, shaped_of};
 
 use refusals::{LONGEST_LATENCY, LONGEST_TIMESTEP, SHORTEST_TIMESTEP};
@@ -21,8 +21,8 @@ pub enum TweeningMethod {
     Nearest,
     // a mix of both
     Interpolated,
-    // A number that names no method; settings with it do not pass. A case, and no Option or TryFrom: a call gives the method as a number, and settings
-    // that do not pass have their answers too.
+    // A number that names no method; settings with it do not pass. They have their answers too, a weight as it is among them, so that a None would have to
+    // be given a meaning wherever a method is asked.
     Unknown,
 }
 
@@ -88,6 +88,41 @@ pub struct Settings {
     pub method: TweeningMethod,
 }
 
+// What a mean of clock samples goes by: how many samples it needs, and the rate of outliers that is expected among them.
+#[derive(Clone, Copy)]
+pub struct Sampling {
+    pub needed: u32,
+    pub rate: f64,
+}
+
+impl Sampling {
+    // Whether both are in their ranges.
+    #[tactic(auto, unfolding(crate::specs::Settings::samples_pass))]
+    pub fn passes(self) -> bool
+        ensures { result ≡ samples_pass self.needed self.rate }
+    {
+        (1..=refusals::MOST_NEEDED).contains(&self.needed) && within(0.0, 1.0, self.rate)
+    }
+
+    // How many samples are left out at each end of those sorted: half of the outliers that are to be expected, rounded up, and at least 1.
+    // The Rust saturates at the largest usize; here 65,535 is the most, which settings that pass stay far below.
+    pub fn to_discard(self) -> usize
+        ensures { result ≡ discard_of self.needed self.rate }
+    {
+        let half = f64::from(self.needed) * self.rate / 2.0;
+        usize::from(std::num::saturating_f64_to_u16(timestamp::ceil(at_least_one(half))))
+    }
+
+    // How many samples are stored: those needed and those left out at both ends. The cast is no `usize::from`, since std has none of a u32.
+    #[tactic(auto, using(crate::proofs::Discard::discard_lt))]
+    pub fn to_store(self) -> usize
+        ensures { result ≡ store_of self.needed self.rate }
+    {
+        let n = self.to_discard();
+        self.needed as usize + n * 2
+    }
+}
+
 impl Settings {
     // The lag in frames, rounded, a half away from zero, as the 16 bits that are taken off a stamp.
     pub fn lag_compensation_frame_count(self) -> u16
@@ -103,18 +138,28 @@ impl Settings {
         self.timestep / self.blend
     }
 
+    // What a mean goes by.
+    pub fn sampling(self) -> Sampling
+        ensures { result ≡ sampling_of self }
+    {
+        Sampling {
+            needed: self.needed,
+            rate: self.rate,
+        }
+    }
+
     // How many samples the mean leaves out at each end.
     pub fn samples_to_discard(self) -> usize
         ensures { result ≡ samples_to_discard_of self }
     {
-        discard_count(self.needed, self.rate)
+        self.sampling().to_discard()
     }
 
     // How many samples are stored before a mean is taken.
     pub fn samples_to_store(self) -> usize
         ensures { result ≡ samples_to_store_of self }
     {
-        store_count(self.needed, self.rate)
+        self.sampling().to_store()
     }
 
     // Whether every setting is within its limits. Where it is not, the call is refused with 1.
@@ -134,29 +179,11 @@ pub(crate) fn lag_frames(lag: f64, timestep: f64) -> i16
     std::num::saturating_f64_to_i16(timestamp::round(lag / timestep))
 }
 
-// How many samples are left out at each end of those sorted: half of the outliers that are to be expected, rounded up, and at least 1.
-// The Rust saturates at the largest usize; here 65,535 is the most, which settings that pass stay far below.
-// The two are fields of the settings, which C hands over one by one (see `host`), so they are no struct of their own.
-pub fn discard_count(needed: u32, rate: f64) -> usize
-    ensures { result ≡ discard_of needed rate }
-{
-    let half = f64::from(needed) * rate / 2.0;
-    usize::from(std::num::saturating_f64_to_u16(timestamp::ceil(at_least_one(half))))
-}
-
-// The larger of x and 1; 1 for a NaN. Not std's `max`: of two that compare equal it may give either, and that both are 1 here would need a proof.
+// The larger of x and 1; 1 for a NaN. Not std's `max`, which may give either of two that compare equal: tried, and `search` found no proof.
 fn at_least_one(x: f64) -> f64
     ensures { result ≡ at_least_one x }
 {
     if x > 1.0 { x } else { 1.0 }
-}
-
-// How many samples are stored: those needed and those left out at both ends. The cast is no `usize::from`, since std has none of a u32.
-pub fn store_count(needed: u32, rate: f64) -> usize
-    ensures { result ≡ store_of needed rate }
-{
-    let n = discard_count(needed, rate);
-    needed as usize + n * 2
 }
 
 // The update maximum is at most so many timesteps.
@@ -182,18 +209,10 @@ fn thresholds_pass(s: Settings) -> bool
         && within(0.0, refusals::HOUR, s.skip)
 }
 
-// The samples needed and the rate of outliers.
-#[tactic(auto, unfolding(crate::specs::Settings::samples_pass))]
-pub fn samples_pass(needed: u32, rate: f64) -> bool
-    ensures { result ≡ samples_pass needed rate }
-{
-    (1..=refusals::MOST_NEEDED).contains(&needed) && within(0.0, 1.0, rate)
-}
-
 // The samples, and how many steps a frame may catch up.
 #[tactic(auto, unfolding(crate::specs::Settings::counts_pass))]
 fn counts_pass(s: Settings) -> bool
     ensures { result ≡ counts_pass s }
 {
-    samples_pass(s.needed, s.rate) && (1..=refusals::MOST_STEPS).contains(&s.m)
+    s.sampling().passes() && (1..=refusals::MOST_STEPS).contains(&s.m)
 }

@@ -198,6 +198,7 @@ fn remainder(x: f64) -> f64
     x - f64::from_bits(multiple)
 }
 
+// Here and below: document 01 wants the whole numbers next to a float worked out from its bits, with no call of C's library.
 // x without its fraction, the sign kept: the bits below the point are shifted out, and zeros in. From 1 up to 2^53 in size x is
 // 1.d × 2^(exponent - 1023), where d are the 52 lowest bits, so all of these but exponent - 1023 lie below the point.
 pub fn trunc(x: f64) -> f64
