@@ -7,12 +7,11 @@ ghost use Rattle.inbox_refusal.specs.Refusal.{lowest_of};
 use refusals::Verdict;
 
 // The verdict of the lower number, where one that accepts has none.
-// By the numbers, of which document 01 speaks ("Lowest number first"): a derived order would be by the places of the cases.
 pub fn lowest(a: Verdict, b: Verdict) -> Verdict
     ensures { result ≡ lowest_of a b }
 {
     match (a, b) {
-        (Err(first), Err(second)) if u32::from(second) < u32::from(first) => b,
+        (Err(first), Err(second)) if second < first => b,
         (Err(_), _) => a,
         (Ok(()), _) => b,
     }

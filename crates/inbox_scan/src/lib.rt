@@ -39,8 +39,8 @@ impl Scan {
     }
 }
 
-// What the messages of an inbox of any length tell a client of the stamp `old` at its time `seconds`, which heard this and has these snapshots: parts of
-// four things that a session has, so each is named.
+// What the messages of an inbox of any length tell a client of the stamp `old` at its time `seconds`, which heard this and has these snapshots: each is of
+// another part of the session or of the call, and is named.
 pub fn scan_messages(
     words: &[u32],
     seconds: f64,

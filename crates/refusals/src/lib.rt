@@ -6,8 +6,8 @@ ghost use Rattle.std.specs.Prelude.{◌≡◌};
 ghost use Rattle.refusals.specs.Refusals.{number_of, number_in, required, open_verdict_by, once_verdict_by, syncing_verdict_by};
 ghost use Rattle.refusals.specs.Refusals.{arrival_verdict_by, end_verdict_by, issue_verdict_by, report_verdict_by};
 
-// Why a call is turned down.
-#[derive(Clone, Copy, PartialEq, Eq)]
+// Why a call is turned down. The cases stand in the order of their numbers, which is the order derived.
+#[derive(Clone, Copy, PartialEq, Eq, PartialOrd, Ord)]
 pub enum Refusal {
     // Settings that are out of their ranges.
     Settings = 1,
