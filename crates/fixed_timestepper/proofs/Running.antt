@@ -30,20 +30,6 @@ pub record Running (c : Settings) (from : Scene) (start : Float) (was tape : Tap
   pub puts : (q : ℕ) (last : List ℕ) → Puts tape.words.now tape.at (run_of (65 - n) c s o).played.words q last
       → Puts was.words.now 0 (run_of 65 c from start).played.words q last
 
--- before the first frame
-pub running_start : (c : Settings) (from : Scene) (start : Float) (was : Tape) → was.at ≡ 0 → Running c from start was was from start 0
-running_start c from start was z =
-    record {
-      bound = omega arith;
-      at = omega (arith, z);
-      lent = refl;
-      scene = refl;
-      overshoot = refl;
-      stop = refl;
-      frames = omega arith;
-      puts = λ q last k. rw z at k;
-    }
-
 -- the run is over: q is what is left, and it puts nothing more
 over_with : (c : Settings) (from : Scene) (start : Float) {was tape : Tape} {s : Scene} {o : Float} {n : ℕ} (x : Stop)
     → Running c from start was tape s o n → run_of (65 - n) c s o ≡ ended x s o

@@ -4,16 +4,11 @@ use Rattle.std.specs.Prelude.{Ok, Err}
 use Rattle.refusals.specs.declared.Refusal.{Refusal}
 use Rattle.refusals.specs.declared.Stop.{Stop}
 use Rattle.refusals.specs.declared.Stop.TheVariants.{Done, TooManyFrames, StatusStops}
-use Rattle.refusals.specs.Refusals.{Verdict, accepted, required, open_verdict_by, once_verdict_by, end_verdict_by, issue_verdict_by}
+use Rattle.refusals.specs.Refusals.{Verdict, accepted, open_verdict_by, once_verdict_by, end_verdict_by, issue_verdict_by}
 
 -- a call that is turned down is not accepted
 pub turned_down : {A : Type 0} (e : Refusal) → Err e ≡ accepted → A
 turned_down e h = absurd (search rules)
-
--- a fact that was required holds where the verdict accepts
-pub required_holds : (fact : Bool) (e : Refusal) {x : Unit {0}} → required fact e ≡ Ok x → fact ≡ true
-required_holds true e h = refl
-required_holds false e h = absurd (search rules)
 
 -- the settings of an accepted open pass
 pub open_accepted : (p : Bool) → open_verdict_by p ≡ accepted → p ≡ true
