@@ -1,6 +1,6 @@
 -- A level frame: both worlds make one step that moves their stamps only. Assumes nothing.
 use Rattle.std.specs.Ordering.{is_ge}
-use Rattle.std.proofs.Common.{◌≡◌, ℕ, zero, suc, ◌+◌, ◌%◌, ◌^◌, Bool, true, false, not, eqb, List, [], ◌∷◌, ◌++◌, length, sym, refl, ap, ◌∙◌, arith}
+use Rattle.std.proofs.Common.{◌≡◌, ℕ, zero, suc, ◌+◌, ◌%◌, ◌^◌, Bool, true, false, not, eqb, [], ◌∷◌, sym, refl, ap, ◌∙◌, arith}
 use Rattle.std.proofs.Common.{eqb-true, Option, Some, None}
 use lib.Ieee.{Float, binary64, add}
 use borrow.Author.Tests.{eqb-false, not-true}
@@ -13,13 +13,10 @@ use Rattle.tape.specs.declared.Tape.{Tape}
 use Rattle.tape.specs.Sides.{is_left}
 use Rattle.tape.specs.Tape.{PutsOn}
 use Rattle.tape.specs.Words.{step_word}
-use Rattle.command.specs.Entries.{Entry}
-use Rattle.command.specs.declared.CommandBuffer.{CommandBuffer}
-use Rattle.command.specs.Buffer.{around, moved_of, taken_of, rest_of, command_words}
-use Rattle.command.specs.Ranks.{waits_of}
-use Rattle.command.proofs.Ledger.{moved_lossless, drained_lossless}
+use Rattle.command.specs.Buffer.{around}
 use Rattle.simulation.specs.declared.Simulation.{Simulation}
-use Rattle.simulation.specs.World.{world_with, next_stamp, Done, step_of}
+use Rattle.simulation.specs.World.{world_with, next_stamp}
+use Rattle.simulation.proofs.Waiting.{moved_on, step_waits}
 use Rattle.client.specs.declared.ReconciliationStatus.{ReconciliationStatus}
 use Rattle.client.specs.declared.ReconciliationStatus.TheVariants.{AwaitingSnapshot, Fastforwarding, Blending}
 use Rattle.client.specs.declared.QueuedSnapshot.{QueuedSnapshot}
@@ -89,37 +86,6 @@ level_parts w m h =
       left = c.0;
       right = c.1;
     }
-
--- ---- a world whose buffer waits
-
--- a list of no length is empty
-nothing : (xs : List Entry) → length xs ≡ 0 → xs ≡ []
-nothing [] h = refl
-nothing (x ∷ xs) h = absurd (omega arith)
-
--- a world whose stamp has moved on
-abbrev moved_on : Simulation → Simulation
-moved_on w = world_with (around (next_stamp w.commands.timestamp) w.commands) w.init
-
--- what a step does where the buffer waits
-abbrev waited_of : Simulation → ℕ → Done
-waited_of w side = record { world = moved_on w; words = step_word side ∷ []; applied = 0; leftout = 0 }
-
--- a step of such a world moves its stamp, and nothing else
-step_waits : (w : Simulation) (side : ℕ) → waits_of w.commands (next_stamp w.commands.timestamp) ≡ true → step_of w side ≡ waited_of w side
-unfolding step_of waits_of command_words
-step_waits w side h =
-    let b : CommandBuffer = w.commands in
-    let n : Timestamp = next_stamp b.timestamp in
-    let two : (eqb (length (taken_of b n)) 0 ≡ true) × (eqb (moved_of b n).dropped 0 ≡ true) = apart _ _ h in
-    let taken : length (taken_of b n) ≡ 0 = eqb-true _ _ two.0 in
-    let dropped : (moved_of b n).dropped ≡ 0 = eqb-true _ _ two.1 in
-    let rest : rest_of b n ≡ b = drained_lossless b n taken in
-    let moved : (moved_of (rest_of b n) n).buffer ≡ around n b = ap (λ (x : CommandBuffer). (moved_of x n).buffer) rest ∙ moved_lossless b n dropped in
-    let out : (moved_of (rest_of b n) n).dropped ≡ 0 = ap (λ (x : CommandBuffer). (moved_of x n).dropped) rest ∙ dropped in
-    let words : command_words side (taken_of b n) ++ (step_word side ∷ []) ≡ step_word side ∷ [] =
-    ap (λ (x : List Entry). command_words side x ++ (step_word side ∷ [])) (nothing (taken_of b n) taken) in
-    (λ i. record { world = world_with (moved i) w.init; words = words i; applied = taken i; leftout = out i })
 
 -- ---- both worlds step
 

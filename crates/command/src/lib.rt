@@ -173,7 +173,6 @@ impl CommandBuffer {
     }
 
     // Whether a step to a stamp leaves the buffer as it is: nothing is due, and nothing leaves the range. One that holds nothing is not read.
-    // No call asks it today. The definitions of client_level go by its `waits_of`, and it stays as a public promise.
     pub fn waits(&self, t: Timestamp) -> bool
         ensures { result ≡ waits_of self.now t }
     {

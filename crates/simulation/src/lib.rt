@@ -62,13 +62,22 @@ impl Simulation {
         self.commands.insert(entry)
     }
 
-    // One frame: the commands up to it are applied, the world steps, and its stamp moves on. A world does not know its side, nor has it the tape.
+    // One frame: the commands up to it are applied, the world steps, and its stamp moves on. Where the buffer waits nothing but the stamp changes: most
+    // steps are such, and then the buffer is read once. A world does not know its side, nor has it the tape.
     pub fn step(&mut self, side: Side, tape: &mut Tape<'_>) -> Stepped
         requires { tape.old.at + step_room ≤ count_end }
         ensures does { Does (step_of self.old (side_number side)) tape.old self.new result tape.new }
         ensures few { tape.new.at ≤ tape.old.at + step_room }
     {
         let next = self.commands.timestamp + 1;
+        if self.commands.waits(next) {
+            self.commands.timestamp = next;
+            tape.put(step_word(side));
+            return Stepped {
+                applied: 0,
+                leftout: 0,
+            };
+        }
         let start = tape.at;
         self.commands.apply_up_to(next, side, tape);
         let applied = tape.at - start;
