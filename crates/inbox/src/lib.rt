@@ -72,7 +72,7 @@ const SERVER_AT: usize = 4;
 
 // The message at a place, and the place after it: the end of the words after one that is wrong or missing.
 #[tactic(auto, using(crate::proofs::Steps::read_ok, crate::proofs::Steps::read_err))]
-pub(crate) fn message_at(words: &[u32], at: usize) -> Step
+pub fn message_at(words: &[u32], at: usize) -> Step
     requires { at < length words.now }
     ensures { result ≡ read_at words.now at }
 {

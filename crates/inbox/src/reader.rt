@@ -7,10 +7,10 @@ ghost use Rattle.inbox.specs.Reader.{reader_at, left_in};
 use super::{Reading, message_at};
 
 // The caller's words and a position in them.
-#[derive(Drop)]
+#[derive(Clone, Copy)]
 pub struct Reader<'a> {
-    words: &'a [u32],
-    at: usize,
+    pub words: &'a [u32],
+    pub at: usize,
 }
 
 impl<'a> Reader<'a> {
