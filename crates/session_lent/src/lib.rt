@@ -200,23 +200,16 @@ impl LentAnswer {
     fn of(state: State, told: Result<Updated, Refusal>) -> LentAnswer
         ensures { result ≡ lent_with state told }
     {
-        let Updated {
-            frames,
-            steps,
-            request,
-            left,
-            right,
-            words,
-        } = told.unwrap_or(Updated::unplayed(false));
+        let u = told.unwrap_or(Updated::unplayed(false));
         LentAnswer {
             refusal: told.map(|_| ()),
             state,
-            frames,
-            steps,
-            request,
-            left,
-            right,
-            words,
+            frames: u.frames,
+            steps: u.steps,
+            request: u.request,
+            left: u.left,
+            right: u.right,
+            words: u.words,
         }
     }
 }
