@@ -1,3 +1,3 @@
-pub mod Numbers
+pub mod Laws
 mod Keeping
 mod Placing

@@ -18,7 +18,7 @@ use Rattle.session.specs.Calls.{update_of}
 use Rattle.session_lent.specs.declared.State.{State}
 use Rattle.session_lent.specs.declared.LentAnswer.{LentAnswer}
 use Rattle.session_lent.specs.Lent.{session_at, state_in}
-use Rattle.session_lent.specs.InPlace.{lent_with, with_session, lengths_fit, update_fitting, UpdatesInPlace}
+use Rattle.session_lent.specs.InPlace.{array_after, lent_with, with_session, lengths_fit, update_fitting, UpdatesInPlace}
 use Rattle.session_lent.proofs.Keeping.{Keeps, update_keeps}
 
 -- an answer with numbers and a session is the one with that session
@@ -32,7 +32,7 @@ state_is t (Ok a) = refl
 state_is t (Err e) = refl
 
 -- what was given back, or kept
-picked : {A : Type 0} {x y z : A} (d : Result Updated Refusal) {q : Bool} → q ≡ is_ok d → z ≡ cond q x y
+picked : {A : Type 0} {x y z : A} (d : Result Updated Refusal) {q : Bool} → q ≡ is_ok d → z ≡ array_after q x y
     → ((e : Refusal) → d ≡ Err e → y ≡ x) → z ≡ x
 picked {A} {x} {y} {z} (Ok a) h k f = k ∙ (λ i. cond (h i) x y)
 picked {A} {x} {y} {z} (Err e) h k f = k ∙ (λ i. cond (h i) x y) ∙ f e refl
@@ -62,10 +62,10 @@ module _ (was : Session) (delta seconds : Float) (words : List ℕ) (len : ℕ) 
       (sym (ap (λ (y : UpdateAnswer). y.refusal) h.answer) ∙ ap (λ (y : Result Updated Refusal). (answer_with now y).refusal) x))
 
   module _ {q : Bool} (hq : q ≡ is_ok d) {ss₁ : List Float} {l₁ r₁ b₁ : List Entry}
-      (k₁ : ss₁ ≡ cond q now.clock.samples was.clock.samples)
-      (k₂ : l₁ ≡ cond q now.worlds.left.commands.entries was.worlds.left.commands.entries)
-      (k₃ : r₁ ≡ cond q now.worlds.right.commands.entries was.worlds.right.commands.entries)
-      (k₄ : b₁ ≡ cond q now.worlds.base.entries was.worlds.base.entries) where
+      (k₁ : ss₁ ≡ array_after q now.clock.samples was.clock.samples)
+      (k₂ : l₁ ≡ array_after q now.worlds.left.commands.entries was.worlds.left.commands.entries)
+      (k₃ : r₁ ≡ array_after q now.worlds.right.commands.entries was.worlds.right.commands.entries)
+      (k₄ : b₁ ≡ array_after q now.worlds.base.entries was.worlds.base.entries) where
     -- it is the session of its numbers and of the arrays that are there
     session_placed : session_at was.settings (state_in now) ss₁ l₁ r₁ b₁ ≡ now
     session_placed =
@@ -93,8 +93,8 @@ pub place_fit : (c : Settings) (s : State) (delta seconds : Float) (words : List
     → {old : Session} (now : Session) (d : Result Updated Refusal) {last : List ℕ} → old ≡ session_at c s ss₀ l₀ r₀ b₀
     → Updates (update_of old delta seconds words (length was)) (answer_with now d) last
     → {q : Bool} → q ≡ is_ok d → {ss₁ : List Float} {l₁ r₁ b₁ : List Entry}
-    → ss₁ ≡ cond q now.clock.samples ss → l₁ ≡ cond q now.worlds.left.commands.entries l
-    → r₁ ≡ cond q now.worlds.right.commands.entries r → b₁ ≡ cond q now.worlds.base.entries b
+    → ss₁ ≡ array_after q now.clock.samples ss → l₁ ≡ array_after q now.worlds.left.commands.entries l
+    → r₁ ≡ array_after q now.worlds.right.commands.entries r → b₁ ≡ array_after q now.worlds.base.entries b
     → {t : State} {a : LentAnswer} → t ≡ state_in now → a ≡ lent_with t d
     → UpdatesInPlace c s delta seconds words ss l r b was a ss₁ l₁ r₁ b₁ last
 place_fit c s delta seconds words ss l r b was hf e h₁ h₂ h₃ h₄ now d {last = last} ho h hq {ss₁} {l₁} {r₁} {b₁} k₁ k₂ k₃ k₄ {a = a} ht ha =

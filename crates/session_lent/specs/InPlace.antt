@@ -1,6 +1,6 @@
 -- The call update over arrays that a host lends, of any length: document 01's update, with a refusal that leaves every sample and slot as it was.
 -- Definitions only. Assumes nothing.
-use Rattle.std.specs.Prelude.{ℕ, Bool, true, false, ◌&&◌, List, ◌≡◌, eqb, length, Float, Result, Ok, Err}
+use Rattle.std.specs.Prelude.{ℕ, Bool, true, false, cond, ◌&&◌, List, ◌≡◌, eqb, length, Float, Result, Ok, Err}
 use Rattle.refusals.specs.Limits.{sample_room, buffer_room}
 use Rattle.refusals.specs.declared.Refusal.{Refusal}
 use Rattle.refusals.specs.declared.Refusal.TheVariants.{Unsound}
@@ -66,6 +66,10 @@ pub record AllFit (ss : List Float) (l r b : List Entry) : Type 0 where
   pub base : length b ≡ buffer_room
 
 -- ---- the call
+
+-- an array after an update: the session's where it was accepted, else as it was
+abbrev pub array_after : {A : Type 0} → (accepted : Bool) → (now was : A) → A
+array_after accepted now was = cond accepted now was
 
 -- what a verdict refuses for, where the session is not sound if nothing else is told
 abbrev pub refusal_by : Verdict → Refusal

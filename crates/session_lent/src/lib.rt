@@ -3,11 +3,11 @@
 // src/client.rs of crystalorb.
 #![tactic(auto)]
 
-ghost use Rattle.std.specs.Prelude.{◌≡◌, cond, length};
+ghost use Rattle.std.specs.Prelude.{◌≡◌, length};
 ghost use Rattle.refusals.specs.Limits.{sample_room, buffer_room};
 ghost use Rattle.session_answers.specs.Answers.{Leaves};
 ghost use Rattle.session_lent.specs.Lent.{world_at, clock_at, worlds_at, session_at, world_in, worlds_in, clock_in, state_in};
-ghost use Rattle.session_lent.specs.InPlace.{AllFit, lengths_fit, lent_with, unfit_of, UpdatesInPlace};
+ghost use Rattle.session_lent.specs.InPlace.{AllFit, lengths_fit, array_after, lent_with, unfit_of, UpdatesInPlace};
 
 use client::{ClientWorldSimulations, Ledger, Published, Snapshots};
 use clocksync::{Clock, Heard};
@@ -254,10 +254,10 @@ fn give_back(
     base: &mut [u64],
 )
     requires { AllFit samples.old left.old right.old base.old }
-    ensures samples { samples.new ≡ cond accepted s.now.clock.samples samples.old }
-    ensures left { left.new ≡ cond accepted s.now.worlds.left.commands.entries left.old }
-    ensures right { right.new ≡ cond accepted s.now.worlds.right.commands.entries right.old }
-    ensures base { base.new ≡ cond accepted s.now.worlds.base.entries base.old }
+    ensures samples { samples.new ≡ array_after accepted s.now.clock.samples samples.old }
+    ensures left { left.new ≡ array_after accepted s.now.worlds.left.commands.entries left.old }
+    ensures right { right.new ≡ array_after accepted s.now.worlds.right.commands.entries right.old }
+    ensures base { base.new ≡ array_after accepted s.now.worlds.base.entries base.old }
 {
     if accepted {
         samples.copy_from_slice(&s.clock.samples);
