@@ -9,3 +9,4 @@ pub mod Ordered
 pub mod Ledger
 pub mod Soundness
 pub mod Waiting
+pub mod Quiet

@@ -1,6 +1,6 @@
 -- Signed differences counted from 0, as the code compares them: document 01's signed difference under "src/timestamp.rs", plus 32,768.
 -- Definitions only. Assumes nothing.
-use Rattle.std.specs.Prelude.{ℕ, ◌+◌, ◌≤◌, ◌≡◌, Bool, not, ◌&&◌, eqb, leb, ltb, length}
+use Rattle.std.specs.Prelude.{ℕ, ◌+◌, ◌≤◌, ◌≡◌, Bool, not, ◌&&◌, cond, eqb, leb, ltb, min, List, [], ◌∷◌, length}
 use Rattle.refusals.specs.Limits.{buffer_room}
 use Rattle.timestamp.specs.declared.Timestamp.{Timestamp}
 use Rattle.timestamp.specs.Timestamps.{difference_of, sum_of}
@@ -35,6 +35,19 @@ sifted_of b m lo hi =
 -- a buffer stays as it is at a step to the stamp t: nothing is due, and nothing leaves the range
 unfoldable pub waits_of : CommandBuffer → Timestamp → Bool
 waits_of b t = eqb (length (taken_of b t)) 0 && eqb (moved_of b t).dropped 0
+
+-- for how many steps, the first of them to the stamp n, an entry is neither due nor out of range: till its frame is the next
+unfoldable pub quiet_before : ℕ → Entry → ℕ
+quiet_before n e = cond (leb (difference_of (stamp_in e) n) 16382) (difference_of (stamp_in e) n) 0
+
+-- the least such number of these entries: with none of them, as many as an entry may wait
+abbrev pub quiet_among : ℕ → List Entry → ℕ
+quiet_among n [] = 16382
+quiet_among n (e ∷ xs) = min (quiet_before n e) (quiet_among n xs)
+
+-- for how many of the next steps a buffer stays as it is
+unfoldable pub quiet_steps_of : CommandBuffer → ℕ
+quiet_steps_of b = quiet_among (sum_of b.timestamp.0 1) (held b)
 
 -- an entry of rank k is in range and not before rank lo, and has no spare bit set
 unfoldable pub sound_rank : ℕ → ℕ → Entry → Bool

@@ -13,7 +13,7 @@ ghost use Rattle.command.specs.Entries.{entry_of, stamp_in, handle_in, plain_ent
 ghost use Rattle.command.specs.Buffer.{held, laid, in_range_of, placed_of, inserted_of, taken_by, full_by};
 ghost use Rattle.command.specs.Buffer.{moved_of, drained_of, drained_all_of, command_words, Applies, AppliesAll};
 ghost use Rattle.command.specs.Soundness.{sound_buffer};
-ghost use Rattle.command.specs.Ranks.{rank_of, rank_within, sifted_of, waits_of, sound_rank, HasRoom};
+ghost use Rattle.command.specs.Ranks.{rank_of, rank_within, sifted_of, waits_of, quiet_before, quiet_steps_of, sound_rank, HasRoom};
 
 use tape::{Side, Tape, command_word};
 use timestamp::Timestamp;
@@ -32,6 +32,9 @@ pub const RANGE_END: u32 = 49151;
 
 // One past the greatest rank of all.
 pub const RANKS: u32 = 65536;
+
+// A stamp is in range for the longest where it is so many frames after m.
+const MOST_QUIET: u16 = 16382;
 
 // An entry is its stamp times this, and its handle.
 const STAMP_PLACE: u64 = 1 << 32;
@@ -173,6 +176,7 @@ impl CommandBuffer {
     }
 
     // Whether a step to a stamp leaves the buffer as it is: nothing is due, and nothing leaves the range. One that holds nothing is not read.
+    // No call asks it today: a step asks `quiet_steps`. The definitions of client_level go by its `waits_of`, and it stays as a public promise.
     pub fn waits(&self, t: Timestamp) -> bool
         ensures { result ≡ waits_of self.now t }
     {
@@ -182,6 +186,19 @@ impl CommandBuffer {
             end: RANGE_END,
         };
         self.len == 0 || self.count_outside(waiting) == 0
+    }
+
+    // For how many of the next steps, each to the stamp after, the buffer stays as it is: until the first entry is due, and 0 where one is due at the next
+    // step or leaves the range at it. Each entry is read once: to end at the first 0 was tried, and takes twice the instructions where 64 entries wait.
+    pub fn quiet_steps(&self) -> u16
+        ensures { result ≡ quiet_steps_of self.now }
+    {
+        let next = self.timestamp + 1;
+        let mut least = MOST_QUIET;
+        for e in self.held() {
+            least = least.min(quiet_before(*e, next));
+        }
+        least
     }
 
     // Takes an entry that is in range, if there is room, after all entries that are not later than it.
@@ -374,6 +391,15 @@ pub fn rank_in(entry: u64, m: Timestamp) -> u32
     ensures { result ≡ rank_of m.0 (stamp_in entry) }
 {
     rank_of(stamp_of(entry), m)
+}
+
+// For how many steps, the first of them to a stamp, an entry is neither due nor out of range.
+#[tactic(auto, unfolding(crate::specs::Ranks::quiet_before))]
+fn quiet_before(entry: u64, next: Timestamp) -> u16
+    ensures { result ≡ quiet_before next.0 entry }
+{
+    let ahead = (stamp_of(entry) - next).0;
+    if ahead <= MOST_QUIET { ahead } else { 0 }
 }
 
 // Puts the command words of the entries in a span, in their order.
