@@ -7,6 +7,7 @@ ghost use Rattle.std.specs.Prelude.{◌≡◌, ◌+◌, ◌<◌, ◌≤◌};
 ghost use Rattle.refusals.specs.Limits.{buffer_room};
 ghost use Rattle.tape.specs.Sides.{side_number};
 ghost use Rattle.tape.specs.Tape.{count_end};
+ghost use Rattle.command.specs.Ranks.{quiet_steps_of};
 ghost use Rattle.simulation.specs.World.{step_room, new_world, scheduled_of, step_of, reset_of, load_of, Does, Loads};
 
 use command::{CommandBuffer, Outcome};
@@ -62,15 +63,30 @@ impl Simulation {
         self.commands.insert(entry)
     }
 
-    // One frame: the commands up to it are applied, the world steps, and its stamp moves on. Where the buffer waits nothing but the stamp changes: most
-    // steps are such, and then the buffer is read once. A world does not know its side, nor has it the tape.
+    // One frame: the commands up to it are applied, the world steps, and its stamp moves on. A world does not know its side, nor has it the tape.
     pub fn step(&mut self, side: Side, tape: &mut Tape<'_>) -> Stepped
         requires { tape.old.at + step_room ≤ count_end }
         ensures does { Does (step_of self.old (side_number side)) tape.old self.new result tape.new }
         ensures few { tape.new.at ≤ tape.old.at + step_room }
     {
+        let mut quiet = 0;
+        self.step_known(side, &mut quiet, tape)
+    }
+
+    // The same, and `quiet` is a number of next steps at which the buffer is known to stay as it is, before and after. Where it is 0 the buffer is read
+    // once. At such a step nothing but the stamp changes: most are such.
+    pub fn step_known(&mut self, side: Side, quiet: &mut u16, tape: &mut Tape<'_>) -> Stepped
+        requires { (tape.old.at + step_room ≤ count_end) × (quiet.old ≤ quiet_steps_of self.old.commands) }
+        ensures does { Does (step_of self.old (side_number side)) tape.old self.new result tape.new }
+        ensures few { tape.new.at ≤ tape.old.at + step_room }
+        ensures known { quiet.new ≤ quiet_steps_of self.new.commands }
+    {
         let next = self.commands.timestamp + 1;
-        if self.commands.waits(next) {
+        if *quiet == 0 {
+            *quiet = self.commands.quiet_steps();
+        }
+        if *quiet > 0 {
+            *quiet -= 1;
             self.commands.timestamp = next;
             tape.put(step_word(side));
             return Stepped {
