@@ -211,19 +211,20 @@ pub(crate) fn has_caught_up(new: Timestamp, old: Timestamp) -> bool
 }
 
 // The new world steps until it has reached the old one's stamp, m times at most: m is the one number of `Rules` that the steps go by, and it goes with the
-// scene and the tape as two states that are changed.
+// scene and the tape as two states that are changed. Its buffer is read once for all of the next steps that leave it as it is.
 pub(crate) fn catch_up(scene: &mut Scene, m: u32, tape: &mut Tape<'_>)
     requires { (tape.old.at + m * step_room ≤ count_end) × (m ≤ most_steps) }
     ensures plays { Plays (caught_of m (old_stamp_of scene.old.worlds) scene.old) tape.old scene.new tape.new }
     ensures few { tape.new.at ≤ tape.old.at + m * step_room }
 {
     let old = scene.worlds.last_completed_timestamp();
+    let mut quiet = 0;
     for _ in 0..m {
         if has_caught_up(scene.worlds.new_timestamp(), old) {
             return;
         }
         let side = scene.worlds.new_side();
-        scene.step_side(side, tape);
+        scene.step_side_known(side, &mut quiet, tape);
         scene.steps = scene.steps.wrapping_add(1);
     }
 }

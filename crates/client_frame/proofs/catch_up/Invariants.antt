@@ -3,4 +3,4 @@ use Rattle.client_frame.proofs.Catching.{Catching}
 use Rattle.client_frame.proofs.catch_up.Given as goal
 
 abbrev pub invariant-loop : goal.invariant-loop
-invariant-loop l = Catching l.m l.old l.initial.scene l.initial.tape l.tape l.scene l.counter
+invariant-loop l = Catching l.m l.old l.initial.scene l.initial.tape l.tape l.scene l.quiet l.counter
