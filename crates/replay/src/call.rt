@@ -51,8 +51,17 @@ pub enum Call {
     },
 }
 
-// Reads the next line.
+// Reads the next line. A wrong field is read to its end before its line is no call: a read that fails there is what ends the run.
 pub(crate) fn read_line<R: Read + Drop>(input: &mut Input<R>) -> Result<Line, Stop> {
+    let line = read_fields(input);
+    if let Err(Stop::BadCall) = &line {
+        input.skip_field()?;
+    }
+    line
+}
+
+// Reads the next line up to the first field that is wrong.
+fn read_fields<R: Read + Drop>(input: &mut Input<R>) -> Result<Line, Stop> {
     let name = input.name()?;
     match name.as_slice() {
         [b'#', ..] => {
@@ -60,9 +69,10 @@ pub(crate) fn read_line<R: Read + Drop>(input: &mut Input<R>) -> Result<Line, St
             Ok(Line::PassedOver)
         }
         [] => match input.end() {
-            End::Space => Err(Stop::BadCall),
-            End::Line => Ok(Line::PassedOver),
-            End::Input => Ok(Line::End),
+            Some(End::Line) => Ok(Line::PassedOver),
+            Some(End::Input) => Ok(Line::End),
+            // a space before any name
+            _ => Err(Stop::BadCall),
         },
         name => {
             let call = read_call(name, input)?;

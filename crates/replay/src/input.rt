@@ -23,8 +23,8 @@ pub enum End {
 pub struct Input<R: Read + Drop> {
     alloc: Global,
     reader: BufReader<R>,
-    // what ended the field that was read last
-    end: End,
+    // what ended the field that was read last; none while a field is read
+    end: Option<End>,
 }
 
 // The bytes of a field up to what ends it. `left` bounds them, so that a loop over them is proved to end.
@@ -39,6 +39,8 @@ impl<R: Read + Drop> Iterator for Field<'_, R> {
 
     ghost remaining = { λ s. at_most s.left };
 
+    // Inlined, so that a loop over a field takes each byte from the buffer without a call.
+    #[inline(always)]
     fn next(&mut self) -> Option<Result<u8, Stop>> {
         self.left = self.left.checked_sub(1)?;
         self.input.next_of_field().transpose()
@@ -72,28 +74,36 @@ impl<R: Read + Drop> Input<R> {
         Input {
             alloc,
             reader,
-            end: End::Line,
+            end: Some(End::Line),
         }
     }
 
-    // The next byte; none at the end of the input.
-    fn next_byte(&mut self) -> Result<Option<u8>, Stop> {
+    // The next byte of a field; none at its end. Nearly every byte lies in the buffer and ends nothing, and is taken here.
+    #[inline(always)]
+    fn next_of_field(&mut self) -> Result<Option<u8>, Stop> {
+        match self.reader.buffer().first().copied() {
+            Some(byte) if byte != b' ' && byte != b'\n' => {
+                self.reader.consume(1);
+                Ok(Some(byte))
+            }
+            _ => self.read_on(),
+        }
+    }
+
+    // The same where the field ends, or the buffer does: then it is filled anew.
+    #[inline(never)]
+    fn read_on(&mut self) -> Result<Option<u8>, Stop> {
         let byte = self.reader.fill_buf().map_err(Stop::Read)?.first().copied();
         if byte.is_some() {
             self.reader.consume(1);
         }
-        Ok(byte)
-    }
-
-    // The next byte of a field; none at its end.
-    fn next_of_field(&mut self) -> Result<Option<u8>, Stop> {
-        let end = match self.next_byte()? {
+        let end = match byte {
             Some(b' ') => End::Space,
             Some(b'\n') => End::Line,
             Some(byte) => return Ok(Some(byte)),
             None => End::Input,
         };
-        self.end = end;
+        self.end = Some(end);
         Ok(None)
     }
 
@@ -107,7 +117,7 @@ impl<R: Read + Drop> Input<R> {
 
     // Whether the line has another field.
     pub(crate) fn has_more(&self) -> bool {
-        self.end == End::Space
+        self.end == Some(End::Space)
     }
 
     // The line ends here.
@@ -119,8 +129,18 @@ impl<R: Read + Drop> Input<R> {
     }
 
     // What ended the field that was read last.
-    pub(crate) fn end(&self) -> End {
+    pub(crate) fn end(&self) -> Option<End> {
         self.end
+    }
+
+    // Passes over what is left of a field of which the reading stopped.
+    pub(crate) fn skip_field(&mut self) -> Result<(), Stop> {
+        if self.end.is_none() {
+            for byte in self.rest() {
+                byte?;
+            }
+        }
+        Ok(())
     }
 
     // Passes over what is left of a line.
@@ -134,6 +154,7 @@ impl<R: Read + Drop> Input<R> {
     // The first bytes of a line's first field.
     pub(crate) fn name(&mut self) -> Result<Vec<u8>, Stop> {
         let mut name = Vec::with_capacity(self.alloc, NAME_ROOM)?;
+        self.end = None;
         for byte in self.rest() {
             let byte = byte?;
             if name.len() < NAME_ROOM {
@@ -153,6 +174,7 @@ impl<R: Read + Drop> Input<R> {
         if !self.has_more() {
             return Err(Stop::BadCall);
         }
+        self.end = None;
         self.byte()
     }
 
