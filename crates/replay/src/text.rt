@@ -75,7 +75,9 @@ pub struct Entry {
 
 impl Display for Entry {
     fn fmt<W: fmt::Write>(&self, f: &mut Formatter<W>) -> fmt::Result {
-        write!(f, "{}:{:x}", Stamp(self.stamp), self.handle)
+        let mut text = Ascii::new();
+        text.put_entry(self.stamp, self.handle)?;
+        text.write_to(f)
     }
 }
 
@@ -86,13 +88,106 @@ pub struct BufferText(pub CommandBuffer);
 impl Display for BufferText {
     fn fmt<W: fmt::Write>(&self, f: &mut Formatter<W>) -> fmt::Result {
         let buffer = &self.0;
-        write!(f, "{}[", Stamp(buffer.timestamp))?;
-        let entries = buffer.held().iter().map(|entry| Entry {
-            stamp: command::stamp_of(*entry),
-            handle: command::handle_of(*entry),
-        });
-        write_list(f, entries)?;
-        write!(f, "]")
+        let mut text = Ascii::new();
+        text.put_stamp(buffer.timestamp)?;
+        text.put(b'[')?;
+        let mut is_first = true;
+        for entry in buffer.held() {
+            if !is_first {
+                text.put(b',')?;
+            }
+            text.put_entry(command::stamp_of(*entry), command::handle_of(*entry))?;
+            is_first = false;
+        }
+        text.put(b']')?;
+        text.write_to(f)
+    }
+}
+
+// The bytes of a buffer's longest text: the midpoint and its brackets have 8, and an entry has 16, with a stamp of 6, a colon, 8 digits and a comma.
+const TEXT_ROOM: usize = 8 + 16 * refusals::BUFFER_ROOM;
+
+// The text of a buffer or an entry, in ASCII, put together byte by byte and then written at once. A `write!` of each of up to 64 entries takes several
+// times as long. A byte past the room is an error, which no buffer comes to.
+#[derive(Drop)]
+struct Ascii {
+    bytes: [u8; TEXT_ROOM],
+    len: usize,
+}
+
+impl Ascii {
+    fn new() -> Ascii {
+        Ascii {
+            bytes: [0; TEXT_ROOM],
+            len: 0,
+        }
+    }
+
+    #[inline(always)]
+    fn put(&mut self, byte: u8) -> fmt::Result {
+        if self.len >= TEXT_ROOM {
+            return Err(fmt::Error);
+        }
+        self.bytes[self.len] = byte;
+        self.len += 1;
+        Ok(())
+    }
+
+    // The last decimal digit of a number.
+    #[inline(always)]
+    fn put_digit(&mut self, number: u16) -> fmt::Result {
+        self.put(b'0' + (number % 10) as u8)
+    }
+
+    // A number in decimal.
+    #[inline(always)]
+    fn put_decimal(&mut self, number: u16) -> fmt::Result {
+        if number >= 10_000 {
+            self.put_digit(number / 10_000)?;
+        }
+        if number >= 1_000 {
+            self.put_digit(number / 1_000)?;
+        }
+        if number >= 100 {
+            self.put_digit(number / 100)?;
+        }
+        if number >= 10 {
+            self.put_digit(number / 10)?;
+        }
+        self.put_digit(number)
+    }
+
+    // A number in hexadecimal.
+    #[inline(always)]
+    fn put_hex(&mut self, number: u32) -> fmt::Result {
+        let zeros = (number.leading_zeros() / 4).min(7);
+        for place in zeros..8 {
+            let digit = (number >> (28 - 4 * place) & 15) as u8;
+            let base = if digit < 10 { b'0' } else { b'a' - 10 };
+            self.put(base + digit)?;
+        }
+        Ok(())
+    }
+
+    // A stamp, in signed decimal.
+    #[inline(always)]
+    fn put_stamp(&mut self, stamp: Timestamp) -> fmt::Result {
+        let number = i16::from(stamp);
+        if number < 0 {
+            self.put(b'-')?;
+        }
+        self.put_decimal(number.unsigned_abs())
+    }
+
+    fn put_entry(&mut self, stamp: Timestamp, handle: u32) -> fmt::Result {
+        self.put_stamp(stamp)?;
+        self.put(b':')?;
+        self.put_hex(handle)
+    }
+
+    fn write_to<W: fmt::Write>(&self, f: &mut Formatter<W>) -> fmt::Result {
+        let bytes = self.bytes.get(..self.len).ok_or(fmt::Error)?;
+        f.write_str(str::from_utf8(bytes).map_err(|_| fmt::Error)?)
     }
 }
 
