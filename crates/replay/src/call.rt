@@ -51,12 +51,13 @@ pub enum Call {
     },
 }
 
-// Reads the next line. A wrong field is read to its end before its line is no call: a read that fails there is what ends the run.
+// Reads the next line. A wrong field is read to its end, and a read that failed in the line counts before what is wrong there.
 pub(crate) fn read_line<R: Read + Drop>(input: &mut Input<R>) -> Result<Line, Stop> {
     let line = read_fields(input);
     if let Err(Stop::BadCall) = &line {
-        input.skip_field()?;
+        input.skip_field();
     }
+    input.outcome()?;
     line
 }
 

@@ -5,6 +5,7 @@ ghost use Rattle.std.specs.Iterator.{at_most};
 
 use super::stop::Stop;
 use std::alloc::Global;
+use std::io;
 use std::io::{BufRead, BufReader, Read};
 
 // The longest name of a call has 7 bytes. Of a line's first field one more is kept, so that a longer one is no name.
@@ -25,6 +26,8 @@ pub struct Input<R: Read + Drop> {
     reader: BufReader<R>,
     // what ended the field that was read last; none while a field is read
     end: Option<End>,
+    // how a read failed, which ends the input
+    failure: Option<io::Error>,
 }
 
 // The bytes of a field up to what ends it. `left` bounds them, so that a loop over them is proved to end.
@@ -35,15 +38,15 @@ struct Field<'a, R: Read + Drop> {
 }
 
 impl<R: Read + Drop> Iterator for Field<'_, R> {
-    type Item = Result<u8, Stop>;
+    type Item = u8;
 
     ghost remaining = { λ s. at_most s.left };
 
     // Inlined, so that a loop over a field takes each byte from the buffer without a call.
     #[inline(always)]
-    fn next(&mut self) -> Option<Result<u8, Stop>> {
+    fn next(&mut self) -> Option<u8> {
         self.left = self.left.checked_sub(1)?;
-        self.input.next_of_field().transpose()
+        self.input.next_of_field()
     }
 }
 
@@ -75,36 +78,43 @@ impl<R: Read + Drop> Input<R> {
             alloc,
             reader,
             end: Some(End::Line),
+            failure: None,
         }
     }
 
-    // The next byte of a field; none at its end. Nearly every byte lies in the buffer and ends nothing, and is taken here.
+    // The next byte of a field; none at its end. One that lies in the buffer is taken here, and no error is carried along with it.
     #[inline(always)]
-    fn next_of_field(&mut self) -> Result<Option<u8>, Stop> {
+    fn next_of_field(&mut self) -> Option<u8> {
         match self.reader.buffer().first().copied() {
             Some(byte) if byte != b' ' && byte != b'\n' => {
                 self.reader.consume(1);
-                Ok(Some(byte))
+                Some(byte)
             }
             _ => self.read_on(),
         }
     }
 
-    // The same where the field ends, or the buffer does: then it is filled anew.
+    // The same where the field ends, or the buffer does: then it is filled anew. A read that fails is kept until the line is judged.
     #[inline(never)]
-    fn read_on(&mut self) -> Result<Option<u8>, Stop> {
-        let byte = self.reader.fill_buf().map_err(Stop::Read)?.first().copied();
+    fn read_on(&mut self) -> Option<u8> {
+        let byte = match self.reader.fill_buf() {
+            Ok(buffer) => buffer.first().copied(),
+            Err(e) => {
+                self.failure = Some(e);
+                None
+            }
+        };
         if byte.is_some() {
             self.reader.consume(1);
         }
         let end = match byte {
             Some(b' ') => End::Space,
             Some(b'\n') => End::Line,
-            Some(byte) => return Ok(Some(byte)),
+            Some(byte) => return Some(byte),
             None => End::Input,
         };
         self.end = Some(end);
-        Ok(None)
+        None
     }
 
     // The bytes that are left of a field.
@@ -133,14 +143,19 @@ impl<R: Read + Drop> Input<R> {
         self.end
     }
 
-    // Passes over what is left of a field of which the reading stopped.
-    pub(crate) fn skip_field(&mut self) -> Result<(), Stop> {
+    // Passes over what is left of a field, where the reading of it stopped before its end.
+    pub(crate) fn skip_field(&mut self) {
         if self.end.is_none() {
-            for byte in self.rest() {
-                byte?;
-            }
+            for _ in self.rest() {}
         }
-        Ok(())
+    }
+
+    // How a read failed, if one did.
+    pub(crate) fn outcome(&mut self) -> Result<(), Stop> {
+        match self.failure.take() {
+            Some(e) => Err(Stop::Read(e)),
+            None => Ok(()),
+        }
     }
 
     // Passes over what is left of a line.
@@ -156,7 +171,6 @@ impl<R: Read + Drop> Input<R> {
         let mut name = Vec::with_capacity(self.alloc, NAME_ROOM)?;
         self.end = None;
         for byte in self.rest() {
-            let byte = byte?;
             if name.len() < NAME_ROOM {
                 name.push(byte)?;
             }
@@ -166,7 +180,7 @@ impl<R: Read + Drop> Input<R> {
 
     // The next byte of a field, which must be there.
     fn byte(&mut self) -> Result<u8, Stop> {
-        self.next_of_field()?.ok_or(Stop::BadCall)
+        self.next_of_field().ok_or(Stop::BadCall)
     }
 
     // The first byte of the next field: the line has one only after a space, and it may not be empty.
@@ -182,7 +196,7 @@ impl<R: Read + Drop> Input<R> {
     fn decimal_from(&mut self, first: u8) -> Result<u64, Stop> {
         let mut number = with_digit(0, first, 10)?;
         for byte in self.rest() {
-            number = with_digit(number, byte?, 10)?;
+            number = with_digit(number, byte, 10)?;
         }
         Ok(number)
     }
@@ -246,7 +260,7 @@ impl<R: Read + Drop> Input<R> {
 
     // The field ends here.
     fn end_field(&mut self) -> Result<(), Stop> {
-        match self.next_of_field()? {
+        match self.next_of_field() {
             None => Ok(()),
             Some(_) => Err(Stop::BadCall),
         }
@@ -264,7 +278,7 @@ impl<R: Read + Drop> Input<R> {
         let mut high = digit(first);
         let mut is_good = high.is_some();
         for byte in self.rest() {
-            match (high.take(), digit(byte?)) {
+            match (high.take(), digit(byte)) {
                 (Some(high), Some(low)) => {
                     if bytes.len() < room {
                         bytes.push(high << 4 | low)?;
