@@ -4,12 +4,6 @@ use super::stop::Stop;
 use settings::{Settings, TweeningMethod};
 use std::io::Read;
 
-// Of an inbox one word more is kept than it may have, so that one with too many is refused.
-const INBOX_ROOM: usize = 4097;
-
-// Of samples one byte more is kept than the 64 of the longest right call have. More are as wrong a length, which the call itself refuses.
-pub const SAMPLE_ROOM: usize = 513;
-
 // A line: each case has a meaning of its own. An empty one and a comment are passed over.
 #[derive(Drop)]
 pub enum Line {
@@ -18,7 +12,7 @@ pub enum Line {
     End,
 }
 
-// A call: each case has a meaning of its own.
+// A call: each case has a meaning of its own. The words of an update and the bytes of a mean are the input's lists.
 #[derive(Drop)]
 pub enum Call {
     Open(Settings),
@@ -26,7 +20,6 @@ pub enum Call {
         delta: f64,
         seconds: f64,
         length: u64,
-        inbox: Vec<u32>,
     },
     Issue {
         handle: u32,
@@ -42,7 +35,6 @@ pub enum Call {
         needed: u32,
         rate: f64,
         length: u64,
-        samples: Vec<u8>,
     },
     Span {
         span: u64,
@@ -116,12 +108,13 @@ fn read_open<R: Read + Drop>(input: &mut Input<R>) -> Result<Call, Stop> {
 }
 
 fn read_update<R: Read + Drop>(input: &mut Input<R>) -> Result<Call, Stop> {
-    Ok(Call::Update {
+    let call = Call::Update {
         delta: input.float()?,
         seconds: input.float()?,
         length: input.decimal()?,
-        inbox: input.words(INBOX_ROOM)?,
-    })
+    };
+    input.read_inbox()?;
+    Ok(call)
 }
 
 fn read_issue<R: Read + Drop>(input: &mut Input<R>) -> Result<Call, Stop> {
@@ -142,12 +135,13 @@ fn read_stamp<R: Read + Drop>(input: &mut Input<R>) -> Result<Call, Stop> {
 }
 
 fn read_mean<R: Read + Drop>(input: &mut Input<R>) -> Result<Call, Stop> {
-    Ok(Call::Mean {
+    let call = Call::Mean {
         needed: input.decimal_u32()?,
         rate: input.float()?,
         length: input.decimal()?,
-        samples: input.bytes(SAMPLE_ROOM)?,
-    })
+    };
+    input.read_samples()?;
+    Ok(call)
 }
 
 fn read_span<R: Read + Drop>(input: &mut Input<R>) -> Result<Call, Stop> {

@@ -4,12 +4,18 @@ ghost use Rattle.std.specs.Prelude.{◌+◌, ◌*◌, ◌<◌, ◌≤◌, IfSome
 ghost use Rattle.std.specs.Iterator.{at_most};
 
 use super::stop::Stop;
-use std::alloc::Global;
+use std::alloc::{AllocError, Global};
 use std::io;
 use std::io::{BufRead, BufReader, Read};
 
 // The longest name of a call has 7 bytes. Of a line's first field one more is kept, so that a longer one is no name.
 const NAME_ROOM: usize = 8;
+
+// Of an inbox one word more is kept than it may have, so that one with too many is refused.
+const INBOX_ROOM: usize = 4097;
+
+// Of samples one byte more is kept than the 64 of the longest right call have. More are as wrong a length, which the call itself refuses.
+pub const SAMPLE_ROOM: usize = 513;
 
 // What ended a field: a space, the end of its line, or that of the input.
 #[derive(Clone, Copy, PartialEq, Eq)]
@@ -19,15 +25,29 @@ pub enum End {
     Input,
 }
 
-// The input, and where the reading of it stands.
+// The input, where the reading of it stands, and what was read of a line's list. The lists have their room from the start, so that no line asks for memory.
 #[derive(Drop)]
 pub struct Input<R: Read + Drop> {
-    alloc: Global,
     reader: BufReader<R>,
+    words: Vec<u32>,
+    bytes: Vec<u8>,
     // what ended the field that was read last; none while a field is read
     end: Option<End>,
     // how a read failed, which ends the input
     failure: Option<io::Error>,
+}
+
+// The first bytes of a line's first field.
+#[derive(Clone, Copy)]
+pub struct Name {
+    bytes: [u8; NAME_ROOM],
+    len: usize,
+}
+
+impl Name {
+    pub(crate) fn as_slice(&self) -> &[u8] {
+        &self.bytes[..self.len.min(NAME_ROOM)]
+    }
 }
 
 // The bytes of a field up to what ends it. `left` bounds them, so that a loop over them is proved to end.
@@ -73,13 +93,24 @@ fn with_digit(number: u64, byte: u8, radix: u8) -> Result<u64, Stop>
 }
 
 impl<R: Read + Drop> Input<R> {
-    pub(crate) fn new(alloc: Global, reader: BufReader<R>) -> Input<R> {
-        Input {
-            alloc,
+    pub(crate) fn new(alloc: Global, reader: BufReader<R>) -> Result<Input<R>, AllocError> {
+        Ok(Input {
             reader,
+            words: Vec::with_capacity(alloc, INBOX_ROOM)?,
+            bytes: Vec::with_capacity(alloc, SAMPLE_ROOM)?,
             end: Some(End::Line),
             failure: None,
-        }
+        })
+    }
+
+    // The words that were read last, of an update.
+    pub(crate) fn inbox(&self) -> &[u32] {
+        self.words.as_slice()
+    }
+
+    // The bytes that were read last, of a mean.
+    pub(crate) fn samples(&self) -> &[u8] {
+        self.bytes.as_slice()
     }
 
     // The next byte of a field; none at its end. One that lies in the buffer is taken here, and no error is carried along with it.
@@ -167,12 +198,16 @@ impl<R: Read + Drop> Input<R> {
     }
 
     // The first bytes of a line's first field.
-    pub(crate) fn name(&mut self) -> Result<Vec<u8>, Stop> {
-        let mut name = Vec::with_capacity(self.alloc, NAME_ROOM)?;
+    pub(crate) fn name(&mut self) -> Result<Name, Stop> {
+        let mut name = Name {
+            bytes: [0; NAME_ROOM],
+            len: 0,
+        };
         self.end = None;
         for byte in self.rest() {
-            if name.len() < NAME_ROOM {
-                name.push(byte)?;
+            if name.len < NAME_ROOM {
+                name.bytes[name.len] = byte;
+                name.len += 1;
             }
         }
         Ok(name)
@@ -242,20 +277,20 @@ impl<R: Read + Drop> Input<R> {
         u32::try_from(self.hex(8)?).map_err(|_| Stop::BadCall)
     }
 
-    // Words up to the end of the line, of which the first `room` are kept.
-    pub(crate) fn words(&mut self, room: usize) -> Result<Vec<u32>, Stop> {
-        let mut words = Vec::new(self.alloc);
+    // Reads words up to the end of the line, of which the first are kept.
+    pub(crate) fn read_inbox(&mut self) -> Result<(), Stop> {
+        self.words.clear();
         // the bound is for the proof that the loop ends: no line has so many words
         for _ in 0..u64::MAX {
             if !self.has_more() {
                 break;
             }
             let word = self.word()?;
-            if words.len() < room {
-                words.push(word)?;
+            if self.words.len() < INBOX_ROOM {
+                self.words.push(word)?;
             }
         }
-        Ok(words)
+        Ok(())
     }
 
     // The field ends here.
@@ -266,32 +301,36 @@ impl<R: Read + Drop> Input<R> {
         }
     }
 
-    // Bytes of two hexadecimal digits each, or `-` for none, of which the first `room` are kept.
-    pub(crate) fn bytes(&mut self, room: usize) -> Result<Vec<u8>, Stop> {
-        let mut bytes = Vec::new(self.alloc);
+    // Reads bytes of two hexadecimal digits each, or `-` for none, of which the first are kept.
+    pub(crate) fn read_samples(&mut self) -> Result<(), Stop> {
+        self.bytes.clear();
         let first = self.first_byte()?;
         if first == b'-' {
-            self.end_field()?;
-            return Ok(bytes);
+            return self.end_field();
         }
+        let mut bytes = [0; SAMPLE_ROOM];
+        let mut count = 0;
         // the first digit of a byte, while its second is to come
         let mut high = digit(first);
         let mut is_good = high.is_some();
         for byte in self.rest() {
             match (high.take(), digit(byte)) {
                 (Some(high), Some(low)) => {
-                    if bytes.len() < room {
-                        bytes.push(high << 4 | low)?;
+                    if count < SAMPLE_ROOM {
+                        bytes[count] = high << 4 | low;
+                        count += 1;
                     }
                 }
                 (None, Some(first)) => high = Some(first),
                 (_, None) => is_good = false,
             }
         }
-        if is_good && high.is_none() {
-            Ok(bytes)
-        } else {
-            Err(Stop::BadCall)
+        if !is_good || high.is_some() {
+            return Err(Stop::BadCall);
         }
+        for byte in bytes.iter().take(count) {
+            self.bytes.push(*byte)?;
+        }
+        Ok(())
     }
 }

@@ -27,7 +27,7 @@ fn play<R: Read + Drop, W: Write>(
     // the bound is for the proof that the loop ends: no input has so many lines
     for number in 1..=u64::MAX {
         match call::read_line(input) {
-            Ok(Line::Call(call)) => player.play(call, out).map_err(Stop::Write)?,
+            Ok(Line::Call(call)) => player.play(call, input, out).map_err(Stop::Write)?,
             Ok(Line::PassedOver) => {}
             Ok(Line::End) => return Ok(()),
             Err(Stop::BadCall) => {
@@ -45,7 +45,7 @@ fn main(rt: HostRuntime) -> io::Result<()> {
     let mut input = Input::new(
         rt.alloc(),
         BufReader::with_capacity(rt.alloc(), BUFFER, rt.stdin())?,
-    );
+    )?;
     let mut player = Player::new(rt.alloc())?;
     let mut out = BufWriter::with_capacity(rt.alloc(), BUFFER, rt.stdout())?;
     let outcome = match play(&mut input, &mut player, &mut out) {

@@ -2,14 +2,15 @@
 ghost use Rattle.std.specs.Prelude.{◌≡◌, length, min};
 
 use super::answers::{IssueText, MeanText, ReportText, SessionText, UpdateText};
-use super::call::{Call, SAMPLE_ROOM};
+use super::call::Call;
+use super::input::{Input, SAMPLE_ROOM};
 use super::text::RefusalText;
 use session::{calls, in_place};
 use session_state::Session;
 use settings::{Settings, TweeningMethod};
 use std::alloc::{AllocError, Global};
 use std::io;
-use std::io::Write;
+use std::io::{Read, Write};
 
 // The words that a tape is laid out on. No update plays so many.
 const TAPE_ROOM: usize = 65536;
@@ -55,16 +56,20 @@ impl Player {
         })
     }
 
-    // Plays a call and writes its answer.
-    pub(crate) fn play<W: Write>(&mut self, call: Call, out: &mut W) -> io::Result<()> {
+    // Plays a call that was read from an input, and writes its answer.
+    pub(crate) fn play<R: Read + Drop, W: Write>(
+        &mut self,
+        call: Call,
+        input: &Input<R>,
+        out: &mut W,
+    ) -> io::Result<()> {
         match call {
             Call::Open(settings) => self.open(settings, out),
             Call::Update {
                 delta,
                 seconds,
                 length,
-                inbox,
-            } => self.update(delta, seconds, length, inbox.as_slice(), out),
+            } => self.update(delta, seconds, length, input.inbox(), out),
             Call::Issue { handle } => self.issue(handle, out),
             Call::Report => writeln!(out, "{}", ReportText(in_place::report(&self.session))),
             Call::Session => writeln!(out, "{}", SessionText(self.session)),
@@ -80,8 +85,7 @@ impl Player {
                 needed,
                 rate,
                 length,
-                samples,
-            } => mean(needed, rate, length, samples.as_slice(), out),
+            } => mean(needed, rate, length, input.samples(), out),
             Call::Span { span, p, q } => span_frames(span, p, q, out),
         }
     }
