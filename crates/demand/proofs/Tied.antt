@@ -47,7 +47,8 @@ pub issue_answers : (κs : Lfts 0) (a : ArgsD issue.signature κs) (r : ResD iss
     → Answered a.0 (Issue a.1.0 r)
 issue_answers κs a r e h = h
 
--- update in place: the session that is lent, as it was and as it is left, delta, seconds, inbox and tape in this order; the answer is the Result with the session
+-- update in place: the session that is lent, as it was and as it is left, delta, seconds, inbox and tape in this order; the answer is the Result with the
+-- session that is left
 pub update_in_place_answers : (κs : Lfts 3) (a : ArgsD update-in-place.signature κs) (r : ResD update-in-place.signature κs)
     (e : AtExit (ended_of 3 update-in-place-kinds.ps update-in-place-kinds.r) κs) → update-in-place-reads.Learnt κs a r e
     → Answered a.0.now (Update a.1.0 a.1.1.0 a.1.1.1.0.now a.1.1.1.1.0.now (answer_with e.0.now r) e.1.1.1.1.0.now)
