@@ -7,14 +7,17 @@ use native.Mathlib.Omega.{arith}
 use lib.Dec.{ltb}
 use lib.ListN.{length, take, drop, set, length-append, length-take, length-drop}
 use lib.Seq.{slice, take_all}
-use lib.Ieee.{Float}
+use lib.Ieee.{Float, lt, binary64, add}
 use borrow.Author.Tests.{lt-ltb, le-ltb}
 use Rattle.settings.specs.declared.Settings.{Settings}
 use Rattle.settings.specs.Settings.{samples_to_discard_of, samples_to_store_of}
-use Rattle.std.specs.Prelude.{Option}
+use Rattle.std.specs.Prelude.{Option, None, Some}
+use Rattle.timestamp.specs.Floats.{zero64}
 use Rattle.clocksync.specs.declared.Clock.{Clock}
+use Rattle.clocksync.specs.declared.Ticked.{Ticked}
+use Rattle.clocksync.specs.declared.Heard.{Heard}
 use Rattle.mean.specs.Mean.{mean_of}
-use Rattle.clocksync.specs.Clock.{laid_out, held_of, offset_after, sampled_of, filled_of, added_of}
+use Rattle.clocksync.specs.Clock.{laid_out, held_of, timed_of, ticked_of, offset_after, sampled_of, filled_of, added_of, pushed_of, sample_of, settled_of}
 use Rattle.clocksync.proofs.Lists.{laid_push, take-laid}
 
 -- ---- one sample more
@@ -76,3 +79,43 @@ module _ (s : Settings) (c : Clock) (x : Float) {n : ℕ} {laid : List Float} (f
       same_clock c.timer c.id O R N
       ∙ sym (ap (λ (b : Bool). cond b (sampled_of c c.offset xs)
       (sampled_of c (offset_after c.offset (mean_of (samples_to_discard_of s) xs) s.deviation) (drop 1 xs))) t)
+
+-- ---- the offset aside
+
+-- the parts of the clock with one sample more, but for the offset
+pub pushed_is : (s : Settings) (c : Clock) (x : Float) {k : Clock} → k ≡ added_of s c x
+    → ◌≡◌ {A = Clock} (record { offset = c.offset; samples = k.samples; len = k.len; timer = k.timer; id = k.id }) (pushed_of s c x)
+pushed_is s c x e = λ i. record { offset = c.offset; samples = (e i).samples; len = (e i).len; timer = (e i).timer; id = (e i).id }
+
+-- the offset after a sample, by the parts that it depends on
+filled_offset : (s : Settings) (c : Clock) (xs : List Float) → (filled_of s c xs).offset ≡ cond (ltb (length xs) (samples_to_store_of s)) c.offset
+    (offset_after c.offset (mean_of (samples_to_discard_of s) xs) s.deviation)
+unfolding filled_of
+filled_offset s c xs = go (ltb (length xs) (samples_to_store_of s))
+  where
+    after : Option Float
+    after = offset_after c.offset (mean_of (samples_to_discard_of s) xs) s.deviation
+
+    go : (b : Bool) → (cond b (sampled_of c c.offset xs) (sampled_of c after (drop 1 xs))).offset ≡ cond b c.offset after
+    go true = refl
+    go false = refl
+
+-- neither the timer nor the client's number moves it
+pub offset_apart : (s : Settings) (c : Clock) (t : Float) (i : Option ℕ) (o : Option Float)
+    → (sample_of s (record { offset = c.offset; samples = c.samples; len = c.len; timer = t; id = i }) o).offset ≡ (sample_of s c o).offset
+unfolding held_of
+offset_apart s c t i None = refl
+offset_apart s c t i (Some x) =
+    filled_offset s (record { offset = c.offset; samples = c.samples; len = c.len; timer = t; id = i }) (held_of c ++ (x ∷ []))
+    ∙ sym (filled_offset s c (held_of c ++ (x ∷ [])))
+
+-- the timer moves on
+pub offset_ticked : (s : Settings) (c : Clock) (period delta : Float) (h : Heard)
+    → (settled_of s (ticked_of c period delta).clock h).offset ≡ (settled_of s c h).offset
+unfolding settled_of ticked_of
+offset_ticked s c period delta h = go (lt period (add binary64 c.timer delta))
+  where
+    go : (b : Bool) → (settled_of s (cond {A = Ticked} b (record { clock = timed_of c zero64; request = true })
+        (record { clock = timed_of c (add binary64 c.timer delta); request = false })).clock h).offset ≡ (settled_of s c h).offset
+    go true = offset_apart s c zero64 h.id h.offset ∙ sym (offset_apart s c c.timer h.id h.offset)
+    go false = offset_apart s c (add binary64 c.timer delta) h.id h.offset ∙ sym (offset_apart s c c.timer h.id h.offset)

@@ -88,6 +88,12 @@ filled_of s c xs =
 abbrev pub added_of : Settings → Clock → Float → Clock
 added_of s c x = filled_of s c (held_of c ++ (x ∷ []))
 
+-- the same with the offset as it was
+abbrev pub pushed_of : Settings → Clock → Float → Clock
+pushed_of s c x =
+    let a = added_of s c x in
+    record { offset = c.offset; samples = a.samples; len = a.len; timer = a.timer; id = a.id }
+
 -- the clock with another client number
 abbrev pub named_of : Clock → Option ℕ → Clock
 named_of c i = record { offset = c.offset; samples = c.samples; len = c.len; timer = c.timer; id = i }

@@ -5,8 +5,8 @@
 
 ghost use Rattle.std.specs.Prelude.{◌≡◌, ◌||◌, ◌≤◌, length};
 ghost use Rattle.clocksync.specs.Offset.{offset_of};
-ghost use Rattle.clocksync.specs.Clock.{laid_out, new_of, ticked_of, listen_of, heard_of, first_of, other_of, deviates_of, offset_after, added_of, settled_of};
-ghost use Rattle.clocksync.specs.Clock.{server_seconds_of, ready_of, timer_ok, sound_clock};
+ghost use Rattle.clocksync.specs.Clock.{laid_out, new_of, ticked_of, listen_of, heard_of, first_of, other_of, deviates_of, offset_after};
+ghost use Rattle.clocksync.specs.Clock.{added_of, pushed_of, settled_of, server_seconds_of, ready_of, timer_ok, sound_clock};
 ghost use Rattle.refusals.specs.Limits.{sample_room};
 
 use settings::Settings;
@@ -56,22 +56,26 @@ impl Clock {
         }
     }
 
-    // Moves the request timer on by delta. A request goes out where it is then above the period, and the timer starts anew.
+    // The clock whose request timer was moved on by delta, and whether a request goes out.
     pub fn tick(self, settings: Settings, delta: f64) -> Ticked
         ensures { result ≡ ticked_of self settings.period delta }
     {
+        let mut clock = self;
+        let request = clock.move_timer(settings, delta);
+        Ticked { clock, request }
+    }
+
+    // Moves the request timer on by delta. A request goes out where it is then above the period, and the timer starts anew. Gives whether one does.
+    pub fn move_timer(&mut self, settings: Settings, delta: f64) -> bool
+        ensures { record { clock = self.new; request = result } ≡ ticked_of self.old settings.period delta }
+    {
         let timer = self.timer + delta;
         if timer > settings.period {
-            Ticked {
-                clock: Clock { timer: 0.0, ..self },
-                request: true,
-            }
-        } else {
-            Ticked {
-                clock: Clock { timer, ..self },
-                request: false,
-            }
+            self.timer = 0.0;
+            return true;
         }
+        self.timer = timer;
+        false
     }
 
     // What is known before an inbox's first clock message.
@@ -85,44 +89,71 @@ impl Clock {
         }
     }
 
-    // The clock after all clock messages of an inbox: the client's number is kept, and the last message's offset is a sample.
-    #[tactic(auto, unfolding(crate::specs::Clock::settled_of))]
+    // The clock after all clock messages of an inbox.
     pub fn settle(self, settings: Settings, heard: Heard) -> Clock
         ensures { result ≡ settled_of settings self heard }
     {
-        let clock = Clock {
-            id: heard.id,
-            ..self
-        };
+        let mut clock = self;
+        let offset = self.offset_after(settings, heard);
+        clock.take(settings, heard, offset);
+        clock
+    }
+
+    // The offset after all clock messages of an inbox.
+    #[tactic(auto, unfolding(crate::specs::Clock::settled_of))]
+    pub fn offset_after(&self, settings: Settings, heard: Heard) -> Option<f64>
+        ensures { result ≡ (settled_of settings self.now heard).offset }
+    {
         match heard.offset {
-            None => clock,
-            Some(x) => clock.add_sample(settings, x),
+            None => self.offset,
+            Some(x) => self.offset_with(settings, x),
         }
     }
 
-    // One sample more. With the samples to store together their mean is taken: it is the offset where there is none yet, or where it
-    // deviates too far; then the oldest sample goes.
-    pub(crate) fn add_sample(self, settings: Settings, x: f64) -> Clock
-        ensures { result ≡ added_of settings self x }
+    // Takes what all clock messages of an inbox told, and the offset after them, which its caller has: the client's number is kept, and the last message's
+    // offset is a sample.
+    #[tactic(auto, unfolding(crate::specs::Clock::settled_of))]
+    pub fn take(&mut self, settings: Settings, heard: Heard, offset: Option<f64>)
+        requires { offset ≡ (settled_of settings self.old heard).offset }
+        ensures { self.new ≡ settled_of settings self.old heard }
+    {
+        self.id = heard.id;
+        if let Some(x) = heard.offset {
+            self.push(settings, x);
+        }
+        self.offset = offset;
+    }
+
+    // The offset with one sample more. With the samples to store together their mean is taken: it is the offset where there is none yet, or where it
+    // deviates too far.
+    fn offset_with(&self, settings: Settings, x: f64) -> Option<f64>
+        ensures { result ≡ (added_of settings self.now x).offset }
     {
         let n = self.len.min(refusals::MOST_SAMPLES);
         let mut all = laid(&self.samples[..n]);
         all[n] = x;
         let count = n + 1;
         if count < settings.samples_to_store() {
-            return Clock {
-                samples: all,
-                len: count,
-                ..self
-            };
+            return self.offset;
         }
         let mean = mean::mean_of(&all[..count], settings.samples_to_discard());
-        Clock {
-            offset: synced(self.offset, mean, settings.deviation),
-            samples: laid(&all[1..count]),
-            len: n,
-            ..self
+        synced(self.offset, mean, settings.deviation)
+    }
+
+    // One sample more. With the samples to store together the oldest goes.
+    fn push(&mut self, settings: Settings, x: f64)
+        ensures { self.new ≡ pushed_of settings self.old x }
+    {
+        let n = self.len.min(refusals::MOST_SAMPLES);
+        self.samples = laid(&self.samples[..n]);
+        self.samples[n] = x;
+        let count = n + 1;
+        if count < settings.samples_to_store() {
+            self.len = count;
+            return;
         }
+        self.samples = laid(&self.samples[1..count]);
+        self.len = n;
     }
 
     // The server's time at a time of this client, or none before the clock is synced.
@@ -142,8 +173,8 @@ impl Clock {
     // Whether the clock is as calls leave it: fewer samples than are stored, samples and offset within 2^33, and the timer finite and at
     // most 3,600.
     #[tactic(auto, unfolding(crate::specs::Clock::sound_clock))]
-    pub fn is_sound(self, settings: Settings) -> bool
-        ensures { result ≡ sound_clock settings self }
+    pub fn is_sound(&self, settings: Settings) -> bool
+        ensures { result ≡ sound_clock settings self.now }
     {
         let n = self.len;
         n < settings.samples_to_store()

@@ -11,8 +11,7 @@ ghost use Rattle.session_answers.specs.Answers.{answer_with, Updates};
 ghost use Rattle.session.specs.Inner.{arrived_in, clock_moved_by, end_verdict_of, Scanned, decided};
 ghost use Rattle.session.specs.Calls.{times_ok, worlds_update_of, update_of};
 
-use client::Scene;
-use clocksync::Clock;
+use client::{Ledger, Scene};
 use fixed_timestepper::{Advanced, TimeKeeper};
 use inbox_scan::Scan;
 use refusals::{Refusal, Verdict};
@@ -75,11 +74,11 @@ fn receive(scan: Scan, inbox: &[u32], scene: &mut Scene) -> bool
     full
 }
 
-// The server's time at a time of this client; the client's own time where there is no offset.
-fn server_time(clock: Clock, seconds: f64) -> f64
-    ensures { result ≡ unwrap_or (server_seconds_of clock.offset seconds) seconds }
+// The server's time at a time of this client, by an offset; the client's own time where there is none.
+fn server_time(offset: Option<f64>, seconds: f64) -> f64
+    ensures { result ≡ unwrap_or (server_seconds_of offset seconds) seconds }
 {
-    clock.server_seconds(seconds).unwrap_or(seconds)
+    offset.map_or(seconds, |x| seconds + x)
 }
 
 // The verdict on an update whose frames have ended; the tape has room for `room` words.
@@ -94,7 +93,8 @@ fn verdict_at_end(keeper: TimeKeeper, a: Advanced, room: usize) -> Verdict
     )
 }
 
-// An update once worlds exist, unless it is refused. The frames are played on a copy of the worlds, which an accepted update leaves in the session.
+// An update once worlds exist, unless it is refused. The frames are played on a copy of the worlds, which an accepted update leaves in the session; it is
+// made field by field, since `Session::scene` copies the worlds twice. The clock moves on where nothing refuses any more: until then its offset is enough.
 fn update_worlds(
     session: &mut Session,
     delta: f64,
@@ -107,19 +107,25 @@ fn update_worlds(
     ensures { decided (worlds_update_of session.old delta seconds inbox.now (length tape.old)) session.old (length tape.old) result session.new tape.new }
 {
     let settings = session.settings;
-    let mut scene = session.scene();
+    let mut scene = Scene {
+        worlds: session.worlds,
+        left: Ledger::empty(),
+        right: Ledger::empty(),
+        steps: 0,
+    };
     let full = receive(scan, inbox, &mut scene);
     refusals::by_arrivals(scan.heard.other, full)?;
-    let t = session.clock.tick(settings, delta);
-    let clock = t.clock.settle(settings, scan.heard);
-    let server = server_time(clock, seconds) + settings.lag;
+    let offset = session.clock.offset_after(settings, scan.heard);
+    let server = server_time(offset, seconds) + settings.lag;
     let keeper = TimeKeeper {
         settings,
         overshoot: session.overshoot,
     };
     let a = keeper.update(&mut scene, delta, server, tape);
     verdict_at_end(keeper, a, tape.len())?;
-    let told = session_answers::accept(session, clock, t.request, &scene, a, tape);
+    let request = session.clock.move_timer(settings, delta);
+    session.clock.take(settings, scan.heard, offset);
+    let told = session_answers::accept_scene(session, request, &scene, a, tape);
     Ok(told)
 }
 

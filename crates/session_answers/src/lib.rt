@@ -111,7 +111,8 @@ pub fn refuse(refusal: Refusal, tape: &mut [u32]) -> Result<Updated, Refusal>
     Err(refusal)
 }
 
-// An update that nothing refuses: the session that its scene leaves, with the end of the worlds, and zeros on the rest of the tape.
+// An update that nothing refuses: the session that its scene leaves, with this clock and the end of the worlds, and zeros on the rest of the tape.
+// No call uses it today: the clock moves on in the session, and `accept_scene` leaves it. It stays as a public promise.
 #[tactic(auto, unfolding(crate::specs::Inner::accepted_by))]
 pub fn accept(
     session: &mut Session,
@@ -123,6 +124,21 @@ pub fn accept(
 ) -> Updated
     ensures { Updates (accepted_by session.old clock request scene.now a tape.old) (answer_with session.new (Ok result)) tape.new }
 {
+    session.clock = clock;
+    accept_scene(session, request, scene, a, tape)
+}
+
+// The same where the session has its clock already.
+#[tactic(auto, unfolding(crate::specs::Inner::accepted_by))]
+pub fn accept_scene(
+    session: &mut Session,
+    request: bool,
+    scene: &Scene,
+    a: Advanced,
+    tape: &mut [u32],
+) -> Updated
+    ensures { Updates (accepted_by session.old session.old.clock request scene.now a tape.old) (answer_with session.new (Ok result)) tape.new }
+{
     tape::clear(tape, a.at);
     session.worlds = scene.worlds;
     let keeper = TimeKeeper {
@@ -131,7 +147,6 @@ pub fn accept(
     };
     keeper.ended(&mut session.worlds);
     session.stage = session_stage::stage_after(session.stage, session.worlds.published.time);
-    session.clock = clock;
     session.overshoot = a.overshoot;
     Updated {
         frames: a.frames,
