@@ -3,7 +3,7 @@
 
 ghost use Rattle.std.specs.Prelude.{◌≡◌};
 ghost use Rattle.client.specs.Ledgers.{takes};
-ghost use Rattle.client_receive.specs.Inner.{any_full};
+ghost use Rattle.client_receive.specs.Inner.{any_full, none_known, Known};
 ghost use Rattle.client_receive.specs.Receive.{received_of, fresh_of, noted_of, snapshots_of};
 
 use client::{QueuedSnapshot, Scene, Snapshots, status};
@@ -18,14 +18,45 @@ pub(crate) fn any_full(base: Outcome, left: Outcome, right: Outcome) -> bool
     base.is_full() || left.is_full() || right.is_full()
 }
 
-// A command goes to the base, the old and the new world. Gives whether one of them takes it but has no room: refusal 23. None of the three looks
-// at another, so left and right need not be told apart.
+// Of which of the three buffers that take a command it is known that they are tidy. Flags: each says what is known of its own.
+#[derive(Clone, Copy)]
+pub struct Tidy {
+    pub base: bool,
+    pub left: bool,
+    pub right: bool,
+}
+
+impl Tidy {
+    // Of none it is known.
+    pub fn unknown() -> Tidy
+        ensures { result ≡ none_known }
+    {
+        Tidy {
+            base: false,
+            left: false,
+            right: false,
+        }
+    }
+}
+
+// A command goes to the base, the old and the new world. Gives whether one of them takes it but has no room: refusal 23.
 pub fn receive_command(scene: &mut Scene, entry: u64) -> bool
     ensures { record { scene = scene.new; full = result } ≡ received_of scene.old entry }
 {
-    let base = scene.worlds.base.insert(entry);
-    let left = scene.worlds.left.schedule_command(entry);
-    let right = scene.worlds.right.schedule_command(entry);
+    let mut tidy = Tidy::unknown();
+    receive_command_known(scene, entry, &mut tidy)
+}
+
+// The same, where `tidy` says which buffers are known to be tidy, before and after. None of the three looks at another, so left and right need not be told
+// apart.
+pub fn receive_command_known(scene: &mut Scene, entry: u64, tidy: &mut Tidy) -> bool
+    requires { Known tidy.old scene.old.worlds }
+    ensures received { record { scene = scene.new; full = result } ≡ received_of scene.old entry }
+    ensures known { Known tidy.new scene.new.worlds }
+{
+    let base = scene.worlds.base.insert_known(entry, &mut tidy.base);
+    let left = scene.worlds.left.schedule_known(entry, &mut tidy.left);
+    let right = scene.worlds.right.schedule_known(entry, &mut tidy.right);
     scene.left.count_taken(left.taken());
     scene.right.count_taken(right.taken());
     any_full(base, left, right)

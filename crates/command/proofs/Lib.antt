@@ -10,3 +10,5 @@ pub mod Ledger
 pub mod Soundness
 pub mod Waiting
 pub mod Quiet
+pub mod Tidy
+mod Shifting

@@ -4,7 +4,7 @@
 // slots blank. Every function is total: a count over 64 reads as 64. An entry is one word: the stamp of its frame, and the command's handle.
 #![tactic(auto)]
 
-ghost use Rattle.std.specs.Prelude.{◌≡◌, [], ◌∷◌, ◌++◌, not, ◌+◌, ◌≤◌, ◌<◌, length};
+ghost use Rattle.std.specs.Prelude.{◌≡◌, true, [], ◌∷◌, ◌++◌, not, ◌+◌, ◌≤◌, ◌<◌, length};
 ghost use Rattle.refusals.specs.Limits.{buffer_room};
 ghost use Rattle.tape.specs.Sides.{side_number};
 ghost use Rattle.tape.specs.Tape.{count_end, PutsOn};
@@ -12,7 +12,8 @@ ghost use Rattle.command.specs.Lists.{filter_b};
 ghost use Rattle.command.specs.Entries.{entry_of, stamp_in, handle_in, plain_entry};
 ghost use Rattle.command.specs.Buffer.{held, laid, in_range_of, placed_of, inserted_of, taken_by, full_by};
 ghost use Rattle.command.specs.Buffer.{moved_of, drained_of, drained_all_of, command_words, Applies, AppliesAll};
-ghost use Rattle.command.specs.Soundness.{sound_buffer};
+ghost use Rattle.command.specs.Soundness.{sound_buffer, all_blank, tidy_of, known_of};
+ghost use Rattle.command.specs.Slots.{HasPlace, Placed};
 ghost use Rattle.command.specs.Ranks.{rank_of, rank_within, sifted_of, waits_of, quiet_before, quiet_steps_of, sound_rank, HasRoom};
 
 use tape::{Side, Tape, command_word};
@@ -205,14 +206,39 @@ impl CommandBuffer {
     pub fn insert(&mut self, entry: u64) -> Outcome
         ensures { record { outcome = result; buffer = self.new } ≡ inserted_of self.old entry }
     {
+        let mut tidy = false;
+        self.insert_known(entry, &mut tidy)
+    }
+
+    // The same, where `tidy` says whether the buffer is known to be tidy, before and after. Where it is not known the buffer is read for it. An entry goes
+    // into a tidy buffer from its end; one that is not is laid out anew.
+    pub fn insert_known(&mut self, entry: u64, tidy: &mut bool) -> Outcome
+        requires { known_of tidy.old self.old ≡ true }
+        ensures inserted { record { outcome = result; buffer = self.new } ≡ inserted_of self.old entry }
+        ensures known { known_of tidy.new self.new ≡ true }
+    {
         if !in_range(entry, self.timestamp) {
             return Outcome::OutOfRange;
         }
         if refusals::BUFFER_ROOM <= self.len {
             return Outcome::Full;
         }
-        self.place(entry);
+        if *tidy || self.is_tidy() {
+            let n = self.len;
+            place_from_end(&mut self.entries, n, self.timestamp, entry);
+            self.len = n + 1;
+            *tidy = is_plain(entry);
+        } else {
+            self.place(entry);
+        }
         Outcome::Taken
+    }
+
+    // Whether it is tidy: sound, and its unused slots blank.
+    pub fn is_tidy(&self) -> bool
+        ensures { result ≡ tidy_of self.now }
+    {
+        self.is_sound() && all_blank(&self.entries[self.len.min(refusals::BUFFER_ROOM)..])
     }
 
     // Takes the entries whose signed difference to s is at most 0. Gives how many it takes.
@@ -359,6 +385,32 @@ impl CommandBuffer {
         }
         count
     }
+}
+
+// Whether slots are blank.
+fn all_blank(slots: &[u64]) -> bool
+    ensures { result ≡ all_blank slots.now }
+{
+    slots.iter().all(|e| *e == 0)
+}
+
+// Puts one entry more into the slots of a tidy buffer of n entries, after all that are not later: from the end, those that are later move up by one slot.
+fn place_from_end(slots: &mut [u64], n: usize, around: Timestamp, entry: u64)
+    requires { HasPlace slots.old n around }
+    ensures { Placed slots.old n around entry slots.new }
+{
+    let k = rank_in(entry, around);
+    let mut i = n;
+    while 0 < i {
+        let before = slots[i - 1];
+        if rank_in(before, around) <= k {
+            slots[i] = entry;
+            return;
+        }
+        slots[i] = before;
+        i -= 1;
+    }
+    slots[0] = entry;
 }
 
 // Whether an entry of rank k is in range and not before rank lo, and has no spare bit set.

@@ -3,11 +3,12 @@
 // midpoint of the command buffer, as in the Rust.
 #![tactic(auto)]
 
-ghost use Rattle.std.specs.Prelude.{◌≡◌, ◌+◌, ◌<◌, ◌≤◌};
+ghost use Rattle.std.specs.Prelude.{◌≡◌, true, ◌+◌, ◌<◌, ◌≤◌};
 ghost use Rattle.refusals.specs.Limits.{buffer_room};
 ghost use Rattle.tape.specs.Sides.{side_number};
 ghost use Rattle.tape.specs.Tape.{count_end};
 ghost use Rattle.command.specs.Ranks.{quiet_steps_of};
+ghost use Rattle.command.specs.Soundness.{known_of};
 ghost use Rattle.simulation.specs.World.{step_room, new_world, scheduled_of, step_of, reset_of, load_of, Does, Loads};
 
 use command::{CommandBuffer, Outcome};
@@ -55,12 +56,22 @@ impl Simulation {
         self.commands.timestamp
     }
 
-    // Offers a command to the world's buffer.
-    #[tactic(auto, unfolding(crate::specs::World::scheduled_of))]
+    // Offers a command to the world's buffer. No call uses it today: `schedule_known` goes from command to command. It stays as a public promise.
     pub fn schedule_command(&mut self, entry: u64) -> Outcome
         ensures { record { world = self.new; outcome = result } ≡ scheduled_of self.old entry }
     {
-        self.commands.insert(entry)
+        let mut tidy = false;
+        self.schedule_known(entry, &mut tidy)
+    }
+
+    // The same, where `tidy` says whether the buffer is known to be tidy, before and after.
+    #[tactic(auto, unfolding(crate::specs::World::scheduled_of))]
+    pub fn schedule_known(&mut self, entry: u64, tidy: &mut bool) -> Outcome
+        requires { known_of tidy.old self.old.commands ≡ true }
+        ensures scheduled { record { world = self.new; outcome = result } ≡ scheduled_of self.old entry }
+        ensures known { known_of tidy.new self.new.commands ≡ true }
+    {
+        self.commands.insert_known(entry, tidy)
     }
 
     // One frame: the commands up to it are applied, the world steps, and its stamp moves on. A world does not know its side, nor has it the tape.

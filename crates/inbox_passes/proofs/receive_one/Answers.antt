@@ -17,12 +17,14 @@ received : (s : Scene) (full : Bool) (t : Timestamp) (h : ℕ) {m : Reading} {e 
 received s full t h hm he hr =
     ap (also_full full) (hr ∙ ap (received_of s) he) ∙ sym (ap (receive_one (record { scene = s; full = full })) hm)
 
-pub returns-then-full : goal.returns-then-full
-returns-then-full c =
+pub returns-then-full-clause-received : goal.returns-then-full-clause-received
+returns-then-full-clause-received c =
     rw c.if-full.true
-    (received c.args.scene.now true c.in-Ok-Command.stamp c.in-Ok-Command.handle (search rules) c.entry_of.ensures c.receive_command-filled.ensures)
+    (received c.args.scene.now true c.in-Ok-Command.stamp c.in-Ok-Command.handle (search rules) c.entry_of.ensures
+    c.receive_command_known-filled.ensures.received)
 
-pub returns-else-full : goal.returns-else-full
-returns-else-full c =
+pub returns-else-full-clause-received : goal.returns-else-full-clause-received
+returns-else-full-clause-received c =
     rw c.if-full.false
-    (received c.args.scene.now false c.in-Ok-Command.stamp c.in-Ok-Command.handle (search rules) c.entry_of.ensures c.receive_command-filled.ensures)
+    (received c.args.scene.now false c.in-Ok-Command.stamp c.in-Ok-Command.handle (search rules) c.entry_of.ensures
+    c.receive_command_known-filled.ensures.received)
