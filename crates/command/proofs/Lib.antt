@@ -12,3 +12,4 @@ pub mod Waiting
 pub mod Quiet
 pub mod Tidy
 mod Shifting
+mod Breaches

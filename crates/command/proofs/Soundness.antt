@@ -1,22 +1,12 @@
 -- A sound buffer stays sound under every operation; and what the test of one gives. Assumes nothing.
-use mathlib.Core.Path.{◌≡◌, refl, sym, ap, subst, ◌∙◌}
+use mathlib.Core.Path.{◌≡◌, refl, sym, ap, ◌∙◌}
 use mathlib.Core.List.{List, [], ◌∷◌, ◌++◌}
 use mathlib.Core.Bool.{Bool, true, false, not, cond, ◌&&◌, and-false}
 use Prim.Native.Nat.{ℕ, ◌≤◌, ◌<◌}
 use native.Mathlib.Omega.{arith}
 use lib.Dec.{leb}
 use lib.ListN.{length}
-use denote.Ref.{Bor}
-use denote.Param.Members.{Mut}
 use borrow.Author.Tests.{le-leb, lt-leb, leb-true}
-use Rattle.std.specs.declared.option.Option.{Option}
-use Rattle.std.specs.declared.option.Option.TheVariants.{None, Some}
-use Rattle.std.specs.declared.slice.Iter.{Iter}
-use Rattle.std.specs.Option.{MatchOption}
-use Rattle.std.specs.Iterator.{Yields, ChecksAll}
-use Rattle.std.specs.Fn.{Called}
-use Rattle.std.specs.List.{FoldsTo}
-use Rattle.std.proofs.lemmas.Fn.{fronts}
 use Rattle.timestamp.specs.declared.Timestamp.{Timestamp}
 use Rattle.command.specs.Entries.{Entry, stamp_in, plain_entry}
 use Rattle.command.specs.declared.CommandBuffer.{CommandBuffer}
@@ -180,27 +170,3 @@ buffer_is b = lead (leb b.len 64) (ordered_in b.timestamp (held b)) (all_b plain
 -- too many
 pub sound_long : (b : CommandBuffer) → 64 < b.len → false ≡ sound_buffer b
 sound_long b h = sym (buffer_is b ∙ ap (λ (t : Bool). t && sound_from b.timestamp 0 (held b)) (lt-leb b.len 64 h))
-
--- not too many. A call of the closure tells whether an entry may stand after the last one, of whose rank `Has` says that the closure holds it
-module _ {F : Type 0} {g : Mut F (Bor Entry × Unit {0}) Bool} (b : CommandBuffer) (Has : ℕ → F → Type 0)
-    (tells : (lo : ℕ) (f : F) (x : Bor Entry) (r : Bool) (h : F) → Has lo f → Called g f (x, tt) r h
-    → (r ≡ sound_rank (rank_in b.timestamp x.now) lo x.now) × Has (rank_in b.timestamp x.now) h)
-  where
-    no_entry : (xs : List Entry) → length xs ≡ 0 → xs ≡ []
-    no_entry [] e = refl
-    no_entry (x ∷ xs) e = absurd (omega arith)
-
-    from_here : (xs : List (Bor Entry)) (o : Option (Bor Entry)) (r : Bool) (lo : ℕ) (f j : F) (s t u : Iter Entry) → Has lo f
-        → Yields fronts s xs t → fronts t o u → FoldsTo (λ p x q. Called g p (x, tt) true q) f xs j
-        → MatchOption o (r ≡ true) (λ x. (r ≡ false) × ((h : F) × Called g j (x, tt) false h)) → r ≡ sound_from b.timestamp lo s.rest.now
-    unfolding sound_from
-    from_here [] None r lo f j s t u i y p c e = rw (y, no_entry t.rest.now p.0) e
-    from_here [] (Some x) r lo f j s t u i y p c e = rw (y, p, e.0, ← (tells lo j x false e.1.0 (subst (Has lo) c i) e.1.1).0) refl
-    from_here (x ∷ xs) o r lo f j s t u i y p c e =
-        let k = tells lo f x true c.0 i c.1 in
-        rw (y.1, ← k.0) (from_here xs o r (rank_in b.timestamp x.now) c.0 j y.0 t u k.1 y.2 p c.2 e)
-
-    pub test_all : b.len ≤ 64 → {s u : Iter Entry} → s.rest.now ≡ held b → {f : F} → Has 0 f → (r : Bool) → ChecksAll fronts g s f r u
-        → r ≡ sound_buffer b
-    test_all few {s} {u} e {f} i r d =
-        rw (buffer_is b, le-leb b.len 64 few, ← e) (from_here d.0 d.1 r 0 f d.2 s d.3.0 u i d.3.1 d.3.2 d.4 d.5)

@@ -1,6 +1,6 @@
 -- Signed differences counted from 0, as the code compares them: document 01's signed difference under "src/timestamp.rs", plus 32,768.
 -- Definitions only. Assumes nothing.
-use Rattle.std.specs.Prelude.{ℕ, ◌+◌, ◌≤◌, ◌≡◌, Bool, not, ◌&&◌, cond, eqb, leb, ltb, min, List, [], ◌∷◌, length}
+use Rattle.std.specs.Prelude.{ℕ, ◌+◌, ◌≤◌, ◌≡◌, Bool, not, ◌&&◌, ◌||◌, cond, eqb, leb, ltb, min, List, [], ◌∷◌, length}
 use Rattle.refusals.specs.Limits.{buffer_room}
 use Rattle.timestamp.specs.declared.Timestamp.{Timestamp}
 use Rattle.timestamp.specs.Timestamps.{difference_of, sum_of}
@@ -52,3 +52,7 @@ quiet_steps_of b = quiet_among (sum_of b.timestamp.0 1) (held b)
 -- an entry of rank k is in range and not before rank lo, and has no spare bit set
 unfoldable pub sound_rank : ℕ → ℕ → Entry → Bool
 sound_rank k lo e = leb lo k && leb 16385 k && leb k 49150 && plain_entry e
+
+-- an entry of rank k is before rank lo, or has a spare bit set
+unfoldable pub breach : ℕ → ℕ → Entry → Bool
+breach lo k e = ltb k lo || not (plain_entry e)

@@ -1,7 +1,7 @@
 // Commands by stamp: received in any order, handed out oldest first. What src/command.rs of crystalorb holds, with an array and a count in
 // place of its `BTreeMap`. A buffer has room for 64 entries, and its meaning is the list of the first `len` of its slots; the other slots may
-// hold anything. An operation that takes nothing from a buffer leaves its slots as they are; one that changes it lays it out anew, its unused
-// slots blank. Every function is total: a count over 64 reads as 64. An entry is one word: the stamp of its frame, and the command's handle.
+// hold anything. An operation that takes nothing from a buffer leaves its slots as they are; one that changes it leaves it laid out, its
+// unused slots blank. Every function is total: a count over 64 reads as 64. An entry is one word: the stamp of its frame, and the command's handle.
 #![tactic(auto)]
 
 ghost use Rattle.std.specs.Prelude.{◌≡◌, true, [], ◌∷◌, ◌++◌, not, ◌+◌, ◌≤◌, ◌<◌, length};
@@ -14,7 +14,7 @@ ghost use Rattle.command.specs.Buffer.{held, laid, in_range_of, placed_of, inser
 ghost use Rattle.command.specs.Buffer.{moved_of, drained_of, drained_all_of, command_words, Applies, AppliesAll};
 ghost use Rattle.command.specs.Soundness.{sound_buffer, all_blank, tidy_of, known_of};
 ghost use Rattle.command.specs.Slots.{HasPlace, Placed};
-ghost use Rattle.command.specs.Ranks.{rank_of, rank_within, sifted_of, waits_of, quiet_before, quiet_steps_of, sound_rank, HasRoom};
+ghost use Rattle.command.specs.Ranks.{rank_of, rank_within, sifted_of, waits_of, quiet_before, quiet_steps_of, sound_rank, breach, HasRoom};
 
 use tape::{Side, Tape, command_word};
 use timestamp::Timestamp;
@@ -203,6 +203,7 @@ impl CommandBuffer {
     }
 
     // Takes an entry that is in range, if there is room, after all entries that are not later than it.
+    // No call uses it today: `insert_known` goes from command to command. It stays as a public promise.
     pub fn insert(&mut self, entry: u64) -> Outcome
         ensures { record { outcome = result; buffer = self.new } ≡ inserted_of self.old entry }
     {
@@ -211,7 +212,7 @@ impl CommandBuffer {
     }
 
     // The same, where `tidy` says whether the buffer is known to be tidy, before and after. Where it is not known the buffer is read for it. An entry goes
-    // into a tidy buffer from its end; one that is not is laid out anew.
+    // into a tidy buffer from its end; a buffer that is not tidy is laid out anew.
     pub fn insert_known(&mut self, entry: u64, tidy: &mut bool) -> Outcome
         requires { known_of tidy.old self.old ≡ true }
         ensures inserted { record { outcome = result; buffer = self.new } ≡ inserted_of self.old entry }
@@ -295,20 +296,24 @@ impl CommandBuffer {
         self.drain_all();
     }
 
-    // Whether it is sound: at most 64 entries, in order and in range, every handle within 24 bits, and no spare bit set.
+    // Whether it is sound: at most 64 entries, in order and in range, every handle within 24 bits, and no spare bit set. Entries in order are in range where
+    // the first and the last are. All are read, and breaches counted: to end at the first takes twice the instructions where all is sound.
     pub fn is_sound(&self) -> bool
         ensures { result ≡ sound_buffer self.now }
     {
         if refusals::BUFFER_ROOM < self.len {
             return false;
         }
-        let mut lo = 0;
-        self.held().iter().all(|e| {
+        let mut lo = RANGE_FROM;
+        let mut breaches: u32 = 0;
+        for e in self.held() {
             let k = rank_in(*e, self.timestamp);
-            let sound = entry_sound(k, lo, *e);
+            if breaks_rule(k, lo, *e) {
+                breaches += 1;
+            }
             lo = k;
-            sound
-        })
+        }
+        breaches == 0 && lo < RANGE_END
     }
 
     // Takes an entry, where there is room, after all that are not later than it.
@@ -413,7 +418,16 @@ fn place_from_end(slots: &mut [u64], n: usize, around: Timestamp, entry: u64)
     slots[0] = entry;
 }
 
+// Whether an entry of rank k is before rank lo, or has a spare bit set.
+#[tactic(auto, unfolding(crate::specs::Ranks::breach))]
+fn breaks_rule(k: u32, lo: u32, entry: u64) -> bool
+    ensures { result ≡ breach lo k entry }
+{
+    k < lo || !is_plain(entry)
+}
+
 // Whether an entry of rank k is in range and not before rank lo, and has no spare bit set.
+// No call asks it today: `is_sound` tests the range once for all entries. It stays as a public promise.
 #[tactic(auto, unfolding(crate::specs::Ranks::sound_rank))]
 pub fn entry_sound(k: u32, lo: u32, entry: u64) -> bool
     ensures { result ≡ sound_rank k lo entry }
