@@ -17,7 +17,8 @@ use Rattle.clocksync.specs.declared.Clock.{Clock}
 use Rattle.clocksync.specs.declared.Ticked.{Ticked}
 use Rattle.clocksync.specs.declared.Heard.{Heard}
 use Rattle.mean.specs.Mean.{mean_of}
-use Rattle.clocksync.specs.Clock.{laid_out, held_of, timed_of, ticked_of, offset_after, sampled_of, filled_of, added_of, pushed_of, sample_of, settled_of}
+use Rattle.clocksync.specs.Clock.{laid_out, held_of, timed_of, named_of, ticked_of, offset_after}
+use Rattle.clocksync.specs.Clock.{sampled_of, filled_of, added_of, pushed_of, sample_of, settled_of}
 use Rattle.clocksync.proofs.Lists.{laid_push, take-laid}
 
 -- ---- one sample more
@@ -102,11 +103,11 @@ filled_offset s c xs = go (ltb (length xs) (samples_to_store_of s))
 
 -- neither the timer nor the client's number moves it
 pub offset_apart : (s : Settings) (c : Clock) (t : Float) (i : Option ℕ) (o : Option Float)
-    → (sample_of s (record { offset = c.offset; samples = c.samples; len = c.len; timer = t; id = i }) o).offset ≡ (sample_of s c o).offset
+    → (sample_of s (named_of (timed_of c t) i) o).offset ≡ (sample_of s c o).offset
 unfolding held_of
 offset_apart s c t i None = refl
 offset_apart s c t i (Some x) =
-    filled_offset s (record { offset = c.offset; samples = c.samples; len = c.len; timer = t; id = i }) (held_of c ++ (x ∷ []))
+    filled_offset s (named_of (timed_of c t) i) (held_of c ++ (x ∷ []))
     ∙ sym (filled_offset s c (held_of c ++ (x ∷ [])))
 
 -- the timer moves on
